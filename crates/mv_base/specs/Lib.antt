@@ -1,0 +1,6 @@
+pub mod Padding
+pub mod Number
+pub mod Dotted
+pub mod Prefix
+pub mod Pattern
+pub mod Checksum

@@ -1,5 +1,6 @@
 pub mod Padding
 pub mod Number
+pub mod Address
 pub mod Dotted
 pub mod Prefix
 pub mod Pattern

@@ -1,5 +1,6 @@
 //! Addresses of IPv4 and IPv6.
 ghost use Rattle.std.specs.Prelude.{◌≡◌, option_map};
+ghost use Rattle.mv_base.specs.Address.{same_addr, addr_octets};
 ghost use Rattle.mv_base.specs.Dotted.{octet_of, octet_front_of, dotted_of, front_texts};
 
 use crate::number::{cut_at, read_number};
@@ -9,6 +10,36 @@ use crate::number::{cut_at, read_number};
 pub enum Addr {
     V4([u8; 4]),
     V6([u8; 16]),
+}
+
+impl Addr {
+    /// Whether both are one address.
+    pub fn same(self, other: Addr) -> bool
+        ensures { result ≡ same_addr self other }
+    {
+        match (self, other) {
+            (Addr::V4(own), Addr::V4(others)) => own == others,
+            (Addr::V6(own), Addr::V6(others)) => own == others,
+            _ => false,
+        }
+    }
+
+    /// The octets, in the order of the wire.
+    pub fn octets(&self) -> &[u8]
+        ensures { result.now ≡ addr_octets self.now }
+    {
+        match self {
+            Addr::V4(octets) => octets,
+            Addr::V6(octets) => octets,
+        }
+    }
+
+    /// The address that the dotted text writes, of IPv4.
+    pub fn read_dotted(text: &[u8]) -> Option<Addr>
+        ensures { result ≡ option_map (λ octets. Addr.V4 octets) (dotted_of text.now) }
+    {
+        read_dotted(text).map(Addr::V4)
+    }
 }
 
 /// One octet in decimal.
@@ -36,7 +67,7 @@ fn read_octet_front(text: &[u8]) -> Option<(u8, &[u8])>
 
 /// The four octets of a dotted IPv4 address.
 #[tactic(auto, unfolding(crate::specs::Dotted::dotted_of))]
-pub(crate) fn read_dotted(text: &[u8]) -> Option<[u8; 4]>
+fn read_dotted(text: &[u8]) -> Option<[u8; 4]>
     ensures { result ≡ dotted_of text.now }
 {
     let (a, rest) = read_octet_front(text)?;

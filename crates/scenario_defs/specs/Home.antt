@@ -1,0 +1,43 @@
+-- The home of a source in a VPN: the site with the longest prefix that covers it (RFC 6513 section 5.1).
+use Rattle.std.specs.Prelude.{ℕ, ◌+◌, nat_le, List, [], ◌∷◌, ◌++◌, map, filter, Option, None, Some, option_map, if◌then◌else◌}
+use Rattle.mv_base.specs.declared.ids.VrfId.{VrfId}
+use Rattle.mv_base.specs.declared.ids.SiteId.{SiteId}
+use Rattle.mv_base.specs.declared.addr.Addr.{Addr}
+use Rattle.mv_base.specs.declared.prefix.Prefix.{Prefix}
+use Rattle.mv_base.specs.Prefix.{covers}
+use Rattle.scenario_defs.specs.declared.scenario.Site.{Site}
+use Rattle.scenario_defs.specs.declared.scenario.Scenario.{Scenario}
+use Rattle.scenario_defs.specs.declared.scenario.Route.{Route}
+use Rattle.scenario_defs.specs.Vpn.{is_attached}
+
+-- a site's prefixes, each with the site
+abbrev pub routes_of_site : SiteId → List Prefix → List Route
+routes_of_site site prefixes = map (λ prefix. record { prefix = prefix; site = site }) prefixes
+
+-- the routes of those of the sites, numbered from that one on, that are attached to the VRF's VPN
+abbrev pub routes_from : Scenario → VrfId → ℕ → List Site → List Route
+routes_from scenario vrf number [] = []
+routes_from scenario vrf number (site ∷ more) =
+    (if is_attached scenario vrf (record { 0 = number }) then routes_of_site (record { 0 = number }) site.prefixes else []) ++ routes_from scenario vrf (number + 1) more
+
+-- the routes of a VRF's VPN: each prefix of each attached site
+abbrev pub routes : Scenario → VrfId → List Route
+routes scenario vrf = routes_from scenario vrf 0 scenario.sites
+
+-- the longer of two routes, and the first of two that are equally long
+abbrev pub longer : Option Route → Route → Option Route
+longer None route = Some route
+longer (Some best) route = if nat_le route.prefix.bits best.prefix.bits then Some best else Some route
+
+-- of the best so far and the routes behind it, the longest
+abbrev pub longest_after : Option Route → List Route → Option Route
+longest_after best [] = best
+longest_after best (route ∷ more) = longest_after (longer best route) more
+
+-- the site of the longest of the routes that cover the source
+abbrev pub home_by : List Route → Addr → Option SiteId
+home_by all source = option_map (λ route. route.site) (longest_after None (filter (λ route. covers route.prefix source) all))
+
+-- the site that is home of the source in the VRF's VPN
+abbrev pub home : Scenario → VrfId → Addr → Option SiteId
+home scenario vrf source = home_by (routes scenario vrf) source

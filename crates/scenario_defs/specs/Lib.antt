@@ -1,0 +1,4 @@
+pub mod Vpn
+pub mod Home
+pub mod Rules
+pub mod Text

@@ -1,0 +1,127 @@
+//! The events of a script.
+use crate::Scenario;
+use mv_base::{Addr, Bytes, IfaceId, NodeId, Pattern, Seq, SiteId, VrfId};
+
+/// The protocol of a session.
+#[derive(Clone, Copy, Debug, PartialEq, Eq)]
+pub enum Kind {
+    Bgp,
+    Ldp,
+}
+
+/// What a join or a prune names (RFC 7761 section 4.9.5).
+#[derive(Clone, Copy, Debug, PartialEq, Eq)]
+pub enum JoinEntry {
+    /// (*,G)
+    Star { group: Addr },
+    /// (S,G)
+    Source { source: Addr, group: Addr },
+    /// (S,G,rpt)
+    Rpt { source: Addr, group: Addr },
+}
+
+/// One event of a script.
+#[derive(Debug, Drop)]
+pub enum Event {
+    Tick {
+        count: u64,
+    },
+    Timers {
+        node: NodeId,
+    },
+    Restart {
+        node: NodeId,
+    },
+    Move {
+        kind: Kind,
+        from: NodeId,
+        to: NodeId,
+        count: u32,
+    },
+    Lose {
+        kind: Kind,
+        a: NodeId,
+        b: NodeId,
+    },
+    Notice {
+        kind: Kind,
+        a: NodeId,
+        b: NodeId,
+    },
+    Raise {
+        kind: Kind,
+        a: NodeId,
+        b: NodeId,
+    },
+    Join {
+        iface: IfaceId,
+        entry: JoinEntry,
+    },
+    Prune {
+        iface: IfaceId,
+        entry: JoinEntry,
+    },
+    Pim {
+        iface: IfaceId,
+        bytes: Bytes,
+    },
+    Active {
+        iface: IfaceId,
+        source: Addr,
+        group: Addr,
+    },
+    Idle {
+        iface: IfaceId,
+        source: Addr,
+        group: Addr,
+    },
+    Send {
+        site: SiteId,
+        source: Addr,
+        group: Addr,
+        payload: Bytes,
+    },
+    Packet {
+        site: SiteId,
+        bytes: Bytes,
+    },
+    Select {
+        vrf: VrfId,
+        pattern: Pattern,
+    },
+    Unselect {
+        vrf: VrfId,
+        pattern: Pattern,
+    },
+    Hop {
+        from: NodeId,
+        to: NodeId,
+        place: u32,
+    },
+    DropCopy {
+        from: NodeId,
+        to: NodeId,
+        place: u32,
+    },
+    Heal,
+    Settle,
+    Drain,
+    State,
+}
+
+/// An event, and the number of its line in the text.
+#[derive(Debug, Drop)]
+pub struct Timed {
+    pub line: u32,
+    pub event: Event,
+}
+
+pub type Events = Seq<Timed>;
+
+/// A scenario, the events that follow it, and the number of the line after the last one.
+#[derive(Debug, Drop)]
+pub struct Script {
+    pub scenario: Scenario,
+    pub events: Events,
+    pub end: u32,
+}

@@ -1,0 +1,13 @@
+//! What a scenario and its script say, and the lines of a report, as plain data.
+#![tactic(auto)]
+
+mod event;
+mod report;
+mod scenario;
+
+pub use event::{Event, Events, JoinEntry, Kind, Script, Timed};
+pub use report::{FaultWord, Lines, Refusal, ReportLine};
+pub use scenario::{
+    Iface, Ifaces, Links, NAME_LIMIT, Name, Node, Nodes, Prefixes, Route, Scenario, Site, Sites,
+    Vrf, Vrfs,
+};

@@ -8,6 +8,6 @@ mod scenario;
 pub use event::{Event, Events, JoinEntry, Kind, Script, Timed};
 pub use report::{FaultWord, Lines, Refusal, ReportLine};
 pub use scenario::{
-    Iface, Ifaces, Links, NAME_LIMIT, Name, Node, Nodes, Prefixes, Route, Scenario, Site, Sites,
-    Vrf, Vrfs,
+    Iface, IfaceList, Ifaces, Links, NAME_LIMIT, Name, Node, Nodes, Prefixes, Route, Scenario,
+    Site, Sites, Vrf, Vrfs,
 };

@@ -1,5 +1,5 @@
 //! The things that a scenario declares.
-use mv_base::{Addr, Inline, Link, NodeId, Prefix, Rd, Rule, Seq, SiteId, VrfId};
+use mv_base::{Addr, IfaceId, Inline, Link, NodeId, Prefix, Rd, Rule, Seq, SiteId, VrfId};
 use route_targets::Targets;
 
 /// The most octets of a name.
@@ -61,6 +61,8 @@ pub type Prefixes = Seq<Prefix>;
 pub type Sites = Seq<Site>;
 
 pub type Ifaces = Seq<Iface>;
+
+pub type IfaceList = Seq<IfaceId>;
 
 /// A provider's network and its customers. Things are numbered from 0 in order of declaration.
 #[derive(Debug, Drop)]

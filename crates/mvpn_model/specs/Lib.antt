@@ -1,0 +1,5 @@
+pub mod Past
+pub mod Packet
+pub mod Report
+pub mod Safe
+pub mod Once

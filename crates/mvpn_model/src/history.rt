@@ -1,6 +1,16 @@
-//! Histories.
-use mv_base::Seq;
-use scenario_defs::Script;
+//! Histories of events, and what they mean.
+ghost use Rattle.std.specs.Prelude.{◌≡◌, ◌<◌, ◌≤◌, ◌&&◌, ◌==◌, length, IfOk};
+ghost use Rattle.std.specs.List.{list_any};
+ghost use Rattle.scenario_defs.specs.Rules.{Rules};
+ghost use Rattle.scenario_defs.specs.Home.{home};
+ghost use Rattle.scenario_defs.specs.Vpn.{ifaces_where};
+ghost use Rattle.mvpn_model.specs.Past.{past_of, is_accepted, is_join, asks, receives, receivers, is_home};
+
+use crate::routing::longest_route;
+use crate::vpn::{same_vpn, vrf_of_site};
+use mv_base::{Addr, IfaceId, NoMemory, Seq, SiteId, VrfId};
+use scenario_defs::{Event, Iface, IfaceList, JoinEntry, Script, Timed};
+use std::alloc::Global;
 
 /// Numbers of lines.
 pub type LineNumbers = Seq<u32>;
@@ -12,4 +22,148 @@ pub struct History<'a> {
     /// How many events there were so far.
     pub upto: u32,
     pub refused: &'a LineNumbers,
+}
+
+fn has_line(lines: &[u32], line: u32) -> bool
+    ensures { result ≡ list_any (λ other. other == line) lines.now }
+{
+    lines.iter().any(|other| *other == line)
+}
+
+/// Whether the event's line is none of the refused ones.
+fn is_accepted(refused: &[u32], timed: &Timed) -> bool
+    ensures { result ≡ is_accepted refused.now timed.now }
+{
+    !has_line(refused, timed.line)
+}
+
+/// Whether the event joins (S,G) at the interface.
+fn is_join(iface: IfaceId, source: Addr, group: Addr, event: &Event) -> bool
+    ensures { result ≡ is_join iface source group event.now }
+{
+    match event {
+        Event::Join {
+            iface: joined,
+            entry: JoinEntry::Source {
+                source: joined_source,
+                group: joined_group,
+            },
+        } => joined.0 == iface.0 && joined_source.same(source) && joined_group.same(group),
+        _ => false,
+    }
+}
+
+/// Whether the event was accepted and joins (S,G) at the interface.
+fn joins(refused: &[u32], timed: &Timed, iface: IfaceId, source: Addr, group: Addr) -> bool
+    ensures { result ≡ (is_accepted refused.now timed.now && is_join iface source group timed.now.event) }
+{
+    is_accepted(refused, timed) && is_join(iface, source, group, &timed.event)
+}
+
+/// The site that is home of the source in the VRF's VPN: that of the longest prefix that covers it, of the prefixes of
+/// all sites attached to the VPN. `None` exactly where no prefix of an attached site covers the source.
+pub fn home(history: &History<'_>, vrf: VrfId, source: Addr) -> Option<SiteId>
+    requires { Rules history.now.script.now.scenario }
+    ensures { result ≡ home history.now.script.now.scenario vrf source }
+{
+    longest_route(&history.script.scenario, vrf, source).map(|route| route.site)
+}
+
+/// Whether the interface asks for (S,G). It takes no memory yet.
+pub fn asks(
+    _alloc: Global,
+    history: &History<'_>,
+    iface: IfaceId,
+    source: Addr,
+    group: Addr,
+) -> Result<bool, NoMemory>
+    requires { history.now.upto ≤ length history.now.script.now.events }
+    ensures { IfOk result (λ answer. answer ≡ asks (past_of history.now) iface source group) }
+{
+    Ok(has_asked(history, iface, source, group))
+}
+
+fn has_asked(history: &History<'_>, iface: IfaceId, source: Addr, group: Addr) -> bool
+    requires { history.now.upto ≤ length history.now.script.now.events }
+    ensures { result ≡ asks (past_of history.now) iface source group }
+{
+    let events = &history.script.events.as_slice()[..history.upto as usize];
+    let refused = history.refused.as_slice();
+    events
+        .iter()
+        .any(|timed| joins(refused, timed, iface, source, group))
+}
+
+/// Whether the site is the home of the source in the VRF's VPN.
+fn is_home(history: &History<'_>, vrf: VrfId, source: Addr, site: SiteId) -> bool
+    requires { Rules history.now.script.now.scenario }
+    ensures { result ≡ is_home history.now.script.now.scenario vrf source site }
+{
+    match home(history, vrf, source) {
+        Some(found) => found.0 == site.0,
+        None => false,
+    }
+}
+
+/// Whether an interface is of the VRF's VPN, belongs to another site, and asks for (S,G).
+fn receives(
+    history: &History<'_>,
+    vrf: VrfId,
+    site: SiteId,
+    source: Addr,
+    group: Addr,
+    number: IfaceId,
+    iface: &Iface,
+) -> bool
+    requires { history.now.upto ≤ length history.now.script.now.events }
+    ensures { result ≡ receives (past_of history.now) vrf site source group number iface.now }
+{
+    same_vpn(&history.script.scenario, vrf, iface.vrf)
+        && iface.site.0 != site.0
+        && has_asked(history, number, source, group)
+}
+
+/// The receivers of (S,G) from the site: where the site is attached to a VPN and is the home of S there, all interfaces
+/// of that VPN that belong to another site and ask for (S,G), in order; otherwise none.
+pub fn receivers(
+    alloc: Global,
+    history: &History<'_>,
+    site: SiteId,
+    source: Addr,
+    group: Addr,
+) -> Result<IfaceList, NoMemory>
+    requires rules { Rules history.now.script.now.scenario }
+    requires upto { history.now.upto ≤ length history.now.script.now.events }
+    ensures { IfOk result (λ ifaces. ifaces ≡ receivers (past_of history.now) site source group) }
+{
+    match vrf_of_site(&history.script.scenario, site) {
+        Some(vrf) if is_home(history, vrf, source, site) => {
+            receiving(alloc, history, vrf, site, source, group)
+        }
+        _ => Ok(Seq::new(alloc)),
+    }
+}
+
+/// The interfaces that receive (S,G) from the site in the VRF's VPN, in order.
+fn receiving(
+    alloc: Global,
+    history: &History<'_>,
+    vrf: VrfId,
+    site: SiteId,
+    source: Addr,
+    group: Addr,
+) -> Result<IfaceList, NoMemory>
+    requires rules { Rules history.now.script.now.scenario }
+    requires upto { history.now.upto ≤ length history.now.script.now.events }
+    ensures { IfOk result (λ ifaces. ifaces ≡ ifaces_where (receives (past_of history.now) vrf site source group) 0 history.now.script.now.scenario.ifaces) }
+{
+    let mut found = Seq::new(alloc);
+    let ifaces = history.script.scenario.ifaces.as_slice();
+    for (number, iface) in ifaces.iter().enumerate() {
+        let id = IfaceId(number as u16);
+        if receives(history, vrf, site, source, group, id, iface) {
+            found.push(id)?;
+        }
+    }
+    Ok(found)
 }

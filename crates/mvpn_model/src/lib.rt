@@ -1,7 +1,11 @@
 //! Plain definitions of what a history of events means: the home of a source, which interfaces ask for a flow, and who
-//! receives it. The functions compute these slowly.
+//! receives it. The functions compute these slowly, as the definitions say them.
 #![tactic(auto)]
 
 mod history;
+mod routing;
+mod vpn;
 
-pub use history::{History, LineNumbers};
+pub use history::{History, LineNumbers, asks, home, receivers};
+pub use routing::{home_among, routes};
+pub use vpn::{is_attached, same_vpn, vrf_of_site};

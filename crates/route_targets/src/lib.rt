@@ -5,4 +5,4 @@ mod communities;
 mod targets;
 
 pub use communities::{ExtComm, Target};
-pub use targets::{TARGET_LIMIT, Targets, TargetsFault, same, shares};
+pub use targets::{TARGET_LIMIT, Targets, TargetsFault, same, same_members, shares};

@@ -75,14 +75,28 @@ impl Targets {
         ensures value { result ≡ has self.now target }
         ensures member { IsTrue result ↔ Contains self.now target }
     {
-        self.as_slice().iter().any(|own| target.same(*own))
+        is_in(self.as_slice(), target)
     }
 }
 
-fn all_in(a: &Targets, b: &Targets) -> bool
+fn is_in(targets: &[Target], target: Target) -> bool
+    ensures value { result ≡ has targets.now target }
+    ensures member { IsTrue result ↔ Contains targets.now target }
+{
+    targets.iter().any(|own| target.same(*own))
+}
+
+fn all_in(a: &[Target], b: &[Target]) -> bool
     ensures { result ≡ list_all (has b.now) a.now }
 {
-    a.as_slice().iter().all(|target| b.has(*target))
+    a.iter().all(|target| is_in(b, *target))
+}
+
+/// Whether the lists have the same members.
+pub fn same_members(a: &[Target], b: &[Target]) -> bool
+    ensures { result ≡ same a.now b.now }
+{
+    all_in(a, b) && all_in(b, a)
 }
 
 /// Whether the sets share a member.
@@ -97,5 +111,5 @@ pub fn shares(a: &Targets, b: &Targets) -> bool
 pub fn same(a: &Targets, b: &Targets) -> bool
     ensures { result ≡ same a.now b.now }
 {
-    all_in(a, b) && all_in(b, a)
+    same_members(a.as_slice(), b.as_slice())
 }

@@ -1,0 +1,7 @@
+use Rattle.scenario_defs.specs.Home.{routes_of_site}
+use Rattle.mvpn_model.proofs.HomeLemmas.{longest_step}
+use Rattle.mvpn_model.proofs.routing.longest_route.Goals as goal
+
+pub loop-number-preserved : goal.loop-number-preserved
+loop-number-preserved c =
+    rw c.longest_of_site-longest.ensures (longest_step _ c.args.scenario.now c.args.vrf c.as_slice-sites.result.now c.loop-number.number c.index-sites-number.result (routes_of_site (record { 0 = c.loop-number.number }) c.attached_prefixes-prefixes.result.now) _ _ c.loop-number-test.true (rw (← c.index-sites-number.is) c.attached_prefixes-prefixes.ensures) c.loop-number.invariant)

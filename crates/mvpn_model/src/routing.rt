@@ -1,0 +1,121 @@
+//! The home of a source.
+ghost use Rattle.std.specs.Prelude.{◌≡◌, ◌≤◌, ◌^◌, ◌++◌, [], filter, length, IfOk, OnOk, if◌then◌else◌};
+ghost use Rattle.mv_base.specs.Prefix.{covers};
+ghost use Rattle.scenario_defs.specs.Vpn.{is_attached};
+ghost use Rattle.scenario_defs.specs.Home.{routes, routes_of_site, longer, longest_after, home_by};
+
+use crate::vpn::is_attached;
+use mv_base::{Addr, NoMemory, Prefix, Seq, SiteId, VrfId};
+use scenario_defs::{Route, Scenario, Site};
+use std::alloc::Global;
+
+/// The longer of two routes, and the first of two that are equally long.
+fn longer(best: Option<Route>, route: Route) -> Option<Route>
+    ensures { result ≡ longer best route }
+{
+    match best {
+        Some(kept) if route.prefix.bits <= kept.prefix.bits => Some(kept),
+        _ => Some(route),
+    }
+}
+
+/// Of the best so far and those of the routes that cover the source, the longest.
+fn longest_among(best: Option<Route>, routes: &[Route], source: Addr) -> Option<Route>
+    ensures { result ≡ longest_after best (filter (λ route. covers route.prefix source) routes.now) }
+{
+    let mut longest = best;
+    for route in routes {
+        if route.prefix.covers(source) {
+            longest = longer(longest, *route);
+        }
+    }
+    longest
+}
+
+/// Of the best so far and those of a site's prefixes that cover the source, the longest.
+fn longest_of_site(
+    best: Option<Route>,
+    site: SiteId,
+    prefixes: &[Prefix],
+    source: Addr,
+) -> Option<Route>
+    ensures { result ≡ longest_after best (filter (λ route. covers route.prefix source) (routes_of_site site prefixes.now)) }
+{
+    let mut longest = best;
+    for prefix in prefixes {
+        if prefix.covers(source) {
+            longest = longer(
+                longest,
+                Route {
+                    prefix: *prefix,
+                    site,
+                },
+            );
+        }
+    }
+    longest
+}
+
+/// The prefixes of the site where it is attached to the VRF's VPN, and none elsewhere.
+fn attached_prefixes<'a>(
+    scenario: &Scenario,
+    vrf: VrfId,
+    number: SiteId,
+    site: &'a Site,
+) -> &'a [Prefix]
+    ensures { routes_of_site number result.now ≡ (if is_attached scenario.now vrf number then routes_of_site number site.now.prefixes else []) }
+{
+    if is_attached(scenario, vrf, number) {
+        site.prefixes.as_slice()
+    } else {
+        &[]
+    }
+}
+
+/// The site of the longest of the routes that cover the source (RFC 6513 section 5.1).
+pub fn home_among(routes: &[Route], source: Addr) -> Option<SiteId>
+    ensures { result ≡ home_by routes.now source }
+{
+    longest_among(None, routes, source).map(|route| route.site)
+}
+
+/// The longest route to the source in the VRF's VPN.
+pub(crate) fn longest_route(scenario: &Scenario, vrf: VrfId, source: Addr) -> Option<Route>
+    requires { length scenario.now.sites ≤ 2 ^ 16 }
+    ensures { result ≡ longest_after None (filter (λ route. covers route.prefix source) (routes scenario.now vrf)) }
+{
+    let mut longest = None;
+    let sites = scenario.sites.as_slice();
+    for (number, site) in sites.iter().enumerate() {
+        let prefixes = attached_prefixes(scenario, vrf, SiteId(number as u16), site);
+        longest = longest_of_site(longest, SiteId(number as u16), prefixes, source);
+    }
+    longest
+}
+
+/// Adds the routes of a site.
+fn add_routes(routes: &mut Seq<Route>, site: SiteId, prefixes: &[Prefix]) -> Result<(), NoMemory>
+    ensures { OnOk result (routes.new ≡ routes.old ++ routes_of_site site prefixes.now) }
+{
+    for prefix in prefixes {
+        routes.push(Route {
+            prefix: *prefix,
+            site,
+        })?;
+    }
+    Ok(())
+}
+
+/// The routes of the VRF's VPN: each prefix of each attached site, in order of sites.
+pub fn routes(alloc: Global, scenario: &Scenario, vrf: VrfId) -> Result<Seq<Route>, NoMemory>
+    requires { length scenario.now.sites ≤ 2 ^ 16 }
+    ensures { IfOk result (λ all. all ≡ routes scenario.now vrf) }
+{
+    let mut all = Seq::new(alloc);
+    let sites = scenario.sites.as_slice();
+    for (number, site) in sites.iter().enumerate() {
+        let prefixes = attached_prefixes(scenario, vrf, SiteId(number as u16), site);
+        add_routes(&mut all, SiteId(number as u16), prefixes)?;
+    }
+    Ok(all)
+}

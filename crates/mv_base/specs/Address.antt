@@ -1,6 +1,9 @@
 -- Addresses: when two are one, and their octets.
-use Rattle.std.specs.Prelude.{ℕ, Bool, false, nat_eq, List}
-use Rattle.std.specs.Cmp.Lexicographic.{pointwise}
+use Rattle.std.specs.Prelude.{◌≡◌, ℕ, Bool, true, false, nat_eq, List, refl}
+use Rattle.std.specs.Hash as fed
+use Rattle.std.specs.Cmp.{IsEquivalence}
+use Rattle.std.specs.Cmp.Lexicographic.{pointwise, same_text, nat_list_eq_equiv}
+use Rattle.std.proofs.Common.{ap, sym}
 use Rattle.mv_base.specs.declared.addr.Addr.{Addr}
 use Rattle.mv_base.specs.declared.addr.Addr.TheVariants.{V4, V6}
 
@@ -15,3 +18,36 @@ same_addr (V6 a) (V4 b) = false
 abbrev pub addr_octets : Addr → List ℕ
 addr_octets (V4 octets) = octets
 addr_octets (V6 octets) = octets
+
+-- Being one address is an equivalence.
+pub same_addr_equiv : IsEquivalence same_addr
+same_addr_equiv = record { refl = same; symm = back; congr = alike }
+  where
+    same : (a : Addr) → same_addr a a ≡ true
+    same (V4 a) = nat_list_eq_equiv.refl a
+    same (V6 a) = nat_list_eq_equiv.refl a
+
+    back : (a b : Addr) → same_addr a b ≡ same_addr b a
+    back (V4 a) (V4 b) = nat_list_eq_equiv.symm a b
+    back (V6 a) (V6 b) = nat_list_eq_equiv.symm a b
+    back (V4 a) (V6 b) = refl
+    back (V6 a) (V4 b) = refl
+
+    alike : (a b c : Addr) → same_addr a b ≡ true → same_addr a c ≡ same_addr b c
+    alike (V4 a) (V4 b) (V4 c) h = nat_list_eq_equiv.congr a b c h
+    alike (V4 a) (V4 b) (V6 c) h = refl
+    alike (V6 a) (V6 b) (V6 c) h = nat_list_eq_equiv.congr a b c h
+    alike (V6 a) (V6 b) (V4 c) h = refl
+    alike (V4 a) (V6 b) c h = absurd cc
+    alike (V6 a) (V4 b) c h = absurd cc
+
+-- Addresses that are one are equal.
+pub same_addr_equal : (a b : Addr) → same_addr a b ≡ true → a ≡ b
+same_addr_equal (V4 a) (V4 b) h = ap (λ (octets : List ℕ). V4 octets) (same_text a b (sym h))
+same_addr_equal (V6 a) (V6 b) h = ap (λ (octets : List ℕ). V6 octets) (same_text a b (sym h))
+same_addr_equal (V4 a) (V6 b) h = absurd cc
+same_addr_equal (V6 a) (V4 b) h = absurd cc
+
+-- Addresses that are one are hashed alike.
+pub addr_alike : (a b : Addr) → same_addr a b ≡ true → fed.slice fed.u8 (addr_octets a) ≡ fed.slice fed.u8 (addr_octets b)
+addr_alike a b h = ap (λ (c : Addr). fed.slice fed.u8 (addr_octets c)) (same_addr_equal a b h)

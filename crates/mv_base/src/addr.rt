@@ -4,12 +4,46 @@ ghost use Rattle.mv_base.specs.Address.{same_addr, addr_octets};
 ghost use Rattle.mv_base.specs.Dotted.{octet_of, octet_front_of, dotted_of, front_texts};
 
 use crate::number::{cut_at, read_number};
+use std::hash::{Hash, Hasher};
 
 /// An address, its octets in the order of the wire.
-#[derive(Clone, Copy, Debug, PartialEq, Eq, Hash)]
+#[derive(Clone, Copy, Debug)]
 pub enum Addr {
     V4([u8; 4]),
     V6([u8; 16]),
+}
+
+impl PartialEq for Addr {
+    ghost use Rattle.std.specs.Cmp.{partial_equiv_from_equiv};
+    ghost use Rattle.mv_base.specs.Address.{same_addr, same_addr_equiv};
+
+    ghost eq = { same_addr };
+
+    ghost laws = { partial_equiv_from_equiv same_addr_equiv };
+
+    fn eq(&self, other: &Addr) -> bool {
+        self.same(*other)
+    }
+}
+
+impl Eq for Addr {
+    ghost use Rattle.mv_base.specs.Address.{same_addr_equiv};
+
+    ghost laws = { same_addr_equiv };
+}
+
+impl Hash for Addr {
+    ghost use Rattle.std.specs.Hash as fed;
+    ghost use Rattle.mv_base.specs.Address.{addr_octets, addr_alike};
+
+    ghost hash_input = { λ a. fed.slice fed.u8 (addr_octets a) };
+
+    ghost respects_eq = { addr_alike };
+
+    fn hash<H: Hasher>(&self, state: &mut H) {
+        let octets: &[u8] = self.octets();
+        octets.hash(state);
+    }
 }
 
 impl Addr {

@@ -1,0 +1,10 @@
+//! Why a world halts.
+use mv_base::NodeId;
+
+/// Why a world goes no further.
+#[derive(Clone, Copy, Debug, PartialEq, Eq)]
+pub enum Halt {
+    /// The node has no free label.
+    NoLabel(NodeId),
+    NoMemory,
+}

@@ -1,1 +1,4 @@
 pub mod NumberLemmas
+pub mod CutLemmas
+pub mod DottedLemmas
+pub mod AddrTextLemmas

@@ -1,10 +1,9 @@
 -- A number in text is what `decimal` writes.
-use Rattle.std.proofs.Common.{◌≡◌, ℕ, ◌+◌, ◌*◌, ◌-◌, ◌^◌, ◌<◌, ◌≤◌, Bool, List, [], ◌∷◌, length, true, false, refl, sym, ap, subst, ◌∙◌, rules, arith, eqb, leb, get_or, Some, suc}
-use Rattle.std.specs.Prelude.{Option, decimal, ◌&&◌, ◌==◌, not, nat_le}
+use Rattle.std.proofs.Common.{◌≡◌, ℕ, ◌^◌, ◌<◌, ◌≤◌, Bool, List, [], ◌∷◌, length, true, false, refl, sym, ap, subst, ◌∙◌, rules, arith, get_or, Some}
+use Rattle.std.specs.Prelude.{decimal, ◌&&◌, ◌==◌, not, nat_le}
 use Rattle.std.specs.List.{list_all}
 use Rattle.std.specs.Char.{is_ascii_digit}
-use Rattle.std.proofs.Math.Nat.{pow-suc}
-use Rattle.std.proofs.lemmas.Bool.{leb-true, le-leb, eqb-false}
+use Rattle.std.proofs.lemmas.Bool.{leb-true, le-leb}
 use Rattle.std.proofs.lemmas.Str.Parse.{IsNumeralModel, numerals_by_fold, digits_value_short}
 use Rattle.std.proofs.lemmas.Fmt.{decimal-digits_value, digits_decimal, digits_value-decimal, decimal_nonempty, length-decimal-le, length-decimal-le_succ, first_decimal}
 use Rattle.mv_base.specs.Number.{value_after, is_number, number_of, only_if}

@@ -3,6 +3,7 @@
 #![tactic(auto)]
 
 mod addr;
+mod addr_text;
 mod checksum;
 mod core_link;
 mod ids;

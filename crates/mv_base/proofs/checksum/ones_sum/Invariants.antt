@@ -1,4 +1,4 @@
-use Rattle.std.proofs.Common.{◌≡◌, ◌<◌, ◌^◌, length, fold}
+use Rattle.std.proofs.Common.{◌≡◌, length, fold}
 use Rattle.mv_base.specs.Checksum.{ones_add, words}
 use Rattle.mv_base.proofs.checksum.ones_sum.Given as goal
 

@@ -1,5 +1,5 @@
 use Rattle.std.proofs.Common.{◌≡◌, true, sym, ◌∙◌, ap, Some}
-use Rattle.mv_base.specs.Number.{is_number, value_after}
+use Rattle.mv_base.specs.Number.{is_number}
 use Rattle.mv_base.proofs.NumberLemmas.{number_written, number_short, number_only, written_number}
 use Rattle.mv_base.proofs.number.read_number.Goals as goal
 

@@ -1,4 +1,4 @@
-use Rattle.std.proofs.Common.{◌≡◌, ℕ, ◌++◌, List, length, drop, replicate, arith, length-append, refl}
+use Rattle.std.proofs.Common.{◌≡◌, length, drop, replicate, arith, length-append, refl}
 use Rattle.std.proofs.lemmas.List.{drop_at, drop-replicate, length-replicate}
 use Rattle.mv_base.proofs.inline.Inline.of.Goals as goal
 

@@ -101,7 +101,7 @@ fn read_octet_front(text: &[u8]) -> Option<(u8, &[u8])>
 
 /// The four octets of a dotted IPv4 address.
 #[tactic(auto, unfolding(crate::specs::Dotted::dotted_of))]
-fn read_dotted(text: &[u8]) -> Option<[u8; 4]>
+pub(crate) fn read_dotted(text: &[u8]) -> Option<[u8; 4]>
     ensures { result ≡ dotted_of text.now }
 {
     let (a, rest) = read_octet_front(text)?;

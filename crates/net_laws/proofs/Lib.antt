@@ -1,3 +1,5 @@
 pub mod ListLemmas
 pub mod RunLemmas
 pub mod VpnLemmas
+pub mod FrameLemmas
+pub mod AcceptedLemmas

@@ -3,3 +3,4 @@ pub mod RunLemmas
 pub mod VpnLemmas
 pub mod FrameLemmas
 pub mod AcceptedLemmas
+pub mod JoinedLemmas

@@ -4,3 +4,4 @@ pub mod VpnLemmas
 pub mod FrameLemmas
 pub mod AcceptedLemmas
 pub mod JoinedLemmas
+pub mod SafeLemmas

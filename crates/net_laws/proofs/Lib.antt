@@ -5,3 +5,5 @@ pub mod FrameLemmas
 pub mod AcceptedLemmas
 pub mod JoinedLemmas
 pub mod SafeLemmas
+pub mod OutLemmas
+pub mod OnceLemmas

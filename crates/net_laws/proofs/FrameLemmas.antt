@@ -1,8 +1,8 @@
 -- What an event leaves as it is, and the lines and the text of its acts.
-use Rattle.std.proofs.Common.{◌≡◌, ℕ, ◌+◌, ◌<◌, ◌≤◌, List, [], ◌∷◌, ◌++◌, map, true, false, Bool, cond, zero, suc, length, refl, sym, ap, inl, inr, ◌∙◌, arith}
-use Rattle.std.specs.Prelude.{Option, None, Some, slice_get}
+use Rattle.std.proofs.Common.{◌≡◌, ℕ, ◌+◌, ◌<◌, ◌≤◌, List, [], ◌∷◌, ◌++◌, map, true, Bool, suc, length, refl, ap, ◌∙◌, arith}
+use Rattle.std.specs.Prelude.{Some, slice_get}
 use Rattle.std.specs.List.{flat_map, All, AllByRecursion}
-use Rattle.std.proofs.lemmas.Bool.{cases_Bool, cond_both}
+use Rattle.std.proofs.lemmas.Bool.{cond_both}
 use Rattle.std.proofs.lemmas.List.Concat.{flat_map-append}
 use Rattle.std.proofs.lemmas.List.Elements.{All-from_recursion}
 use Rattle.std.proofs.lemmas.Option.{slice_get_within}
@@ -23,7 +23,7 @@ use Rattle.scenario_defs.specs.Vpn.{ifaces_where, entered}
 use Rattle.mvpn_model.specs.Past.{is_home}
 use Rattle.mvpn_model.specs.Packet.{packet}
 use Rattle.mvpn_model.specs.Report.{Entry, lines_of, report_text}
-use Rattle.net_defs.specs.Network.{Network, acts_of, after, is_full, with_joined, leaves_at, leaves, entering, state_line}
+use Rattle.net_defs.specs.Network.{Network, acts_of, after, is_full, with_joined, leaves_at, leaves, entering}
 use Rattle.net_defs.specs.Run.{entries_of}
 use Rattle.net_laws.proofs.ListLemmas.{all-append}
 
@@ -51,38 +51,45 @@ pub lines_of-append : (report more : List Entry) → lines_of (report ++ more) �
 lines_of-append report more = flat_map-append (λ (entry : Entry). entry.lines) report more
 
 -- the text of a report with the acts of one more event
-pub report_text-snoc : (scenario : Scenario) (report : List Entry) (number : ℕ) (acts : List (List ReportLine)) → report_text scenario (report ++ entries_of number acts) ≡ report_text scenario report ++ flat_map (line_text scenario) (flat_map (λ act. act) acts)
+pub report_text-snoc : (scenario : Scenario) (report : List Entry) (number : ℕ) (acts : List (List ReportLine)) →
+    report_text scenario (report ++ entries_of number acts) ≡ report_text scenario report ++ flat_map (line_text scenario) (flat_map (λ act. act) acts)
 report_text-snoc scenario report number acts =
     ap (flat_map (line_text scenario)) (lines_of-append report (entries_of number acts) ∙ ap (λ l. lines_of report ++ l) (lines_of-entries number acts))
     ∙ flat_map-append (line_text scenario) (lines_of report) (flat_map (λ act. act) acts)
 
 -- Each interface that passes the test has a property that each passing interface of the list has.
-pub ifaces_where-all : (P : IfaceId → Type 0) (test : IfaceId → Iface → Bool) (number : ℕ) (ifaces : List Iface) → ((i j : ℕ) (iface : Iface) → j ≡ number + i → slice_get ifaces i ≡ Some iface → test (record { 0 = j }) iface ≡ true → P (record { 0 = j })) → AllByRecursion P (ifaces_where test number ifaces)
+pub ifaces_where-all : (P : IfaceId → Type 0) (test : IfaceId → Iface → Bool) (number : ℕ) (ifaces : List Iface) →
+    ((i j : ℕ) (iface : Iface) → j ≡ number + i → slice_get ifaces i ≡ Some iface → test (record { 0 = j }) iface ≡ true → P (record { 0 = j })) →
+    AllByRecursion P (ifaces_where test number ifaces)
 ifaces_where-all P test number [] h = tt
 ifaces_where-all P test number (iface ∷ more) h =
     let rest = ifaces_where-all P test (number + 1) more (λ i j found e d t. h (suc i) j found (omega (arith, e)) d t) in
     cond_both (test (record { 0 = number }) iface) (record { 0 = number } ∷ ifaces_where test (number + 1) more) (ifaces_where test (number + 1) more) (AllByRecursion P)
-      (λ t. (h 0 number iface (omega arith) refl t, rest))
-      (λ f. rest)
+    (λ t. (h 0 number iface (omega arith) refl t, rest))
+    (λ f. rest)
 
 -- What holds of each interface holds of each line that names it.
-pub outs-all : (P : ReportLine → Type 0) (number : ℕ) (octets : List ℕ) (ifaces : List IfaceId) → AllByRecursion (λ iface. P (lines.Out number iface octets)) ifaces → AllByRecursion P (map (λ iface. lines.Out number iface octets) ifaces)
+pub outs-all : (P : ReportLine → Type 0) (number : ℕ) (octets : List ℕ) (ifaces : List IfaceId) →
+    AllByRecursion (λ iface. P (lines.Out number iface octets)) ifaces → AllByRecursion P (map (λ iface. lines.Out number iface octets) ifaces)
 outs-all P number octets [] h = tt
 outs-all P number octets (iface ∷ more) h = (h.0, outs-all P number octets more h.1)
 
 -- The lines of several acts each have a property that the lines of each act have.
-pub acts-all : (P : ReportLine → Type 0) (act : VrfId → List ReportLine) (vrfs : List VrfId) → ((vrf : VrfId) → AllByRecursion P (act vrf)) → AllByRecursion P (flat_map (λ l. l) (map act vrfs))
+pub acts-all : (P : ReportLine → Type 0) (act : VrfId → List ReportLine) (vrfs : List VrfId) → ((vrf : VrfId) → AllByRecursion P (act vrf)) →
+    AllByRecursion P (flat_map (λ l. l) (map act vrfs))
 acts-all P act [] h = tt
 acts-all P act (vrf ∷ more) h = all-append P (act vrf) (flat_map (λ l. l) (map act more)) (h vrf) (acts-all P act more h)
 
 -- Each line of a datagram's entering at a VRF has a property that each out line of the datagram has.
-pub entering-all : (P : ReportLine → Type 0) (network : Network) (site : SiteId) (source group : Addr) (payload : List ℕ) (vrf : VrfId) → ((iface : IfaceId) → iface.0 < length network.scenario.ifaces → P (lines.Out (network.accepted + 1) iface (packet source group payload))) → AllByRecursion P (entering network site source group payload vrf)
+pub entering-all : (P : ReportLine → Type 0) (network : Network) (site : SiteId) (source group : Addr) (payload : List ℕ) (vrf : VrfId) →
+    ((iface : IfaceId) → iface.0 < length network.scenario.ifaces → P (lines.Out (network.accepted + 1) iface (packet source group payload))) →
+    AllByRecursion P (entering network site source group payload vrf)
 entering-all P network site source group payload vrf h =
     let Q : IfaceId → Type 0 = λ iface. P (lines.Out (network.accepted + 1) iface (packet source group payload)) in
     outs-all P (network.accepted + 1) (packet source group payload) (leaves network site source group vrf)
-      (cond_both (is_home network.scenario vrf source site) (ifaces_where (leaves_at network vrf site source group) 0 network.scenario.ifaces) [] (AllByRecursion Q)
-        (λ t. ifaces_where-all Q (leaves_at network vrf site source group) 0 network.scenario.ifaces (λ i j iface e d t. h (record { 0 = j }) (omega (arith, e, slice_get_within network.scenario.ifaces i iface d))))
-        (λ f. tt))
+    (cond_both (is_home network.scenario vrf source site) (ifaces_where (leaves_at network vrf site source group) 0 network.scenario.ifaces) [] (AllByRecursion Q)
+    (λ t. ifaces_where-all Q (leaves_at network vrf site source group) 0 network.scenario.ifaces (λ i j iface e d t. h (record { 0 = j }) (omega (arith, e, slice_get_within network.scenario.ifaces i iface d))))
+    (λ f. tt))
 
 -- The lines of an event name things of the scenario, one after another.
 pub acts-named_each : (network : Network) (line : ℕ) (event : Event) → AllByRecursion (IsLineOf network.scenario) (flat_map (λ act. act) (acts_of network line event))

@@ -1,7 +1,7 @@
 -- Facts about lists that the laws share.
-use Rattle.std.proofs.Common.{◌≡◌, ℕ, ◌+◌, ◌<◌, ◌≤◌, List, [], ◌∷◌, ◌++◌, true, false, Bool, cond, zero, suc, length, refl, sym, ap, inl, inr, ◌∙◌, arith}
-use Rattle.std.specs.Prelude.{nat_eq, ◌==◌, ◌&&◌, ◌||◌, Option, None, Some, slice_get, find}
-use Rattle.std.specs.List.{flat_map, list_any, list_all, AllByRecursion}
+use Rattle.std.proofs.Common.{◌≡◌, ℕ, List, [], ◌∷◌, ◌++◌, true, false, Bool, zero, suc, refl, sym, inl, inr}
+use Rattle.std.specs.Prelude.{nat_eq, ◌&&◌, None, Some, slice_get, find}
+use Rattle.std.specs.List.{list_any, list_all, AllByRecursion}
 use Rattle.std.specs.Cmp.Lexicographic.{pointwise, other_text}
 use Rattle.std.proofs.lemmas.Bool.{cases_Bool, or_cases, or_left, or_right, or_from, and_from, false_from_ne_true, true_from_ne_false}
 
@@ -21,11 +21,11 @@ pub record Passes {X : Type 0} (test : X → Bool) (xs : List X) : Type 0 where
 pub passes-from_any : {X : Type 0} (test : X → Bool) (xs : List X) → list_any test xs ≡ true → Passes test xs
 passes-from_any test [] h = absurd cc
 passes-from_any test (x ∷ xs) h = elim (or_cases (test x) (list_any test xs) h) [
-    inl here ↦ record { place = 0; value = x; at = refl; passes = here }
+  | inl here ↦ record { place = 0; value = x; at = refl; passes = here }
   | inr there ↦
       let p = passes-from_any test xs there in
       record { place = suc p.place; value = p.value; at = p.at; passes = p.passes }
-  ]
+]
 
 -- The test of any says so where an element passes.
 pub any-from_at : {X : Type 0} (test : X → Bool) (xs : List X) (place : ℕ) (value : X) → slice_get xs place ≡ Some value → test value ≡ true → list_any test xs ≡ true
@@ -34,10 +34,11 @@ any-from_at test (x ∷ xs) zero value e h = let same : x ≡ value = cc in or_l
 any-from_at test (x ∷ xs) (suc place) value e h = or_right (test x) (list_any test xs) (any-from_at test xs place value e h)
 
 -- The first element that passes stands somewhere in the list.
-pub passes-from_find : {X : Type 0} (test : X → Bool) (xs : List X) (value : X) → find test xs ≡ Some value → (place : ℕ) × (slice_get xs place ≡ Some value) × (test value ≡ true)
+pub passes-from_find : {X : Type 0} (test : X → Bool) (xs : List X) (value : X) → find test xs ≡ Some value →
+    (place : ℕ) × (slice_get xs place ≡ Some value) × (test value ≡ true)
 passes-from_find test [] value h = absurd cc
 passes-from_find test (x ∷ xs) value h = elim (cases_Bool (test x)) [
-    inl t ↦
+  | inl t ↦
       let same : Some x ≡ Some value = rw t at h in
       let equal : x ≡ value = cc in
       (0, same, rw (sym equal) t)
@@ -45,24 +46,26 @@ passes-from_find test (x ∷ xs) value h = elim (cases_Bool (test x)) [
       let later : find test xs ≡ Some value = rw f at h in
       let p = passes-from_find test xs value later in
       (suc p.0, p.1, p.2)
-  ]
+]
 
 -- Where there is no first element that passes, none does.
 pub none-from_find : {X : Type 0} (test : X → Bool) (xs : List X) → find test xs ≡ None → list_any test xs ≡ false
 none-from_find test [] h = refl
 none-from_find test (x ∷ xs) h = elim (cases_Bool (test x)) [
-    inl t ↦ let same : Some x ≡ None = rw t at h in absurd cc
+  | inl t ↦ let same : Some x ≡ None = rw t at h in absurd cc
   | inr f ↦
       let later : find test xs ≡ None = rw f at h in
       or_from (test x) (list_any test xs) f (none-from_find test xs later)
-  ]
+]
 
 -- No element passes where each one fails.
-pub none-from_each : {X : Type 0} (test : X → Bool) (xs : List X) → ((place : ℕ) (value : X) → slice_get xs place ≡ Some value → test value ≡ true → ⊥) → list_any test xs ≡ false
+pub none-from_each : {X : Type 0} (test : X → Bool) (xs : List X) →
+    ((place : ℕ) (value : X) → slice_get xs place ≡ Some value → test value ≡ true → ⊥) → list_any test xs ≡ false
 none-from_each test xs h = false_from_ne_true (list_any test xs) (λ t. let p = passes-from_any test xs t in h p.place p.value p.at p.passes)
 
 -- All elements pass where each one does.
-pub every-from_each : {X : Type 0} (test : X → Bool) (xs : List X) → ((place : ℕ) (value : X) → slice_get xs place ≡ Some value → test value ≡ true) → list_all test xs ≡ true
+pub every-from_each : {X : Type 0} (test : X → Bool) (xs : List X) →
+    ((place : ℕ) (value : X) → slice_get xs place ≡ Some value → test value ≡ true) → list_all test xs ≡ true
 every-from_each test [] h = refl
 every-from_each test (x ∷ xs) h = and_from (test x) (list_all test xs) (h 0 x refl) (every-from_each test xs (λ place. h (suc place)))
 

@@ -1,0 +1,105 @@
+-- What an event leaves as it is, and the lines and the text of its acts.
+use Rattle.std.proofs.Common.{◌≡◌, ℕ, ◌+◌, ◌<◌, ◌≤◌, List, [], ◌∷◌, ◌++◌, map, true, Bool, suc, length, refl, ap, ◌∙◌, arith}
+use Rattle.std.specs.Prelude.{Some, slice_get}
+use Rattle.std.specs.List.{flat_map, All, AllByRecursion}
+use Rattle.std.proofs.lemmas.Bool.{cond_both}
+use Rattle.std.proofs.lemmas.List.Concat.{flat_map-append}
+use Rattle.std.proofs.lemmas.List.Elements.{All-from_recursion}
+use Rattle.std.proofs.lemmas.Option.{slice_get_within}
+use Rattle.mv_base.specs.declared.ids.IfaceId.{IfaceId}
+use Rattle.mv_base.specs.declared.ids.SiteId.{SiteId}
+use Rattle.mv_base.specs.declared.ids.VrfId.{VrfId}
+use Rattle.mv_base.specs.declared.addr.Addr.{Addr}
+use Rattle.scenario_defs.specs.declared.scenario.Iface.{Iface}
+use Rattle.scenario_defs.specs.declared.scenario.Scenario.{Scenario}
+use Rattle.scenario_defs.specs.declared.event.Event.{Event}
+use Rattle.scenario_defs.specs.declared.event.Event.TheVariants as events
+use Rattle.scenario_defs.specs.declared.event.JoinEntry.TheVariants as entries
+use Rattle.scenario_defs.specs.declared.report.ReportLine.{ReportLine}
+use Rattle.scenario_defs.specs.declared.report.ReportLine.TheVariants as lines
+use Rattle.scenario_defs.specs.declared.report.Refusal.TheVariants as refusals
+use Rattle.scenario_defs.specs.Text.{line_text, IsLineOf}
+use Rattle.scenario_defs.specs.Vpn.{ifaces_where, entered}
+use Rattle.mvpn_model.specs.Past.{is_home}
+use Rattle.mvpn_model.specs.Packet.{packet}
+use Rattle.mvpn_model.specs.Report.{Entry, lines_of, report_text}
+use Rattle.net_defs.specs.Network.{Network, acts_of, after, is_full, with_joined, leaves_at, leaves, entering}
+use Rattle.net_defs.specs.Run.{entries_of}
+use Rattle.net_laws.proofs.ListLemmas.{all-append}
+
+-- An event leaves the scenario as it is.
+pub after-scenario : (network : Network) (event : Event) → (after network event).scenario ≡ network.scenario
+after-scenario network (events.Join iface (entries.Source source group)) =
+    cond_both (is_full network iface source group) network (record network { entries = with_joined network.entries iface source group }) (λ n. n.scenario ≡ network.scenario) (λ e. refl) (λ e. refl)
+after-scenario network (events.Send site source group payload) = refl
+after-scenario network other = refl
+
+-- An event counts at most one datagram.
+pub after-accepted : (network : Network) (event : Event) → (after network event).accepted ≤ network.accepted + 1
+after-accepted network (events.Join iface (entries.Source source group)) =
+    cond_both (is_full network iface source group) network (record network { entries = with_joined network.entries iface source group }) (λ n. n.accepted ≤ network.accepted + 1) (λ e. omega arith) (λ e. omega arith)
+after-accepted network (events.Send site source group payload) = omega arith
+after-accepted network other = omega arith
+
+-- The lines of an event's entries are those of its acts.
+pub lines_of-entries : (number : ℕ) (acts : List (List ReportLine)) → lines_of (entries_of number acts) ≡ flat_map (λ act. act) acts
+lines_of-entries number [] = refl
+lines_of-entries number (act ∷ acts) = ap (λ l. act ++ l) (lines_of-entries number acts)
+
+-- The lines of two reports are those of the first and then those of the second.
+pub lines_of-append : (report more : List Entry) → lines_of (report ++ more) ≡ lines_of report ++ lines_of more
+lines_of-append report more = flat_map-append (λ (entry : Entry). entry.lines) report more
+
+-- the text of a report with the acts of one more event
+pub report_text-snoc : (scenario : Scenario) (report : List Entry) (number : ℕ) (acts : List (List ReportLine)) →
+    report_text scenario (report ++ entries_of number acts) ≡ report_text scenario report ++ flat_map (line_text scenario) (flat_map (λ act. act) acts)
+report_text-snoc scenario report number acts =
+    ap (flat_map (line_text scenario)) (lines_of-append report (entries_of number acts) ∙ ap (λ l. lines_of report ++ l) (lines_of-entries number acts))
+    ∙ flat_map-append (line_text scenario) (lines_of report) (flat_map (λ act. act) acts)
+
+-- Each interface that passes the test has a property that each passing interface of the list has.
+pub ifaces_where-all : (P : IfaceId → Type 0) (test : IfaceId → Iface → Bool) (number : ℕ) (ifaces : List Iface) →
+    ((i j : ℕ) (iface : Iface) → j ≡ number + i → slice_get ifaces i ≡ Some iface → test (record { 0 = j }) iface ≡ true → P (record { 0 = j })) →
+    AllByRecursion P (ifaces_where test number ifaces)
+ifaces_where-all P test number [] h = tt
+ifaces_where-all P test number (iface ∷ more) h =
+    let rest = ifaces_where-all P test (number + 1) more (λ i j found e d t. h (suc i) j found (omega (arith, e)) d t) in
+    cond_both (test (record { 0 = number }) iface) (record { 0 = number } ∷ ifaces_where test (number + 1) more) (ifaces_where test (number + 1) more) (AllByRecursion P)
+    (λ t. (h 0 number iface (omega arith) refl t, rest))
+    (λ f. rest)
+
+-- What holds of each interface holds of each line that names it.
+pub outs-all : (P : ReportLine → Type 0) (number : ℕ) (octets : List ℕ) (ifaces : List IfaceId) →
+    AllByRecursion (λ iface. P (lines.Out number iface octets)) ifaces → AllByRecursion P (map (λ iface. lines.Out number iface octets) ifaces)
+outs-all P number octets [] h = tt
+outs-all P number octets (iface ∷ more) h = (h.0, outs-all P number octets more h.1)
+
+-- The lines of several acts each have a property that the lines of each act have.
+pub acts-all : (P : ReportLine → Type 0) (act : VrfId → List ReportLine) (vrfs : List VrfId) → ((vrf : VrfId) → AllByRecursion P (act vrf)) →
+    AllByRecursion P (flat_map (λ l. l) (map act vrfs))
+acts-all P act [] h = tt
+acts-all P act (vrf ∷ more) h = all-append P (act vrf) (flat_map (λ l. l) (map act more)) (h vrf) (acts-all P act more h)
+
+-- Each line of a datagram's entering at a VRF has a property that each out line of the datagram has.
+pub entering-all : (P : ReportLine → Type 0) (network : Network) (site : SiteId) (source group : Addr) (payload : List ℕ) (vrf : VrfId) →
+    ((iface : IfaceId) → iface.0 < length network.scenario.ifaces → P (lines.Out (network.accepted + 1) iface (packet source group payload))) →
+    AllByRecursion P (entering network site source group payload vrf)
+entering-all P network site source group payload vrf h =
+    let Q : IfaceId → Type 0 = λ iface. P (lines.Out (network.accepted + 1) iface (packet source group payload)) in
+    outs-all P (network.accepted + 1) (packet source group payload) (leaves network site source group vrf)
+    (cond_both (is_home network.scenario vrf source site) (ifaces_where (leaves_at network vrf site source group) 0 network.scenario.ifaces) [] (AllByRecursion Q)
+    (λ t. ifaces_where-all Q (leaves_at network vrf site source group) 0 network.scenario.ifaces (λ i j iface e d t. h (record { 0 = j }) (omega (arith, e, slice_get_within network.scenario.ifaces i iface d))))
+    (λ f. tt))
+
+-- The lines of an event name things of the scenario, one after another.
+pub acts-named_each : (network : Network) (line : ℕ) (event : Event) → AllByRecursion (IsLineOf network.scenario) (flat_map (λ act. act) (acts_of network line event))
+acts-named_each network line (events.Join iface (entries.Source source group)) =
+    cond_both (is_full network iface source group) ((lines.Refused line refusals.Full ∷ []) ∷ []) ([] ∷ []) (λ acts. AllByRecursion (IsLineOf network.scenario) (flat_map (λ act. act) acts)) (λ e. (tt, tt)) (λ e. tt)
+acts-named_each network line (events.Send site source group payload) =
+    acts-all (IsLineOf network.scenario) (entering network site source group payload) (entered network.scenario site) (λ vrf. entering-all (IsLineOf network.scenario) network site source group payload vrf (λ iface lt. lt))
+acts-named_each network line events.State = (tt, tt)
+acts-named_each network line other = tt
+
+-- The lines of an event name things of the scenario.
+pub acts-named : (network : Network) (line : ℕ) (event : Event) → All (IsLineOf network.scenario) (flat_map (λ act. act) (acts_of network line event))
+acts-named network line event = All-from_recursion (IsLineOf network.scenario) (flat_map (λ act. act) (acts_of network line event)) (acts-named_each network line event)

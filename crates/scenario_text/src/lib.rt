@@ -8,10 +8,12 @@ mod forms;
 mod laws;
 mod line;
 mod lists;
+mod pieces;
 mod reader;
 mod scenario_lines;
 mod vrf_lines;
 mod words;
+mod writer;
 
 pub use draft::Thing;
 pub use fault::{ReadFault, Reason, TextFault, reason_word};
@@ -22,3 +24,4 @@ pub use scenario_defs::{
     Event, Events, FaultWord, Iface, Ifaces, JoinEntry, Kind, Lines, Links, Name, Node, Nodes,
     Prefixes, Refusal, ReportLine, Scenario, Script, Site, Sites, Timed, Vrf, Vrfs,
 };
+pub use writer::write_line;

@@ -1,0 +1,75 @@
+-- Laws of the parts of a line, and of the lines of a text.
+use Rattle.std.proofs.Common.{◌≡◌, ℕ, ◌+◌, ◌<◌, ◌≤◌, ◌==◌, List, [], ◌∷◌, Bool, true, false, length, map, take, drop, get_or, refl, sym, ap, ◌∙◌, arith, cond, suc, drop-cons, Bor, Option, Some, None, nat_lt, position}
+use Rattle.std.specs.List.{slice_split, onto_first, position_or_len, before_first, after_first, All}
+use Rattle.std.specs.Str.Lines.{lines, lines_of_parts, strip_carriage_return}
+use Rattle.std.proofs.lemmas.Bool.Decides.{nat_tests}
+use Rattle.std.proofs.lemmas.List.Quantifiers.{position-Some}
+use Rattle.std.proofs.lemmas.List.Sums.{position_or_len_is, fails_before_first}
+use Rattle.std.proofs.lemmas.List.Splits.{slice_split_first, slice_split_none, length-slice_split}
+
+-- the octets of the parts, and one more for each part
+abbrev pub total : List (List ℕ) → ℕ
+total [] = 0
+total (part ∷ parts) = length part + 1 + total parts
+
+total-onto_first : (x : ℕ) (parts : List (List ℕ)) (n : ℕ) → total parts ≡ n + 1 → total (onto_first x parts) ≡ n + 2
+total-onto_first x [] n h = omega (arith, h)
+total-onto_first x (part ∷ parts) n h = omega (arith, h)
+
+total-cons : (b : Bool) (x : ℕ) (parts : List (List ℕ)) (n : ℕ) → total parts ≡ n + 1 → total (cond b ([] ∷ parts) (onto_first x parts)) ≡ n + 2
+total-cons true x parts n h = omega (arith, h)
+total-cons false x parts n h = total-onto_first x parts n h
+
+-- The parts of a list have its octets, and there is one more than there are cuts.
+pub total-slice_split : (p : ℕ → Bool) (xs : List ℕ) → total (slice_split p xs) ≡ length xs + 1
+total-slice_split p [] = refl
+total-slice_split p (x ∷ xs) = total-cons (p x) x (slice_split p xs) (length xs) (total-slice_split p xs) ∙ omega arith
+
+-- The parts from a place on: the one there, and those behind it.
+pub total-drop : (parts : List (Bor (List ℕ))) (i : ℕ) (d : Bor (List ℕ)) → i < length parts → total (map (λ p. p.now) (drop i parts)) ≡ length (get_or parts i d).now + 1 + total (map (λ p. p.now) (drop (suc i) parts))
+total-drop parts i d h = ap (λ (l : List (Bor (List ℕ))). total (map (λ p. p.now) l)) (drop-cons parts i d h)
+
+-- What is to come fits behind what was.
+pub column_fits : (parts : List (Bor (List ℕ))) (i : ℕ) (d : Bor (List ℕ)) (column n : ℕ) → i < length parts → column + total (map (λ p. p.now) (drop i parts)) ≡ 1 + total (map (λ p. p.now) parts) → total (map (λ p. p.now) parts) ≡ n + 1 → column + (length (get_or parts i d).now + 1) ≤ n + 2
+column_fits parts i d column n h e t = omega (arith, total-drop parts i d h, e, t)
+
+-- Parts behind a line feed: the part before it is a line.
+lines-cons : (x : List ℕ) (parts : List (List ℕ)) → 0 < length parts → lines_of_parts (x ∷ parts) ≡ strip_carriage_return x ∷ lines_of_parts parts
+lines-cons x [] h = absurd (omega arith)
+lines-cons x (y ∷ more) h = refl
+
+-- The line before the first line feed, and the lines behind it.
+pub lines-first : (xs : List ℕ) (i : ℕ) → position (λ b. b == 10) xs ≡ Some i → lines xs ≡ strip_carriage_return (take i xs) ∷ lines (drop (i + 1) xs)
+lines-first xs i h =
+    let p : ℕ → Bool = λ b. b == 10 in
+    let found : (i < length xs) × (p (get_or xs i 0) ≡ true) × ((k : ℕ) → k < i → p (get_or xs k 0) ≡ false) = position-Some p xs i 0 h in
+    let e : position_or_len p xs ≡ i = position_or_len_is p xs i 0 (omega (arith, found.0)) found.2 (λ _. found.1) in
+    let s : slice_split p xs ≡ before_first p xs ∷ slice_split p (after_first p xs) = slice_split_first p xs 0 (omega (arith, found.0, e)) in
+    let t : slice_split p xs ≡ take i xs ∷ slice_split p (drop (i + 1) xs) = s ∙ ap (λ (n : ℕ). take n xs ∷ slice_split p (drop (n + 1) xs)) e in
+    ap lines_of_parts t ∙ lines-cons (take i xs) _ (omega (arith, length-slice_split p (drop (i + 1) xs)))
+
+none_found : (n k : ℕ) (b : Bool) → nat_lt n k ≡ b → cond {A = Option ℕ} b (Some n) None ≡ None → k ≤ n
+none_found n k true e h = absurd cc
+none_found n k false e h = grind (arith, nat_tests)
+
+last_part : (part : List ℕ) (b : Bool) → b ≡ false → cond b [] (part ∷ []) ≡ part ∷ []
+last_part part b h = rw h refl
+
+whole_line : (x : ℕ) (more : List ℕ) (parts : List (List ℕ)) → parts ≡ (x ∷ more) ∷ [] → lines_of_parts parts ≡ (x ∷ more) ∷ []
+whole_line x more parts e =
+    let z : (length (x ∷ more) == 0) ≡ false = grind (arith, nat_tests) in
+    rw e (last_part (x ∷ more) (length (x ∷ more) == 0) z)
+
+-- A text without a line feed is one line.
+pub lines-whole : (xs : List ℕ) → 0 < length xs → position (λ b. b == 10) xs ≡ None → lines xs ≡ xs ∷ []
+lines-whole [] l h = absurd (omega arith)
+lines-whole (x ∷ more) l h =
+    let p : ℕ → Bool = λ b. b == 10 in
+    let n : length (x ∷ more) ≤ position_or_len p (x ∷ more) = none_found _ _ _ refl h in
+    let fails : All (λ y. p y ≡ false) (x ∷ more) = λ k d m. fails_before_first p (x ∷ more) k d (omega (arith, n, m)) in
+    let e : slice_split p (x ∷ more) ≡ (x ∷ more) ∷ [] = slice_split_none p (x ∷ more) fails in
+    whole_line x more (slice_split p (x ∷ more)) e
+
+-- A part is shorter than what is to come.
+pub part_fits : (parts : List (Bor (List ℕ))) (i : ℕ) (d : Bor (List ℕ)) (column n : ℕ) → i < length parts → 1 ≤ column → column + total (map (λ p. p.now) (drop i parts)) ≡ 1 + total (map (λ p. p.now) parts) → total (map (λ p. p.now) parts) ≡ n + 1 → length (get_or parts i d).now ≤ n
+part_fits parts i d column n h one e t = omega (arith, total-drop parts i d h, e, t)

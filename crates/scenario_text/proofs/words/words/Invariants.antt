@@ -1,0 +1,11 @@
+use Rattle.std.proofs.Common.{◌≡◌, ◌+◌, ◌++◌, ◌≤◌, length, map, drop}
+use Rattle.scenario_text.specs.Words.{placed, placed_word}
+use Rattle.scenario_text.proofs.WordsLemmas.{total}
+use Rattle.scenario_text.proofs.words.words.Given as goal
+
+abbrev pub invariant-loop-part : goal.invariant-loop-part
+invariant-loop-part l = record {
+  words : map placed_word l.words.items ++ placed l.column (map (λ p. p.now) (drop l.part-index l.part-items)) ≡ placed 1 (map (λ p. p.now) l.part-items);
+  column : l.column + total (map (λ p. p.now) (drop l.part-index l.part-items)) ≡ 1 + total (map (λ p. p.now) l.part-items);
+  one : 1 ≤ l.column;
+}

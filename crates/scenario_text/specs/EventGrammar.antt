@@ -1,0 +1,94 @@
+-- The lines of events: what each says, or its first fault.
+use Rattle.std.specs.Prelude.{ℕ, ◌||◌, Bool, true, false, nat_eq, nat_le, List, [], ◌∷◌, length, Result, Ok, Err, if◌then◌else◌, codes}
+use Rattle.std.specs.Cmp.Lexicographic.{pointwise}
+use Rattle.scenario_defs.specs.declared.event.Event.TheVariants as events
+use Rattle.scenario_defs.specs.declared.event.JoinEntry.TheVariants as entries
+use Rattle.scenario_text.specs.declared.fault.Reason.TheVariants as reasons
+use Rattle.scenario_text.specs.declared.fault.TextFault.{TextFault}
+use Rattle.scenario_text.specs.declared.line.Line.{Line}
+use Rattle.scenario_text.specs.declared.line.Line.TheVariants as says
+use Rattle.scenario_text.specs.declared.words.Row.{Row}
+use Rattle.scenario_text.specs.declared.event_lines.EventWord.{EventWord}
+use Rattle.scenario_text.specs.declared.event_lines.EventWord.TheVariants as word_kinds
+use Rattle.scenario_text.specs.declared.event_lines.SendHead.{SendHead}
+use Rattle.scenario_text.specs.Drafted.{Drafted}
+use Rattle.scenario_text.specs.Words.{Placed}
+use Rattle.scenario_text.specs.Forms.{fault, ◌>>=◌, iface_at, site_at, source_at, group_at, payload_at}
+
+-- whether no line of events of clocks, sessions and losses that begins with the word is built yet
+abbrev pub is_unbuilt_clock : List ℕ → Bool
+is_unbuilt_clock text =
+    pointwise nat_eq text (codes "tick") || pointwise nat_eq text (codes "timers") || pointwise nat_eq text (codes "move") || pointwise nat_eq text (codes "lose") || pointwise nat_eq text (codes "notice") || pointwise nat_eq text (codes "raise") || pointwise nat_eq text (codes "heal") || pointwise nat_eq text (codes "restart")
+
+-- whether no line of another event that begins with the word is built yet
+abbrev pub is_unbuilt_flow : List ℕ → Bool
+is_unbuilt_flow text =
+    pointwise nat_eq text (codes "prune") || pointwise nat_eq text (codes "pim") || pointwise nat_eq text (codes "active") || pointwise nat_eq text (codes "idle") || pointwise nat_eq text (codes "packet") || pointwise nat_eq text (codes "select") || pointwise nat_eq text (codes "unselect") || pointwise nat_eq text (codes "hop") || pointwise nat_eq text (codes "drop") || pointwise nat_eq text (codes "settle")
+
+-- whether the words behind `join` are of a join that is not built yet: of all sources, or off the shared tree
+unfoldable pub is_unbuilt_join : List Placed → Bool
+is_unbuilt_join [] = false
+is_unbuilt_join (a ∷ []) = false
+is_unbuilt_join (a ∷ b ∷ []) = pointwise nat_eq b.text (codes "*")
+is_unbuilt_join (a ∷ b ∷ c ∷ []) = pointwise nat_eq b.text (codes "*")
+is_unbuilt_join (a ∷ b ∷ c ∷ d ∷ more) = pointwise nat_eq b.text (codes "*") || pointwise nat_eq d.text (codes "rpt")
+
+-- what a first word begins
+unfoldable pub event_word : Row → Placed → List Placed → Result EventWord TextFault
+event_word row first rest =
+    if pointwise nat_eq first.text (codes "join") then (if is_unbuilt_join rest then fault row.number first.column reasons.Later else Ok word_kinds.Join) else
+    if pointwise nat_eq first.text (codes "send") then Ok word_kinds.Send else
+    if pointwise nat_eq first.text (codes "drain") then Ok word_kinds.Drain else
+    if pointwise nat_eq first.text (codes "state") then Ok word_kinds.State else
+    if is_unbuilt_clock first.text then fault row.number first.column reasons.Later else
+    if is_unbuilt_flow first.text then fault row.number first.column reasons.Later else
+    fault row.number first.column reasons.Word
+
+-- `join IFACE S G`
+unfoldable pub join_words : Drafted → Row → Placed → Placed → Placed → Result Line TextFault
+join_words draft row a b c =
+    iface_at draft row a >>= λ iface. source_at row b >>= λ source. group_at row c >>= λ group. Ok (says.Event (events.Join iface (entries.Source source group)))
+
+-- the words behind `join`
+unfoldable pub join_line : Drafted → Row → List Placed → Result Line TextFault
+join_line draft row [] = fault row.number row.after reasons.Count
+join_line draft row (a ∷ []) = fault row.number row.after reasons.Count
+join_line draft row (a ∷ b ∷ []) = fault row.number row.after reasons.Count
+join_line draft row (a ∷ b ∷ c ∷ []) = join_words draft row a b c
+join_line draft row (a ∷ b ∷ c ∷ d ∷ more) = fault row.number d.column reasons.Count
+
+-- `SITE S G` of a send
+unfoldable pub send_head : Drafted → Row → Placed → Placed → Placed → Result SendHead TextFault
+send_head draft row a b c =
+    site_at draft row a >>= λ site. source_at row b >>= λ source. group_at row c >>= λ group. Ok (record { site = site; source = source; group = group })
+
+-- `send SITE S G HEX`
+unfoldable pub send_words : Drafted → Row → Placed → Placed → Placed → Placed → Result Line TextFault
+send_words draft row a b c d =
+    send_head draft row a b c >>= λ head. payload_at row d >>= λ payload. Ok (says.Event (events.Send head.site head.source head.group payload))
+
+-- the words behind `send`
+unfoldable pub send_line : Drafted → Row → List Placed → Result Line TextFault
+send_line draft row [] = fault row.number row.after reasons.Count
+send_line draft row (a ∷ []) = fault row.number row.after reasons.Count
+send_line draft row (a ∷ b ∷ []) = fault row.number row.after reasons.Count
+send_line draft row (a ∷ b ∷ c ∷ []) = fault row.number row.after reasons.Count
+send_line draft row (a ∷ b ∷ c ∷ d ∷ []) = send_words draft row a b c d
+send_line draft row (a ∷ b ∷ c ∷ d ∷ e ∷ more) = fault row.number e.column reasons.Count
+
+-- a line of one word
+unfoldable pub bare_line : Row → Line → List Placed → Result Line TextFault
+bare_line row said [] = Ok said
+bare_line row said (a ∷ more) = fault row.number a.column reasons.Count
+
+-- a line by what its first word begins
+unfoldable pub event_words : Drafted → Row → EventWord → List Placed → Result Line TextFault
+event_words draft row word_kinds.Join rest = join_line draft row rest
+event_words draft row word_kinds.Send rest = send_line draft row rest
+event_words draft row word_kinds.Drain rest = bare_line row (says.Event events.Drain) rest
+event_words draft row word_kinds.State rest = bare_line row (says.Event events.State) rest
+
+-- a line of an event, of which there are at most 200,000
+unfoldable pub event_line : Drafted → Row → Placed → List Placed → Result Line TextFault
+event_line draft row first rest =
+    event_word row first rest >>= λ kind. if nat_le 200000 (length draft.events) then fault row.number first.column reasons.Limit else event_words draft row kind rest

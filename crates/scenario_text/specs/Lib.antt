@@ -1,0 +1,9 @@
+pub mod Words
+pub mod Drafted
+pub mod Answers
+pub mod FaultText
+pub mod Forms
+pub mod ScenarioGrammar
+pub mod EventGrammar
+pub mod Grammar
+pub mod Faults

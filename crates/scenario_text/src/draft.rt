@@ -1,0 +1,185 @@
+//! What the lines so far declared.
+ghost use Rattle.std.specs.Prelude.{◌≡◌, length, nat_eq, OnOk, IfOk};
+ghost use Rattle.std.specs.Map.{lookup};
+ghost use Rattle.std.specs.Cmp.Lexicographic.{pointwise};
+ghost use Rattle.scenario_text.specs.Forms.{named, node_of, vrf_of, site_of, iface_of};
+ghost use Rattle.scenario_text.specs.Grammar.{added, empty_draft};
+
+use crate::forms::is_name;
+use crate::{Events, Line, Name, Scenario, Script, Site, Timed};
+use indexmap::IndexMap;
+use mv_base::{IfaceId, NoMemory, NodeId, Seq, SiteId, VrfId};
+use std::alloc::Global;
+use std::marker::Model;
+
+/// What a name stands for.
+#[derive(Clone, Copy, Debug)]
+pub enum Thing {
+    Node(NodeId),
+    Vrf(VrfId),
+    Site(SiteId),
+    Iface(IfaceId),
+}
+
+impl Thing {
+    pub fn node(self) -> Option<NodeId>
+        ensures { result ≡ node_of self }
+    {
+        match self {
+            Thing::Node(id) => Some(id),
+            _ => None,
+        }
+    }
+
+    pub fn vrf(self) -> Option<VrfId>
+        ensures { result ≡ vrf_of self }
+    {
+        match self {
+            Thing::Vrf(id) => Some(id),
+            _ => None,
+        }
+    }
+
+    pub fn site(self) -> Option<SiteId>
+        ensures { result ≡ site_of self }
+    {
+        match self {
+            Thing::Site(id) => Some(id),
+            _ => None,
+        }
+    }
+
+    pub fn iface(self) -> Option<IfaceId>
+        ensures { result ≡ iface_of self }
+    {
+        match self {
+            Thing::Iface(id) => Some(id),
+            _ => None,
+        }
+    }
+}
+
+/// The script so far, with the names that are declared.
+#[derive(Debug, Drop)]
+pub struct Draft {
+    scenario: Scenario,
+    begun: bool,
+    events: Events,
+    names: IndexMap<Name, Thing>,
+}
+
+impl Model for Draft {
+    ghost use Rattle.scenario_text.specs.Drafted.{Drafted};
+
+    ghost Value = { Drafted };
+
+    ghost view = { λ d. record { scenario = d.scenario; begun = d.begun; events = d.events; names = d.names.entries } };
+}
+
+impl Draft {
+    /// Nothing is declared.
+    pub fn new(alloc: Global) -> Self
+        ensures { result ≡ empty_draft }
+    {
+        Draft {
+            scenario: Scenario {
+                life: 2,
+                delay: 3,
+                labels: 4096,
+                system: 65000,
+                nodes: Seq::new(alloc),
+                links: Seq::new(alloc),
+                vrfs: Seq::new(alloc),
+                sites: Seq::new(alloc),
+                ifaces: Seq::new(alloc),
+            },
+            begun: false,
+            events: Seq::new(alloc),
+            names: IndexMap::new(alloc),
+        }
+    }
+
+    pub fn scenario(&self) -> &Scenario
+        ensures { result.now ≡ self.now.scenario }
+    {
+        &self.scenario
+    }
+
+    /// Whether the scenario has ended.
+    pub fn begun(&self) -> bool
+        ensures { result ≡ self.now.begun }
+    {
+        self.begun
+    }
+
+    pub fn event_count(&self) -> usize
+        ensures { result ≡ length self.now.events }
+    {
+        self.events.len()
+    }
+
+    fn find(&self, name: &Name) -> Option<Thing>
+        ensures { result ≡ lookup (pointwise nat_eq name.now) self.now.names }
+    {
+        self.names.get(name).copied()
+    }
+
+    /// The thing that a word names.
+    pub fn named(&self, text: &[u8]) -> Option<Thing>
+        ensures { result ≡ named self.now text.now }
+    {
+        if !is_name(text) {
+            return None;
+        }
+        match Name::of(text) {
+            Some(name) => self.find(&name),
+            None => None,
+        }
+    }
+
+    /// Adds what a line says.
+    pub fn add(&mut self, line: u32, said: Line) -> Result<(), NoMemory>
+        ensures { OnOk result (self.new ≡ added self.old line said) }
+    {
+        match said {
+            Line::Blank => {}
+            Line::Edge { id, node } => {
+                self.names.insert(node.name, Thing::Node(id))?;
+                self.scenario.nodes.push(node)?;
+            }
+            Line::Vrf { id, vrf } => {
+                self.names.insert(vrf.name, Thing::Vrf(id))?;
+                self.scenario.vrfs.push(vrf)?;
+            }
+            Line::Site { id, name, prefix } => {
+                self.names.insert(name, Thing::Site(id))?;
+                let mut prefixes = Seq::new(self.scenario.sites.alloc());
+                prefixes.push(prefix)?;
+                self.scenario.sites.push(Site { name, prefixes })?;
+            }
+            Line::Iface { id, iface } => {
+                self.names.insert(iface.name, Thing::Iface(id))?;
+                self.scenario.ifaces.push(iface)?;
+            }
+            Line::Events => self.begun = true,
+            Line::Event { event } => self.events.push(Timed { line, event })?,
+        }
+        Ok(())
+    }
+
+    /// The script, `end` being the number of the line after the last one.
+    pub fn into_script(self, end: u32) -> Script
+        ensures { result ≡ record { scenario = self.scenario; events = self.events; end = end } }
+    {
+        let Draft {
+            scenario,
+            events,
+            ..
+        } = self;
+        Script {
+            scenario,
+            events,
+            end,
+        }
+    }
+}

@@ -1,0 +1,30 @@
+//! What one line says.
+use crate::{Event, Iface, Name, Node, Vrf};
+use mv_base::{IfaceId, NodeId, Prefix, SiteId, VrfId};
+
+/// What one line says. A thing that is declared has its number.
+#[derive(Debug, Drop)]
+pub enum Line {
+    Blank,
+    Edge {
+        id: NodeId,
+        node: Node,
+    },
+    Vrf {
+        id: VrfId,
+        vrf: Vrf,
+    },
+    Site {
+        id: SiteId,
+        name: Name,
+        prefix: Prefix,
+    },
+    Iface {
+        id: IfaceId,
+        iface: Iface,
+    },
+    Events,
+    Event {
+        event: Event,
+    },
+}

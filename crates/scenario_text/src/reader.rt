@@ -1,0 +1,130 @@
+//! Reads a text.
+ghost use Rattle.std.specs.Prelude.{◌≡◌, ◌==◌, ◌≤◌, length, map, position};
+ghost use Rattle.std.specs.List.{list_all, list_any};
+ghost use Rattle.scenario_text.specs.Answers.{Gives};
+ghost use Rattle.scenario_text.specs.Words.{placed_word};
+ghost use Rattle.scenario_text.specs.Grammar.{is_outside, is_blank, row_of, words_line, line_of, script_of};
+
+use crate::draft::Draft;
+use crate::event_lines::event_line;
+use crate::fault::fault;
+use crate::scenario_lines::scenario_line;
+use crate::words::{Row, Word, split_line, words};
+use crate::{Line, ReadFault, Reason, Script};
+use std::alloc::Global;
+
+const LINE_LIMIT: usize = 4096;
+
+const INPUT_LIMIT: usize = 16_777_216;
+
+fn is_outside(b: u8) -> bool
+    ensures { result ≡ is_outside b }
+{
+    b < 0x20 || b > 0x7e
+}
+
+fn first_outside(octets: &[u8]) -> Option<usize>
+    ensures { result ≡ position is_outside octets.now }
+{
+    octets.iter().position(|b| is_outside(*b))
+}
+
+fn are_spaces(octets: &[u8]) -> bool
+    ensures { result ≡ list_all (λ octet. octet == 32) octets.now }
+{
+    octets.iter().all(|octet| *octet == b' ')
+}
+
+#[tactic(auto, unfolding(crate::specs::Grammar::is_blank))]
+fn is_blank(octets: &[u8]) -> bool
+    ensures { result ≡ is_blank octets.now }
+{
+    let spaces = are_spaces(octets);
+    match octets {
+        [] => true,
+        [first, ..] => *first == b'#' || spaces,
+    }
+}
+
+fn has_comma(octets: &[u8]) -> bool
+    ensures { result ≡ list_any (λ b. b == 44) octets.now }
+{
+    octets.iter().any(|b| *b == b',')
+}
+
+fn has_point(octets: &[u8]) -> bool
+    ensures { result ≡ list_any (λ b. b == 46) octets.now }
+{
+    octets.iter().any(|b| *b == b'.')
+}
+
+fn row_of(number: u32, octets: &[u8]) -> Row
+    requires { length octets.now ≤ LINE_LIMIT }
+    ensures { result ≡ row_of number octets.now }
+{
+    Row {
+        number,
+        after: octets.len() as u32 + 1,
+        comma: has_comma(octets),
+        point: has_point(octets),
+    }
+}
+
+#[tactic(auto, unfolding(crate::specs::Grammar::words_line))]
+fn words_line(alloc: Global, draft: &Draft, row: Row, words: &[Word]) -> Result<Line, ReadFault>
+    ensures { Gives result (words_line draft.now row (map placed_word words.now)) }
+{
+    match words {
+        [] => Ok(Line::Blank),
+        [first, rest @ ..] => {
+            if draft.begun() {
+                return event_line(alloc, draft, row, first, rest);
+            }
+            match scenario_line(draft, row, first, rest) {
+                Ok(said) => Ok(said),
+                Err(fault) => Err(ReadFault::Text(fault)),
+            }
+        }
+    }
+}
+
+/// What a line says, given what the lines before it declared.
+#[tactic(auto, unfolding(crate::specs::Grammar::line_of))]
+fn line_of(alloc: Global, draft: &Draft, number: u32, octets: &[u8]) -> Result<Line, ReadFault>
+    ensures { Gives result (line_of draft.now number octets.now) }
+{
+    if is_blank(octets) {
+        return Ok(Line::Blank);
+    }
+    if octets.len() > LINE_LIMIT {
+        return Err(ReadFault::Text(fault(number, LINE_LIMIT as u32 + 1, Reason::Line)));
+    }
+    if let Some(place) = first_outside(octets) {
+        return Err(ReadFault::Text(fault(number, place as u32 + 1, Reason::Byte)));
+    }
+    let words = words(alloc, octets)?;
+    words_line(alloc, draft, row_of(number, octets), &words)
+}
+
+/// Reads the whole text: what it says, or its first fault.
+pub fn read(alloc: Global, text: &[u8]) -> Result<Script, ReadFault>
+    ensures { Gives result (script_of text.now) }
+{
+    if text.len() > INPUT_LIMIT {
+        return Err(ReadFault::Text(fault(1, 1, Reason::Long)));
+    }
+    let mut draft = Draft::new(alloc);
+    let mut number = 1;
+    let mut rest = text;
+    'lines: while !rest.is_empty() {
+        let (line, behind) = split_line(rest);
+        let said = line_of(alloc, &draft, number, line)?;
+        draft.add(number, said)?;
+        number += 1;
+        rest = behind;
+    }
+    if !draft.begun() {
+        return Err(ReadFault::Text(fault(number, 1, Reason::Events)));
+    }
+    Ok(draft.into_script(number))
+}

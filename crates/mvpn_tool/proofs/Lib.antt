@@ -1,2 +1,3 @@
 pub mod EnteringLemmas
 pub mod FlowsLemmas
+pub mod WorldLemmas

@@ -1,5 +1,5 @@
 -- What contracts see of a world, and how its tables are in step with that.
-use Rattle.std.specs.Prelude.{◌≡◌, ℕ, ◌++◌, List, length, Option, None}
+use Rattle.std.specs.Prelude.{◌≡◌, ℕ, ◌++◌, List, length, Option, None, Some}
 use Rattle.std.specs.List.{flat_map}
 use Rattle.mv_base.specs.declared.ids.VrfId.{VrfId}
 use Rattle.mv_base.specs.declared.addr.Addr.{Addr}
@@ -11,8 +11,9 @@ use Rattle.scenario_defs.specs.Vpn.{vrf_of_site, ifaces_where}
 use Rattle.scenario_defs.specs.Home.{routes}
 use Rattle.scenario_defs.specs.Rules.{Rules}
 use Rattle.net_defs.specs.declared.entry.JoinedEntry.{JoinedEntry}
-use Rattle.net_defs.specs.Network.{Network, start, acts_of, has_joined}
+use Rattle.net_defs.specs.Network.{Network, start, acts_of, after, has_joined}
 use Rattle.mvpn_tool.specs.declared.halt.Halt.{Halt}
+use Rattle.mvpn_tool.specs.declared.halt.Halt.TheVariants.{NoMemory}
 use Rattle.mvpn_tool.specs.Flows.{FlowTable, members}
 use Rattle.mvpn_tool.specs.Tables.{upto}
 
@@ -42,3 +43,15 @@ pub record InStep (scenario : Scenario) (entries : List JoinedEntry) (flows : Fl
   pub tells : (source group : Addr) → members flows source group ≡ ifaces_where (λ number iface. has_joined entries number source group) 0 scenario.ifaces
   pub vpns_told : vpns ≡ upto (λ vrf. routes scenario (record { 0 = vrf })) (length scenario.vrfs)
   pub homes_told : homes ≡ upto (λ site. vrf_of_site scenario (record { 0 = site })) (length scenario.sites)
+
+-- The world went on by the event, whose lines were appended.
+pub record Acts (old : WorldState) (line : ℕ) (event : Event) (new : WorldState) (before behind : List ReportLine) : Type 0 where
+  pub ran : old.halt ≡ None
+  pub runs : new.halt ≡ None
+  pub network : new.network ≡ after old.network event
+  pub lines : behind ≡ before ++ event_lines old.network line event
+
+-- The world halted for want of memory within the event, some first ones of whose lines stand.
+pub record Halts (old : WorldState) (line : ℕ) (event : Event) (new : WorldState) (before behind : List ReportLine) : Type 0 where
+  pub halted : new.halt ≡ Some NoMemory
+  pub stand : AppendsFront before behind (event_lines old.network line event)

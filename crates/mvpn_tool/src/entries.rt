@@ -1,5 +1,5 @@
 //! The joined entries of an edge, and for each flow the interfaces that have joined it.
-ghost use Rattle.std.specs.Prelude.{◌≡◌, ◌≤◌, ◌^◌, false, length, IfOk, OnOk};
+ghost use Rattle.std.specs.Prelude.{◌≡◌, ◌≤◌, ◌^◌, ◌++◌, [], ◌∷◌, false, length, IfOk, OnOk};
 ghost use Rattle.net_defs.specs.Network.{has_joined};
 ghost use Rattle.scenario_defs.specs.Vpn.{ifaces_where};
 ghost use Rattle.mvpn_tool.specs.Flows.{members, same_flow, Puts};
@@ -76,4 +76,32 @@ pub(crate) fn joined_ifaces(
         }
     }
     Ok(found)
+}
+
+/// Adds an entry that is not there.
+fn insert_entry(entries: &mut IndexSet<JoinedEntry>, entry: JoinedEntry) -> Result<(), NoMemory>
+    requires { has_joined entries.old.keys entry.iface entry.source entry.group ≡ false }
+    ensures { OnOk result (entries.new.keys ≡ entries.old.keys ++ entry ∷ []) }
+{
+    entries.insert(entry)?;
+    Ok(())
+}
+
+/// Adds an entry that is not there, and keeps the interfaces of its flow.
+pub(crate) fn add_entry(
+    alloc: Global,
+    entries: &mut IndexSet<JoinedEntry>,
+    flows: &mut IndexMap<Flow, IfaceList>,
+    ifaces: &[Iface],
+    entry: JoinedEntry,
+) -> Result<(), NoMemory>
+    requires few { length ifaces.now ≤ 2 ^ 16 }
+    requires absent { has_joined entries.old.keys entry.iface entry.source entry.group ≡ false }
+    ensures entries { OnOk result (entries.new.keys ≡ entries.old.keys ++ entry ∷ []) }
+    ensures at { OnOk result (members flows.new entry.source entry.group ≡ ifaces_where (λ number iface. has_joined entries.new.keys number entry.source entry.group) 0 ifaces.now) }
+    ensures others { (source group : Addr) → OnOk result (same_flow (record { source = entry.source; group = entry.group }) (record { source = source; group = group }) ≡ false → members flows.new source group ≡ members flows.old source group) }
+{
+    insert_entry(entries, entry)?;
+    let joined = joined_ifaces(alloc, entries, ifaces, entry.source, entry.group)?;
+    put_members(flows, entry.source, entry.group, joined)
 }

@@ -7,5 +7,5 @@ invariant_of-result c = λ running. record {
   rules = c.requires;
   tells = λ source group. members_none c.new-2.result source group c.new-2.ensures.empty ∙ joined_none c.new.result.keys c.args.scenario.ifaces source group c.new.ensures.empty;
   vpns_told = c.in_ok-vpns.ensures;
-  homes_told = c.in_ok-homes.ensures
+  homes_told = c.in_ok-homes.ensures;
 }

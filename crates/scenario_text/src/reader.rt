@@ -1,6 +1,7 @@
 //! Reads a text.
-ghost use Rattle.std.specs.Prelude.{◌≡◌, ◌==◌, ◌≤◌, length, map, position};
+ghost use Rattle.std.specs.Prelude.{◌≡◌, ◌==◌, ◌≤◌, length, map, position, IfOk};
 ghost use Rattle.std.specs.List.{list_all, list_any};
+ghost use Rattle.scenario_defs.specs.Rules.{ScriptRules};
 ghost use Rattle.scenario_text.specs.Answers.{Gives};
 ghost use Rattle.scenario_text.specs.Words.{placed_word};
 ghost use Rattle.scenario_text.specs.Grammar.{is_outside, is_blank, row_of, words_line, line_of, script_of};
@@ -108,7 +109,8 @@ fn line_of(alloc: Global, draft: &Draft, number: u32, octets: &[u8]) -> Result<L
 
 /// Reads the whole text: what it says, or its first fault.
 pub fn read(alloc: Global, text: &[u8]) -> Result<Script, ReadFault>
-    ensures { Gives result (script_of text.now) }
+    ensures value { Gives result (script_of text.now) }
+    ensures rules { IfOk result ScriptRules }
 {
     if text.len() > INPUT_LIMIT {
         return Err(ReadFault::Text(fault(1, 1, Reason::Long)));

@@ -1,0 +1,55 @@
+#!/usr/bin/env python3
+"""Measures `mvpn replay` on each kind of input of make.py, at a size and at twice that size, and prints a table.
+
+    python3 bench/run.py
+"""
+
+import os
+import pathlib
+import subprocess
+import sys
+import tempfile
+import time
+
+HERE = pathlib.Path(__file__).resolve().parent
+MVPN = HERE.parent / 'mvpn'
+
+# the kind, the smaller size, and the status that is expected
+INPUTS = [('comments', 8_000_000, 0), ('joins', 8_000_000, 0), ('events', 100_000, 0), ('late-fault', 8_000_000, 3)]
+
+
+def measure(file):
+    """The status, the seconds and the peak memory in MiB of one replay, whose output is thrown away."""
+    with open(file, 'rb') as text, open(os.devnull, 'wb') as nowhere:
+        begin = time.monotonic()
+        child = subprocess.Popen([MVPN, 'replay'], stdin=text, stdout=nowhere)
+        _, status, usage = os.wait4(child.pid, 0)
+        seconds = time.monotonic() - begin
+    child.returncode = os.waitstatus_to_exitcode(status)
+    return child.returncode, seconds, usage.ru_maxrss / 1024
+
+
+def main():
+    # Builds the program where it is not built, outside what is measured: without words the status is 2.
+    if subprocess.run([MVPN], stdout=subprocess.DEVNULL).returncode != 2:
+        sys.exit('the program could not be built')
+    print('| input | size | octets | seconds | peak memory in MiB |')
+    print('|---|---|---|---|---|')
+    wrong = 0
+    with tempfile.TemporaryDirectory() as folder:
+        for kind, smaller, expected in INPUTS:
+            for size in (smaller, 2 * smaller):
+                file = os.path.join(folder, 'input')
+                with open(file, 'wb') as out:
+                    subprocess.run([sys.executable, HERE / 'make.py', kind, str(size)], stdout=out, check=True)
+                octets = os.path.getsize(file)
+                status, seconds, memory = measure(file)
+                print('| %s | %s | %s | %.2f | %.0f |' % (kind, f'{size:,}', f'{octets:,}', seconds, memory), flush=True)
+                if status != expected:
+                    wrong = 1
+                    print('%s %d: status %d, and not %d' % (kind, size, status, expected), file=sys.stderr)
+    return wrong
+
+
+if __name__ == '__main__':
+    sys.exit(main())

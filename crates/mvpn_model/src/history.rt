@@ -1,15 +1,15 @@
 //! Histories of events, and what they mean.
-ghost use Rattle.std.specs.Prelude.{◌≡◌, ◌<◌, ◌≤◌, ◌&&◌, ◌==◌, length, IfOk};
+ghost use Rattle.std.specs.Prelude.{◌≡◌, ◌≤◌, ◌^◌, ◌&&◌, ◌==◌, length, IfOk, IfSome, IfNone};
 ghost use Rattle.std.specs.List.{list_any};
 ghost use Rattle.scenario_defs.specs.Rules.{Rules};
-ghost use Rattle.scenario_defs.specs.Home.{home};
+ghost use Rattle.scenario_defs.specs.Home.{home, routes, IsLongest, IsUncovered};
 ghost use Rattle.scenario_defs.specs.Vpn.{ifaces_where};
 ghost use Rattle.mvpn_model.specs.Past.{past_of, is_accepted, is_join, asks, receives, receivers, is_home};
 
 use crate::routing::longest_route;
 use crate::vpn::{same_vpn, vrf_of_site};
 use mv_base::{Addr, IfaceId, NoMemory, Seq, SiteId, VrfId};
-use scenario_defs::{Event, Iface, IfaceList, JoinEntry, Script, Timed};
+use scenario_defs::{Event, Iface, IfaceList, JoinEntry, Scenario, Script, Timed};
 use std::alloc::Global;
 
 /// Numbers of lines.
@@ -64,9 +64,18 @@ fn joins(refused: &[u32], timed: &Timed, iface: IfaceId, source: Addr, group: Ad
 /// all sites attached to the VPN. `None` exactly where no prefix of an attached site covers the source.
 pub fn home(history: &History<'_>, vrf: VrfId, source: Addr) -> Option<SiteId>
     requires { Rules history.now.script.now.scenario }
-    ensures { result ≡ home history.now.script.now.scenario vrf source }
+    ensures value { result ≡ home history.now.script.now.scenario vrf source }
+    ensures longest { IfSome result (IsLongest (routes history.now.script.now.scenario vrf) source) }
+    ensures none { IfNone result (IsUncovered (routes history.now.script.now.scenario vrf) source) }
 {
-    longest_route(&history.script.scenario, vrf, source).map(|route| route.site)
+    site_of_longest(&history.script.scenario, vrf, source)
+}
+
+fn site_of_longest(scenario: &Scenario, vrf: VrfId, source: Addr) -> Option<SiteId>
+    requires { length scenario.now.sites ≤ 2 ^ 16 }
+    ensures { result ≡ home scenario.now vrf source }
+{
+    longest_route(scenario, vrf, source).map(|route| route.site)
 }
 
 /// Whether the interface asks for (S,G). It takes no memory yet.

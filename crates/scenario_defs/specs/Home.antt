@@ -1,5 +1,5 @@
 -- The home of a source in a VPN: the site with the longest prefix that covers it (RFC 6513 section 5.1).
-use Rattle.std.specs.Prelude.{ℕ, ◌+◌, nat_le, List, [], ◌∷◌, ◌++◌, map, filter, Option, None, Some, option_map, if◌then◌else◌}
+use Rattle.std.specs.Prelude.{◌≡◌, ℕ, ◌+◌, ◌≤◌, nat_le, true, false, List, [], ◌∷◌, ◌++◌, map, filter, slice_get, Option, None, Some, option_map, if◌then◌else◌}
 use Rattle.mv_base.specs.declared.ids.VrfId.{VrfId}
 use Rattle.mv_base.specs.declared.ids.SiteId.{SiteId}
 use Rattle.mv_base.specs.declared.addr.Addr.{Addr}
@@ -41,3 +41,16 @@ home_by all source = option_map (λ route. route.site) (longest_after None (filt
 -- the site that is home of the source in the VRF's VPN
 abbrev pub home : Scenario → VrfId → Addr → Option SiteId
 home scenario vrf source = home_by (routes scenario vrf) source
+
+-- The site is that of a route that covers the source, and no route that covers it is longer.
+pub record IsLongest (all : List Route) (source : Addr) (site : SiteId) : Type 0 where
+  pub place : ℕ
+  pub route : Route
+  pub among : slice_get all place ≡ Some route
+  pub covering : covers route.prefix source ≡ true
+  pub of_site : route.site ≡ site
+  pub longest : (other_place : ℕ) (other : Route) → slice_get all other_place ≡ Some other → covers other.prefix source ≡ true → other.prefix.bits ≤ route.prefix.bits
+
+-- No route covers the source.
+abbrev pub IsUncovered : List Route → Addr → Type 0
+IsUncovered all source = (place : ℕ) (route : Route) → slice_get all place ≡ Some route → covers route.prefix source ≡ false

@@ -1,0 +1,172 @@
+//! Scenarios and faults through the top call.
+use mv_base::{Bytes, Seq};
+use mv_io::{CallNumbers, MemSink, MemSource, SureSink, SureSource};
+use mvpn_tool::{End, run};
+use std::alloc::Global;
+use std::test::Fail;
+
+/// One edge with one VPN of two sites.
+const ONE_VPN: &str = "edge E1 192.0.2.1\nvrf V1 E1 1 65000:1 65000:1 highest\nsite X 10.1.0.0/16\nsite Y 10.2.0.0/16\niface X1 V1 X 10.1.0.1\niface Y1 V1 Y 10.2.0.1\n";
+
+/// A second VPN at the edge, with the addresses of the first.
+const SECOND_VPN: &str = "vrf V2 E1 2 65000:2 65000:2 highest\nsite P 10.1.0.0/16\nsite Q 10.2.0.0/16\niface P1 V2 P 10.1.0.1\niface Q1 V2 Q 10.2.0.1\n";
+
+const USAGE: &str = "usage: mvpn replay [--wire] | decode nlri|pmsi|fec|bgp|ldp|pim | make NUMBER | sweep NUMBER\n";
+
+/// The packet of the payload `aabb` from 10.1.0.9 to 232.1.1.1.
+const OUT_1: &str = "out 1 Y1 4500001600000000401187cb0a010009e8010101aabb\n";
+
+const CALM: &str = "state 0 0 0 0 0\n";
+
+fn octets_of(alloc: Global, parts: &[&str]) -> Result<Bytes, Fail> {
+    let mut octets = Seq::new(alloc);
+    for part in parts {
+        octets.extend(part.as_bytes())?;
+    }
+    Ok(octets)
+}
+
+fn words_of(alloc: Global, words: &[&str]) -> Result<Vec<String>, Fail> {
+    let mut list = Vec::new(alloc);
+    for word in words {
+        list.push(String::from_str(alloc, word)?)?;
+    }
+    Ok(list)
+}
+
+/// The status of a run, and what it wrote.
+fn outcome(alloc: Global, words: &[&str], input: &[&str]) -> Result<(u8, Bytes), Fail> {
+    let mut source = SureSource::of(octets_of(alloc, input)?);
+    let mut sink = SureSink::of(alloc, 65_536)?;
+    let words = words_of(alloc, words)?;
+    let End { status, world } = run(alloc, &words, &mut source, &mut sink);
+    if let Some(world) = world {
+        world.close();
+    }
+    let mut written = Seq::new(alloc);
+    written.extend(sink.bytes())?;
+    Ok((status, written))
+}
+
+#[test]
+fn scenarios_are_replayed(rt: HostRuntime) -> Result<(), Fail> {
+    let rows: [(&str, &str, &str, &str, &str); 5] = [
+        (ONE_VPN, "", "join Y1 10.1.0.9 232.1.1.1\nsend X 10.1.0.9 232.1.1.1 aabb\ndrain\nstate\n", OUT_1, CALM),
+        (
+            ONE_VPN,
+            SECOND_VPN,
+            "join Y1 10.1.0.9 232.1.1.1\njoin Q1 10.1.0.9 232.1.1.1\nsend X 10.1.0.9 232.1.1.1 aabb\nstate\n",
+            OUT_1,
+            CALM,
+        ),
+        (ONE_VPN, "", "send Y 10.9.9.9 232.1.1.1 -\nstate\n", "", CALM),
+        (ONE_VPN, "", "join Y1 10.1.0.9 232.1.1.1\nsend Y 10.1.0.9 232.1.1.1 aabb\nstate\n", "", CALM),
+        (ONE_VPN, "\r\n# no event\r\n   \n", "join  Y1  10.1.0.9  232.1.1.1\r\n\nsend X 10.1.0.9 232.1.1.1 AABB", OUT_1, ""),
+    ];
+    for (first, second, events, outs, state) in rows {
+        let (status, written) = outcome(rt.alloc(), &["replay"], &[first, second, "events\n", events])?;
+        assert_eq!(rt; status, 0, "{events}");
+        let expected = octets_of(rt.alloc(), &[outs, state])?;
+        assert_eq!(rt; written.as_slice(), expected.as_slice(), "{events}");
+    }
+    Ok(())
+}
+
+#[test]
+fn text_faults_are_told(rt: HostRuntime) -> Result<(), Fail> {
+    let rows: [(&str, &str, &str); 18] = [
+        ("", "", "fault 1:1 events\n"),
+        ("edge E1 192.0.2.1\n", "vrf V1 E1 4096 65000:1 65000:1 highest\n", "fault 2:11 number\n"),
+        ("edge E1 192.0.2.1\n", "vrf V1 E1 1 65000:1 65000:1,65000:2 highest\n", "fault 2:1 later\n"),
+        ("edge E1 192.0.2.1\n", "core C 192.0.2.9\n", "fault 2:1 later\n"),
+        ("edge E1 192.0.2.1\n", "edge E2 192.0.2.2\nevents\n", "fault 3:1 apart\n"),
+        ("edge E1 192.0.2.1\n", "edge E1 192.0.2.2\n", "fault 2:6 again\n"),
+        ("edge E1 192.0.2.1\n", "edge E2 192.0.2.1\n", "fault 2:9 again\n"),
+        ("edge E1 224.0.2.1\n", "", "fault 1:9 address\n"),
+        ("edge 1E 192.0.2.1\n", "", "fault 1:6 name\n"),
+        ("edge E1\n", "", "fault 1:8 count\n"),
+        ("join Y1 10.1.0.9 232.1.1.1\n", "", "fault 1:1 word\n"),
+        ("edge\tE1 192.0.2.1\n", "", "fault 1:5 byte\n"),
+        (ONE_VPN, "vrf V2 E1 2 65000:2 65000:1 highest\n", "fault 7:21 vpn\n"),
+        (ONE_VPN, "site Z 10.1.0.0/16\niface Z1 V1 Z 10.1.0.2\n", "fault 8:13 taken\n"),
+        (ONE_VPN, "vrf V2 E1 2 65000:2 65000:2 highest\niface X2 V2 X 10.1.0.2\n", "fault 8:13 mixed\n"),
+        (ONE_VPN, "events\njoin Y1 * 225.1.1.1\n", "fault 8:1 later\n"),
+        (ONE_VPN, "events\njoin Y1 10.1.0.9 224.0.0.5\n", "fault 8:18 group\n"),
+        (ONE_VPN, "events\nsend X 10.1.0.9 232.1.1.1 a\n", "fault 8:27 hex\n"),
+    ];
+    for (first, second, fault) in rows {
+        let (status, written) = outcome(rt.alloc(), &["replay"], &[first, second])?;
+        assert_eq!(rt; status, 3, "{fault}");
+        assert_eq!(rt; written.as_slice(), fault.as_bytes(), "{fault}");
+    }
+    Ok(())
+}
+
+#[test]
+fn words_of_no_form_give_the_usage_line(rt: HostRuntime) -> Result<(), Fail> {
+    let (none, written) = outcome(rt.alloc(), &[], &[])?;
+    assert_eq!(rt; none, 2);
+    assert_eq!(rt; written.as_slice(), USAGE.as_bytes());
+    let (other, written) = outcome(rt.alloc(), &["replay", "-x"], &[])?;
+    assert_eq!(rt; other, 2);
+    assert_eq!(rt; written.as_slice(), USAGE.as_bytes());
+    Ok(())
+}
+
+/// The status of a replay whose source or sink fails at those calls, and what it wrote.
+fn failing(alloc: Global, reads: &[u64], writes: &[u64]) -> Result<(u8, Bytes), Fail> {
+    let input = octets_of(alloc, &[ONE_VPN, "events\nstate\nstate\n"])?;
+    let reads: CallNumbers = Seq::from_vec(Vec::from_slice(alloc, reads)?);
+    let writes: CallNumbers = Seq::from_vec(Vec::from_slice(alloc, writes)?);
+    let mut source = MemSource::of(input, reads);
+    let mut sink = MemSink::of(alloc, 4096, writes)?;
+    let words = words_of(alloc, &["replay"])?;
+    let End { status, world } = run(alloc, &words, &mut source, &mut sink);
+    if let Some(world) = world {
+        world.close();
+    }
+    let mut written = Seq::new(alloc);
+    written.extend(sink.bytes())?;
+    Ok((status, written))
+}
+
+#[test]
+fn faults_of_source_and_sink_are_told(rt: HostRuntime) -> Result<(), Fail> {
+    let (at_first_read, nothing) = failing(rt.alloc(), &[1], &[])?;
+    assert_eq!(rt; at_first_read, 4);
+    assert_eq!(rt; nothing.as_slice(), b"".as_slice());
+    let (at_last_read, nothing) = failing(rt.alloc(), &[2], &[])?;
+    assert_eq!(rt; at_last_read, 4);
+    assert_eq!(rt; nothing.as_slice(), b"".as_slice());
+    let (at_second_write, first_line) = failing(rt.alloc(), &[], &[2])?;
+    assert_eq!(rt; at_second_write, 5);
+    assert_eq!(rt; first_line.as_slice(), CALM.as_bytes());
+    Ok(())
+}
+
+/// The lines of joins of that many groups at Y1.
+fn joins(alloc: Global, count: u32) -> Result<Bytes, Fail> {
+    let mut lines = Seq::new(alloc);
+    for number in 0..count {
+        let line = format!(in alloc; "join Y1 10.1.0.9 232.1.{}.{}\n", number / 256, number % 256)?;
+        lines.extend(line.as_bytes())?;
+    }
+    Ok(lines)
+}
+
+#[test]
+fn an_edge_holds_1024_entries(rt: HostRuntime) -> Result<(), Fail> {
+    let mut input = octets_of(rt.alloc(), &[ONE_VPN, "events\n"])?;
+    input.extend(joins(rt.alloc(), 1025)?.as_slice())?;
+    input.extend(b"join Y1 10.1.0.9 232.1.0.0\n")?;
+    let mut source = SureSource::of(input);
+    let mut sink = SureSink::of(rt.alloc(), 4096)?;
+    let words = words_of(rt.alloc(), &["replay"])?;
+    let End { status, world } = run(rt.alloc(), &words, &mut source, &mut sink);
+    if let Some(world) = world {
+        world.close();
+    }
+    assert_eq!(rt; status, 0);
+    assert_eq!(rt; sink.bytes(), b"refused 1032 full\n".as_slice());
+    Ok(())
+}

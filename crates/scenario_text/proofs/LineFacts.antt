@@ -226,7 +226,7 @@ vrf_head_meets : (draft : Drafted) (row : Row) (a b c : Placed) → Meets (λ he
 unfolding vrf_head
 vrf_head_meets draft row a b c =
     bind_meets _ (new_name draft row a) _ (λ name n. bind_meets _ (edge_at draft row b) _ (λ edge e. bind_meets _ (vrf_number_at draft row edge c) _ (λ number _.
-      let facts : (edge.0 < length draft.scenario.nodes) × IsFree draft name = ((edge_meets draft row b).holds edge e, (name_meets draft row a).holds name n) in ok_meets _ _ facts)))
+    let facts : (edge.0 < length draft.scenario.nodes) × IsFree draft name = ((edge_meets draft row b).holds edge e, (name_meets draft row a).holds name n) in ok_meets _ _ facts)))
 
 vrf_tail_meets : (draft : Drafted) (row : Row) (edge : NodeId) (d e f : Placed) → Meets (λ tail. 0 < length tail.targets) (vrf_tail draft row edge d e f)
 unfolding vrf_tail
@@ -260,7 +260,7 @@ site_words_meets : (draft : Drafted) (row : Row) (id : SiteId) (a b : Placed) �
 unfolding site_words
 site_words_meets draft row id a b few =
     bind_meets _ (new_name draft row a) _ (λ name n. bind_meets _ (prefix_at row b) _ (λ prefix _.
-      let facts : (length draft.scenario.sites < 512) × IsFree draft name = (few, (name_meets draft row a).holds name n) in ok_meets _ _ facts))
+    let facts : (length draft.scenario.sites < 512) × IsFree draft name = (few, (name_meets draft row a).holds name n) in ok_meets _ _ facts))
 
 site_counted_meets : (draft : Drafted) (row : Row) (id : SiteId) (words : List Placed) → length draft.scenario.sites < 512 → Meets (IsDeclared draft) (site_counted draft row id words)
 unfolding site_counted

@@ -1,8 +1,9 @@
 -- What a line that is without fault keeps to.
-use Rattle.std.proofs.Common.{◌≡◌, ℕ, ◌+◌, ◌*◌, ◌<◌, ◌≤◌, ◌==◌, ◌⊎◌, inl, inr, Bool, true, false, not, ◌&&◌, ◌||◌, List, [], ◌∷◌, length, refl, sym, ap, subst, ◌∙◌, cond, arith, nat_lt, nat_le, slice_index, slice_get, position, Option, Some, None}
+use Rattle.std.proofs.Common.{◌≡◌, ℕ, ◌+◌, ◌*◌, ◌<◌, ◌≤◌, ◌==◌, ◌⊎◌, inl, inr, Bool, true, false, not, ◌&&◌, ◌||◌, List, [], ◌∷◌, length, refl, sym, ap, subst, ◌∙◌, cond, arith, nat_eq, nat_lt, nat_le, slice_index, slice_get, position, Option, Some, None}
 use Rattle.std.specs.Prelude.{Result, Ok, Err}
 use Rattle.std.specs.List.{AllByRecursion, list_any, slice_split}
-use Rattle.std.proofs.lemmas.Bool.{and_parts}
+use Rattle.std.specs.Map.{lookup}
+use Rattle.std.specs.Cmp.Lexicographic.{pointwise}
 use Rattle.std.proofs.lemmas.Bool.Decides.{nat_tests}
 use Rattle.std.proofs.lemmas.Option.{slice_get_within}
 use Rattle.hex.specs.declared.error.FromHexError.{FromHexError}
@@ -24,6 +25,7 @@ use Rattle.scenario_defs.specs.Rules.{IsSource, IsGroup, IsEventOf}
 use Rattle.scenario_text.specs.declared.fault.TextFault.{TextFault}
 use Rattle.scenario_text.specs.declared.fault.Reason.{Reason}
 use Rattle.scenario_text.specs.declared.fault.Reason.TheVariants as reasons
+use Rattle.scenario_text.specs.declared.draft.Thing.{Thing}
 use Rattle.scenario_text.specs.declared.line.Line.{Line}
 use Rattle.scenario_text.specs.declared.line.Line.TheVariants as says
 use Rattle.scenario_text.specs.declared.words.Row.{Row}
@@ -36,10 +38,10 @@ use Rattle.scenario_text.specs.declared.event_lines.EventWord.TheVariants as eve
 use Rattle.scenario_text.specs.declared.event_lines.SendHead.{SendHead}
 use Rattle.scenario_text.specs.Drafted.{Drafted}
 use Rattle.scenario_text.specs.Words.{Placed, placed, words_of}
-use Rattle.scenario_text.specs.Forms.{◌>>=◌, or_fault, new_name, addr_at, node_addr_at, prefix_at, vrf_number_at, rd_at, rule_at, assigned_of, node_of, vrf_of, site_of, iface_of, named, edge_named, vrf_named, site_named, iface_named, edge_at, vrf_at, site_at, iface_at, source_at, group_at, targets_at, payload_at, is_unicast, is_group}
+use Rattle.scenario_text.specs.Forms.{◌>>=◌, or_fault, is_name, new_name, addr_at, node_addr_at, prefix_at, vrf_number_at, rd_at, rule_at, assigned_of, node_of, vrf_of, site_of, iface_of, named, edge_named, vrf_named, site_named, iface_named, edge_at, vrf_at, site_at, iface_at, source_at, group_at, targets_at, payload_at, is_unicast, is_group}
 use Rattle.scenario_text.specs.ScenarioGrammar.{edge_words, edge_counted, edge_line, vrf_head, vrf_tail, vrf_rules, vrf_words, vrf_counted, vrf_line, site_words, site_counted, site_line, iface_rules, iface_parts, iface_words, iface_counted, iface_line, events_line, scenario_word, scenario_words, scenario_line, overlaps, is_vpn_at, is_mixed, is_taken}
 use Rattle.scenario_text.specs.EventGrammar.{join_words, join_line, send_head, send_words, send_line, bare_line, event_word, event_words, event_line}
-use Rattle.scenario_text.specs.Grammar.{line_of, words_line, is_outside, is_blank, row_of}
+use Rattle.scenario_text.specs.Grammar.{line_of, words_line, is_outside, is_blank, row_of, IsFree, IsNew}
 use Rattle.scenario_text.proofs.WordsLemmas.{total, total-slice_split}
 
 -- Each value without fault has the property.
@@ -102,6 +104,14 @@ site_finds draft text = bind_finds _ (named draft text) _ (λ thing _. bind_find
 iface_finds : (draft : Drafted) (text : List ℕ) → Finds (λ id. id.0 < length draft.scenario.ifaces) (iface_named draft text)
 unfolding iface_named
 iface_finds draft text = bind_finds _ (named draft text) _ (λ thing _. bind_finds _ (iface_of thing) _ (λ id _. bind_finds _ (slice_get draft.scenario.ifaces id.0) _ (λ found e. some_finds _ id (slice_get_within draft.scenario.ifaces id.0 found e))))
+
+free_name : (draft : Drafted) (text : List ℕ) (e : TextFault) (o : Option Thing) → lookup (pointwise nat_eq text) draft.names ≡ o → Meets (IsFree draft) (elim o [ None ↦ Ok text | Some thing ↦ Err e ])
+free_name draft text e None h = ok_meets _ text h
+free_name draft text e (Some thing) h = err_meets _ e
+
+name_meets : (draft : Drafted) (row : Row) (word : Placed) → Meets (IsFree draft) (new_name draft row word)
+unfolding new_name
+name_meets draft row word = then_meets _ (is_name word.text) _ _ (λ b. free_name draft word.text _ (named draft word.text) (sym (rw b refl)))
 
 edge_meets : (draft : Drafted) (row : Row) (word : Placed) → Meets (λ id. id.0 < length draft.scenario.nodes) (edge_at draft row word)
 unfolding edge_at
@@ -181,10 +191,10 @@ pub record IfaceFacts (scenario : Scenario) (iface : Iface) : Type 0 where
 
 -- What a line of the scenario keeps to.
 abbrev pub IsDeclared : Drafted → Line → Type 0
-IsDeclared draft (says.Edge id node) = Unit {0}
-IsDeclared draft (says.Vrf id vrf) = (length draft.scenario.vrfs < 256) × VrfFacts draft.scenario vrf
-IsDeclared draft (says.Site id name prefix) = length draft.scenario.sites < 512
-IsDeclared draft (says.Iface id iface) = (length draft.scenario.ifaces < 1024) × IfaceFacts draft.scenario iface
+IsDeclared draft (says.Edge id node) = IsFree draft node.name
+IsDeclared draft (says.Vrf id vrf) = (length draft.scenario.vrfs < 256) × VrfFacts draft.scenario vrf × IsFree draft vrf.name
+IsDeclared draft (says.Site id name prefix) = (length draft.scenario.sites < 512) × IsFree draft name
+IsDeclared draft (says.Iface id iface) = (length draft.scenario.ifaces < 1024) × IfaceFacts draft.scenario iface × IsFree draft iface.name
 IsDeclared draft says.Events = length draft.scenario.nodes ≤ 1
 IsDeclared draft says.Blank = ⊥
 IsDeclared draft (says.Event event) = ⊥
@@ -199,7 +209,7 @@ below limit n h = grind (arith, nat_tests)
 
 edge_words_meets : (draft : Drafted) (row : Row) (id : NodeId) (a b : Placed) → Meets (IsDeclared draft) (edge_words draft row id a b)
 unfolding edge_words
-edge_words_meets draft row id a b = let nothing : Unit {0} = tt in bind_meets _ (new_name draft row a) _ (λ name _. bind_meets _ (node_addr_at draft row b) _ (λ addr _. ok_meets _ _ nothing))
+edge_words_meets draft row id a b = bind_meets _ (new_name draft row a) _ (λ name n. bind_meets _ (node_addr_at draft row b) _ (λ addr _. ok_meets _ _ ((name_meets draft row a).holds name n)))
 
 edge_counted_meets : (draft : Drafted) (row : Row) (id : NodeId) (words : List Placed) → Meets (IsDeclared draft) (edge_counted draft row id words)
 unfolding edge_counted
@@ -212,17 +222,19 @@ edge_line_meets : (draft : Drafted) (row : Row) (first : Placed) (rest : List Pl
 unfolding edge_line
 edge_line_meets draft row first rest = if_meets _ (nat_le 32 (length draft.scenario.nodes)) _ _ (λ _. edge_counted_meets draft row (record { 0 = length draft.scenario.nodes }) rest)
 
-vrf_head_meets : (draft : Drafted) (row : Row) (a b c : Placed) → Meets (λ head. head.edge.0 < length draft.scenario.nodes) (vrf_head draft row a b c)
+vrf_head_meets : (draft : Drafted) (row : Row) (a b c : Placed) → Meets (λ head. (head.edge.0 < length draft.scenario.nodes) × IsFree draft head.name) (vrf_head draft row a b c)
 unfolding vrf_head
-vrf_head_meets draft row a b c = bind_meets _ (new_name draft row a) _ (λ name _. bind_meets _ (edge_at draft row b) _ (λ edge e. bind_meets _ (vrf_number_at draft row edge c) _ (λ number _. ok_meets _ _ ((edge_meets draft row b).holds edge e))))
+vrf_head_meets draft row a b c =
+    bind_meets _ (new_name draft row a) _ (λ name n. bind_meets _ (edge_at draft row b) _ (λ edge e. bind_meets _ (vrf_number_at draft row edge c) _ (λ number _.
+    let facts : (edge.0 < length draft.scenario.nodes) × IsFree draft name = ((edge_meets draft row b).holds edge e, (name_meets draft row a).holds name n) in ok_meets _ _ facts)))
 
 vrf_tail_meets : (draft : Drafted) (row : Row) (edge : NodeId) (d e f : Placed) → Meets (λ tail. 0 < length tail.targets) (vrf_tail draft row edge d e f)
 unfolding vrf_tail
 vrf_tail_meets draft row edge d e f = bind_meets _ (rd_at draft row edge d) _ (λ rd _. bind_meets _ (targets_at row e) _ (λ targets h. bind_meets _ (rule_at row f) _ (λ rule _. ok_meets _ _ ((targets_meets row e).holds targets h))))
 
-vrf_rules_meets : (draft : Drafted) (row : Row) (id : VrfId) (e : Placed) (head : VrfHead) (tail : VrfTail) → length draft.scenario.vrfs < 256 → head.edge.0 < length draft.scenario.nodes → 0 < length tail.targets → Meets (IsDeclared draft) (vrf_rules draft row id e head tail)
+vrf_rules_meets : (draft : Drafted) (row : Row) (id : VrfId) (e : Placed) (head : VrfHead) (tail : VrfTail) → length draft.scenario.vrfs < 256 → (head.edge.0 < length draft.scenario.nodes) × IsFree draft head.name → 0 < length tail.targets → Meets (IsDeclared draft) (vrf_rules draft row id e head tail)
 unfolding vrf_rules
-vrf_rules_meets draft row id e head tail few edge some = if_meets _ (list_any (overlaps tail.targets) draft.scenario.vrfs) _ _ (λ _. if_meets _ (list_any (is_vpn_at head.edge tail.targets) draft.scenario.vrfs) _ _ (λ apart. let facts : VrfFacts draft.scenario (record { name = head.name; edge = head.edge; number = head.number; rd = tail.rd; targets = tail.targets; rule = tail.rule }) = record { edge = edge; some = some; apart = apart } in let all : (length draft.scenario.vrfs < 256) × VrfFacts draft.scenario (record { name = head.name; edge = head.edge; number = head.number; rd = tail.rd; targets = tail.targets; rule = tail.rule }) = (few, facts) in ok_meets _ _ all))
+vrf_rules_meets draft row id e head tail few known some = if_meets _ (list_any (overlaps tail.targets) draft.scenario.vrfs) _ _ (λ _. if_meets _ (list_any (is_vpn_at head.edge tail.targets) draft.scenario.vrfs) _ _ (λ apart. let facts : VrfFacts draft.scenario (record { name = head.name; edge = head.edge; number = head.number; rd = tail.rd; targets = tail.targets; rule = tail.rule }) = record { edge = known.0; some = some; apart = apart } in let all : (length draft.scenario.vrfs < 256) × VrfFacts draft.scenario (record { name = head.name; edge = head.edge; number = head.number; rd = tail.rd; targets = tail.targets; rule = tail.rule }) × IsFree draft head.name = (few, facts, known.1) in ok_meets _ _ all))
 
 vrf_words_meets : (draft : Drafted) (row : Row) (id : VrfId) (a b c d e f : Placed) → length draft.scenario.vrfs < 256 → Meets (IsDeclared draft) (vrf_words draft row id a b c d e f)
 unfolding vrf_words
@@ -246,7 +258,9 @@ vrf_line_meets draft row first rest = if_meets _ _ _ _ (λ few. vrf_counted_meet
 
 site_words_meets : (draft : Drafted) (row : Row) (id : SiteId) (a b : Placed) → length draft.scenario.sites < 512 → Meets (IsDeclared draft) (site_words draft row id a b)
 unfolding site_words
-site_words_meets draft row id a b few = bind_meets _ (new_name draft row a) _ (λ name _. bind_meets _ (prefix_at row b) _ (λ prefix _. ok_meets _ _ few))
+site_words_meets draft row id a b few =
+    bind_meets _ (new_name draft row a) _ (λ name n. bind_meets _ (prefix_at row b) _ (λ prefix _.
+    let facts : (length draft.scenario.sites < 512) × IsFree draft name = (few, (name_meets draft row a).holds name n) in ok_meets _ _ facts))
 
 site_counted_meets : (draft : Drafted) (row : Row) (id : SiteId) (words : List Placed) → length draft.scenario.sites < 512 → Meets (IsDeclared draft) (site_counted draft row id words)
 unfolding site_counted
@@ -259,19 +273,19 @@ site_line_meets : (draft : Drafted) (row : Row) (first : Placed) (rest : List Pl
 unfolding site_line
 site_line_meets draft row first rest = if_meets _ _ _ _ (λ few. site_counted_meets draft row _ rest (below 512 (length draft.scenario.sites) few))
 
-iface_rules_meets : (draft : Drafted) (row : Row) (id : IfaceId) (c : Placed) (iface : Iface) → length draft.scenario.ifaces < 1024 → iface.vrf.0 < length draft.scenario.vrfs → iface.site.0 < length draft.scenario.sites → Meets (IsDeclared draft) (iface_rules draft row id c iface)
+iface_rules_meets : (draft : Drafted) (row : Row) (id : IfaceId) (c : Placed) (iface : Iface) → length draft.scenario.ifaces < 1024 → iface.vrf.0 < length draft.scenario.vrfs → iface.site.0 < length draft.scenario.sites → IsFree draft iface.name → Meets (IsDeclared draft) (iface_rules draft row id c iface)
 unfolding iface_rules
-iface_rules_meets draft row id c iface few vrf site = if_meets _ (list_any (is_mixed draft.scenario iface) draft.scenario.ifaces) _ _ (λ together. if_meets _ (list_any (is_taken draft.scenario iface) draft.scenario.ifaces) _ _ (λ _. let facts : (length draft.scenario.ifaces < 1024) × IfaceFacts draft.scenario iface = (few, record { vrf = vrf; site = site; together = together }) in ok_meets _ _ facts))
+iface_rules_meets draft row id c iface few vrf site free = if_meets _ (list_any (is_mixed draft.scenario iface) draft.scenario.ifaces) _ _ (λ together. if_meets _ (list_any (is_taken draft.scenario iface) draft.scenario.ifaces) _ _ (λ _. let facts : (length draft.scenario.ifaces < 1024) × IfaceFacts draft.scenario iface × IsFree draft iface.name = (few, record { vrf = vrf; site = site; together = together }, free) in ok_meets _ _ facts))
 
-iface_parts_meets : (draft : Drafted) (row : Row) (a b c d : Placed) → Meets (λ iface. (iface.vrf.0 < length draft.scenario.vrfs) × (iface.site.0 < length draft.scenario.sites)) (iface_parts draft row a b c d)
+iface_parts_meets : (draft : Drafted) (row : Row) (a b c d : Placed) → Meets (λ iface. (iface.vrf.0 < length draft.scenario.vrfs) × (iface.site.0 < length draft.scenario.sites) × IsFree draft iface.name) (iface_parts draft row a b c d)
 unfolding iface_parts
 iface_parts_meets draft row a b c d =
-    bind_meets _ (new_name draft row a) _ (λ name _. bind_meets _ (vrf_at draft row b) _ (λ vrf v. bind_meets _ (site_at draft row c) _ (λ site s. bind_meets _ (addr_at row d) _ (λ addr _. let facts : (vrf.0 < length draft.scenario.vrfs) × (site.0 < length draft.scenario.sites) = ((vrf_meets draft row b).holds vrf v, (site_meets draft row c).holds site s) in ok_meets _ _ facts))))
+    bind_meets _ (new_name draft row a) _ (λ name n. bind_meets _ (vrf_at draft row b) _ (λ vrf v. bind_meets _ (site_at draft row c) _ (λ site s. bind_meets _ (addr_at row d) _ (λ addr _. let facts : (vrf.0 < length draft.scenario.vrfs) × (site.0 < length draft.scenario.sites) × IsFree draft name = ((vrf_meets draft row b).holds vrf v, (site_meets draft row c).holds site s, (name_meets draft row a).holds name n) in ok_meets _ _ facts))))
 
 iface_words_meets : (draft : Drafted) (row : Row) (id : IfaceId) (a b c d : Placed) → length draft.scenario.ifaces < 1024 → Meets (IsDeclared draft) (iface_words draft row id a b c d)
 unfolding iface_words
 iface_words_meets draft row id a b c d few =
-    bind_meets _ (iface_parts draft row a b c d) _ (λ iface i. let known = (iface_parts_meets draft row a b c d).holds iface i in iface_rules_meets draft row id c iface few known.0 known.1)
+    bind_meets _ (iface_parts draft row a b c d) _ (λ iface i. let known = (iface_parts_meets draft row a b c d).holds iface i in iface_rules_meets draft row id c iface few known.0 known.1 known.2)
 
 iface_counted_meets : (draft : Drafted) (row : Row) (id : IfaceId) (words : List Placed) → length draft.scenario.ifaces < 1024 → Meets (IsDeclared draft) (iface_counted draft row id words)
 unfolding iface_counted
@@ -402,3 +416,30 @@ pub line_meets : (draft : Drafted) (number : ℕ) (octets : List ℕ) → Meets 
 unfolding line_of
 line_meets draft number octets =
     blank_meets draft _ _ (if_meets _ _ _ _ (λ short. outside_meets _ _ _ _ (words_line_meets draft (row_of number octets) (words_of octets) (words_short octets (at_most_line (length octets) short)))))
+
+declared_new : (draft : Drafted) (said : Line) → IsDeclared draft said → IsNew draft said
+declared_new draft (says.Edge id node) h = h
+declared_new draft (says.Vrf id vrf) h = h.2
+declared_new draft (says.Site id name prefix) h = h.1
+declared_new draft (says.Iface id iface) h = h.2
+declared_new draft says.Events h = tt
+declared_new draft says.Blank h = tt
+declared_new draft (says.Event event) h = tt
+
+told_new : (draft : Drafted) (said : Line) → IsTold draft said → IsNew draft said
+told_new draft (says.Event event) h = tt
+told_new draft says.Events h = absurd h
+told_new draft says.Blank h = absurd h
+told_new draft (says.Edge id node) h = absurd h
+told_new draft (says.Vrf id vrf) h = absurd h
+told_new draft (says.Site id name prefix) h = absurd h
+told_new draft (says.Iface id iface) h = absurd h
+
+said_new : (draft : Drafted) (said : Line) → IsSaid draft said → IsNew draft said
+said_new draft said (inl blank) = subst (λ (x : Line). IsNew draft x) (sym blank) tt
+said_new draft said (inr (inl declared)) = declared_new draft said declared.1
+said_new draft said (inr (inr told)) = told_new draft said told.1.1
+
+-- A line declares a new name.
+pub line_new : (draft : Drafted) (number : ℕ) (octets : List ℕ) (said : Line) → line_of draft number octets ≡ Ok said → IsNew draft said
+line_new draft number octets said e = said_new draft said ((line_meets draft number octets).holds said e)

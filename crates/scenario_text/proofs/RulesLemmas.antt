@@ -232,7 +232,7 @@ quiet_holds draft new number h b same events rules =
 declared_holds : (draft : Drafted) (number : ℕ) (said : Line) → Holds draft number → draft.begun ≡ false → IsDeclared draft said → Holds (added draft number said) (number + 1)
 declared_holds draft number (says.Edge id node) h b f = quiet_holds draft _ number h b b refl (with_node draft.scenario node h.rules)
 declared_holds draft number (says.Vrf id vrf) h b f = quiet_holds draft _ number h b b refl (with_vrf draft.scenario vrf f.0 f.1 h.rules)
-declared_holds draft number (says.Site id name prefix) h b f = quiet_holds draft _ number h b b refl (with_site draft.scenario (record { name = name; prefixes = prefix ∷ [] }) f h.rules)
+declared_holds draft number (says.Site id name prefix) h b f = quiet_holds draft _ number h b b refl (with_site draft.scenario (record { name = name; prefixes = prefix ∷ [] }) f.0 h.rules)
 declared_holds draft number (says.Iface id iface) h b f = quiet_holds draft _ number h b b refl (with_iface draft.scenario iface f.0 f.1 h.rules)
 declared_holds draft number says.Events h b f = record {
   rules = h.rules;

@@ -1,9 +1,9 @@
 -- The grammar of a text: what each line says, given what the lines before it declared, or its first fault.
-use Rattle.std.specs.Prelude.{ℕ, ◌+◌, ◌==◌, ◌||◌, Bool, true, false, nat_eq, nat_lt, List, [], ◌∷◌, ◌++◌, length, Option, None, Some, Result, Ok, Err, if◌then◌else◌, position}
+use Rattle.std.specs.Prelude.{◌≡◌, ℕ, ◌+◌, ◌==◌, ◌||◌, Bool, true, false, nat_eq, nat_lt, List, [], ◌∷◌, ◌++◌, length, Option, None, Some, Result, Ok, Err, if◌then◌else◌, position}
 use Rattle.std.specs.List.{list_any, list_all}
+use Rattle.std.specs.Map.{lookup}
 use Rattle.std.specs.Str.Lines.{lines}
 use Rattle.std.specs.Cmp.Lexicographic.{pointwise}
-use Rattle.indexmap.specs.IndexMap.{insert_entry}
 use Rattle.mv_base.specs.declared.ids.NodeId.{NodeId}
 use Rattle.scenario_defs.specs.declared.event.Script.{Script}
 use Rattle.scenario_text.specs.declared.draft.Thing.{Thing}
@@ -47,17 +47,25 @@ line_of draft number octets =
       | None ↦ words_line draft (row_of number octets) (words_of octets)
     ]
 
--- the names, of which that one stands for the thing
-abbrev pub with_name : List (List ℕ × Thing) → List ℕ → Thing → List (List ℕ × Thing)
-with_name names name thing = insert_entry (pointwise nat_eq) names name thing
+-- No thing has the name.
+abbrev pub IsFree : Drafted → List ℕ → Type 0
+IsFree draft name = lookup (pointwise nat_eq name) draft.names ≡ None
+
+-- The name that a line declares is new.
+abbrev pub IsNew : Drafted → Line → Type 0
+IsNew draft (says.Edge id node) = IsFree draft node.name
+IsNew draft (says.Vrf id vrf) = IsFree draft vrf.name
+IsNew draft (says.Site id name prefix) = IsFree draft name
+IsNew draft (says.Iface id iface) = IsFree draft iface.name
+IsNew draft other = Unit {0}
 
 -- what is declared, with what the line of that number says
 abbrev pub added : Drafted → ℕ → Line → Drafted
 added draft number says.Blank = draft
-added draft number (says.Edge id node) = record draft { scenario = record draft.scenario { nodes = draft.scenario.nodes ++ node ∷ [] }; names = with_name draft.names node.name (things.Node id) }
-added draft number (says.Vrf id vrf) = record draft { scenario = record draft.scenario { vrfs = draft.scenario.vrfs ++ vrf ∷ [] }; names = with_name draft.names vrf.name (things.Vrf id) }
-added draft number (says.Site id name prefix) = record draft { scenario = record draft.scenario { sites = draft.scenario.sites ++ (record { name = name; prefixes = prefix ∷ [] }) ∷ [] }; names = with_name draft.names name (things.Site id) }
-added draft number (says.Iface id iface) = record draft { scenario = record draft.scenario { ifaces = draft.scenario.ifaces ++ iface ∷ [] }; names = with_name draft.names iface.name (things.Iface id) }
+added draft number (says.Edge id node) = record draft { scenario = record draft.scenario { nodes = draft.scenario.nodes ++ node ∷ [] }; names = draft.names ++ (node.name, (things.Node id)) ∷ [] }
+added draft number (says.Vrf id vrf) = record draft { scenario = record draft.scenario { vrfs = draft.scenario.vrfs ++ vrf ∷ [] }; names = draft.names ++ (vrf.name, (things.Vrf id)) ∷ [] }
+added draft number (says.Site id name prefix) = record draft { scenario = record draft.scenario { sites = draft.scenario.sites ++ (record { name = name; prefixes = prefix ∷ [] }) ∷ [] }; names = draft.names ++ (name, (things.Site id)) ∷ [] }
+added draft number (says.Iface id iface) = record draft { scenario = record draft.scenario { ifaces = draft.scenario.ifaces ++ iface ∷ [] }; names = draft.names ++ (iface.name, (things.Iface id)) ∷ [] }
 added draft number says.Events = record draft { begun = true }
 added draft number (says.Event event) = record draft { events = draft.events ++ (record { line = number; event = event }) ∷ [] }
 

@@ -1,9 +1,9 @@
 //! What the lines so far declared.
-ghost use Rattle.std.specs.Prelude.{◌≡◌, length, nat_eq, OnOk, IfOk};
+ghost use Rattle.std.specs.Prelude.{◌≡◌, ◌++◌, ◌∷◌, [], length, nat_eq, OnOk, None};
 ghost use Rattle.std.specs.Map.{lookup};
 ghost use Rattle.std.specs.Cmp.Lexicographic.{pointwise};
 ghost use Rattle.scenario_text.specs.Forms.{named, node_of, vrf_of, site_of, iface_of};
-ghost use Rattle.scenario_text.specs.Grammar.{added, empty_draft};
+ghost use Rattle.scenario_text.specs.Grammar.{added, empty_draft, IsNew};
 
 use crate::forms::is_name;
 use crate::{Events, Line, Name, Scenario, Script, Site, Timed};
@@ -57,6 +57,15 @@ impl Thing {
             _ => None,
         }
     }
+}
+
+/// Adds a new name.
+fn declare(names: &mut IndexMap<Name, Thing>, name: Name, thing: Thing) -> Result<(), NoMemory>
+    requires { lookup (pointwise nat_eq name) names.old.entries ≡ None }
+    ensures { OnOk result (names.new.entries ≡ names.old.entries ++ (name, thing) ∷ []) }
+{
+    names.insert(name, thing)?;
+    Ok(())
 }
 
 /// The script so far, with the names that are declared.
@@ -139,26 +148,27 @@ impl Draft {
 
     /// Adds what a line says.
     pub fn add(&mut self, line: u32, said: Line) -> Result<(), NoMemory>
+        requires { IsNew self.old said }
         ensures { OnOk result (self.new ≡ added self.old line said) }
     {
         match said {
             Line::Blank => {}
             Line::Edge { id, node } => {
-                self.names.insert(node.name, Thing::Node(id))?;
+                declare(&mut self.names, node.name, Thing::Node(id))?;
                 self.scenario.nodes.push(node)?;
             }
             Line::Vrf { id, vrf } => {
-                self.names.insert(vrf.name, Thing::Vrf(id))?;
+                declare(&mut self.names, vrf.name, Thing::Vrf(id))?;
                 self.scenario.vrfs.push(vrf)?;
             }
             Line::Site { id, name, prefix } => {
-                self.names.insert(name, Thing::Site(id))?;
+                declare(&mut self.names, name, Thing::Site(id))?;
                 let mut prefixes = Seq::new(self.scenario.sites.alloc());
                 prefixes.push(prefix)?;
                 self.scenario.sites.push(Site { name, prefixes })?;
             }
             Line::Iface { id, iface } => {
-                self.names.insert(iface.name, Thing::Iface(id))?;
+                declare(&mut self.names, iface.name, Thing::Iface(id))?;
                 self.scenario.ifaces.push(iface)?;
             }
             Line::Events => self.begun = true,

@@ -11,6 +11,8 @@ mod lists;
 mod pieces;
 mod reader;
 mod scenario_lines;
+#[cfg(test)]
+mod tests;
 mod vrf_lines;
 mod words;
 mod writer;

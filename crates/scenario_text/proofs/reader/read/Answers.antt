@@ -1,4 +1,5 @@
 use Rattle.std.proofs.Common.{rules, arith, ◌≡◌, ◌≤◌, ◌==◌, true, length, sym}
+use Rattle.scenario_text.proofs.LineFacts.{line_new}
 use Rattle.scenario_text.proofs.RulesLemmas.{end_rules}
 use Rattle.scenario_text.proofs.reader.read.Goals as goal
 
@@ -8,3 +9,6 @@ returns-clause-rules c =
     let done : (length c.lines.rest.now == 0) ≡ true = sym c.lines-test.ensures in
     let begun : c.lines.draft.begun ≡ true = sym c.if-not-begun.ensures in
     rw c.into_script.ensures (end_rules c.args.text.now c.lines.rest.now c.lines.draft c.lines.number short c.lines.invariant.same done begun)
+
+pub add-requires : goal.add-requires
+add-requires c = line_new c.lines.draft c.lines.number c.split_line.result.0.now c.in_ok-said.said c.in_ok-said.ensures

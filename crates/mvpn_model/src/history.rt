@@ -7,9 +7,9 @@ ghost use Rattle.scenario_defs.specs.Vpn.{ifaces_where};
 ghost use Rattle.mvpn_model.specs.Past.{past_of, is_accepted, is_join, asks, receives, receivers, is_home};
 
 use crate::routing::longest_route;
-use crate::vpn::{same_vpn, vrf_of_site};
+use crate::vpn::vrf_of_site;
 use mv_base::{Addr, IfaceId, NoMemory, Seq, SiteId, VrfId};
-use scenario_defs::{Event, Iface, IfaceList, JoinEntry, Scenario, Script, Timed};
+use scenario_defs::{Event, Iface, IfaceList, JoinEntry, Scenario, Script, Timed, same_vpn};
 use std::alloc::Global;
 
 /// Numbers of lines.

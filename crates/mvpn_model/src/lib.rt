@@ -8,4 +8,4 @@ mod vpn;
 
 pub use history::{History, LineNumbers, asks, home, receivers};
 pub use routing::{home_among, routes};
-pub use vpn::{is_attached, same_vpn, vrf_of_site};
+pub use vpn::{is_attached, vrf_of_site};

@@ -1,27 +1,9 @@
 //! Which VRFs and sites belong together.
 ghost use Rattle.std.specs.Prelude.{◌≡◌, ◌==◌, ◌&&◌, find, option_map, option_copied};
-ghost use Rattle.scenario_defs.specs.Vpn.{targets_of, same_vpn, is_attached, vrf_of_site, is_of_site};
+ghost use Rattle.scenario_defs.specs.Vpn.{same_vpn, is_attached, vrf_of_site, is_of_site};
 
 use mv_base::{SiteId, VrfId};
-use route_targets::{Target, same_members};
-use scenario_defs::{Iface, Scenario};
-
-/// The Route Targets of a VRF, none where there is no such VRF.
-fn targets_of(scenario: &Scenario, vrf: VrfId) -> &[Target]
-    ensures { result.now ≡ targets_of scenario.now vrf }
-{
-    match scenario.vrfs.as_slice().get(vrf.0 as usize) {
-        Some(found) => found.targets.as_slice(),
-        None => &[],
-    }
-}
-
-/// Whether the VRFs are of one VPN: their target sets are equal.
-pub fn same_vpn(scenario: &Scenario, a: VrfId, b: VrfId) -> bool
-    ensures { result ≡ same_vpn scenario.now a b }
-{
-    same_members(targets_of(scenario, a), targets_of(scenario, b))
-}
+use scenario_defs::{Iface, Scenario, same_vpn};
 
 /// Whether the interface belongs to the site, and its VRF to the VRF's VPN.
 fn attaches(scenario: &Scenario, vrf: VrfId, site: SiteId, iface: &Iface) -> bool

@@ -4,6 +4,7 @@
 mod event;
 mod report;
 mod scenario;
+mod vpn;
 
 pub use event::{Event, Events, JoinEntry, Kind, Script, Timed};
 pub use report::{FaultWord, Lines, Refusal, ReportLine};
@@ -11,3 +12,4 @@ pub use scenario::{
     Iface, IfaceList, Ifaces, Links, NAME_LIMIT, Name, Node, Nodes, Prefixes, Route, Scenario,
     Site, Sites, Vrf, Vrfs,
 };
+pub use vpn::same_vpn;

@@ -1,46 +1,12 @@
 //! Looks through the lists of a scenario.
 ghost use Rattle.std.specs.Prelude.{◌≡◌};
-ghost use Rattle.std.specs.List.{list_all, list_any};
-ghost use Rattle.route_targets.specs.Targets.{has, same, same_target};
-ghost use Rattle.scenario_defs.specs.Vpn.{targets_of, same_vpn};
+ghost use Rattle.std.specs.List.{list_any};
 ghost use Rattle.scenario_text.specs.ScenarioGrammar.{overlaps, is_vpn_at, prefixes_of, same_prefix, share_prefix, is_mixed, is_taken};
 
 use crate::{Iface, Scenario, Vrf};
-use mv_base::{NodeId, Prefix, SiteId, VrfId};
-use route_targets::{Target, Targets};
-
-fn has(targets: &[Target], target: Target) -> bool
-    ensures { result ≡ has targets.now target }
-{
-    targets.iter().any(|own| target.same(*own))
-}
-
-fn all_in(a: &[Target], b: &[Target]) -> bool
-    ensures { result ≡ list_all (has b.now) a.now }
-{
-    a.iter().all(|target| has(b, *target))
-}
-
-fn same(a: &[Target], b: &[Target]) -> bool
-    ensures { result ≡ same a.now b.now }
-{
-    all_in(a, b) && all_in(b, a)
-}
-
-fn targets_of(scenario: &Scenario, vrf: VrfId) -> &[Target]
-    ensures { result.now ≡ targets_of scenario.now vrf }
-{
-    match scenario.vrfs.as_slice().get(usize::from(vrf.0)) {
-        Some(found) => found.targets.as_slice(),
-        None => &[],
-    }
-}
-
-fn same_vpn(scenario: &Scenario, a: VrfId, b: VrfId) -> bool
-    ensures { result ≡ same_vpn scenario.now a b }
-{
-    same(targets_of(scenario, a), targets_of(scenario, b))
-}
+use mv_base::{NodeId, Prefix, SiteId};
+use route_targets::Targets;
+use scenario_defs::same_vpn;
 
 fn overlaps(targets: &Targets, vrf: &Vrf) -> bool
     ensures { result ≡ overlaps targets.now vrf.now }

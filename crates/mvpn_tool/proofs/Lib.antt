@@ -1,2 +1,4 @@
 pub mod EnteringLemmas
 pub mod FlowsLemmas
+pub mod OutcomeLemmas
+pub mod EndLemmas

@@ -1,3 +1,5 @@
 pub mod EnteringLemmas
 pub mod FlowsLemmas
 pub mod WorldLemmas
+pub mod OutcomeLemmas
+pub mod EndLemmas

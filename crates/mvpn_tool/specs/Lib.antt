@@ -2,3 +2,5 @@ pub mod Flows
 pub mod Tables
 pub mod WorldState
 pub mod Entering
+pub mod Input
+pub mod Outcome

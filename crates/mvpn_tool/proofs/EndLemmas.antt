@@ -1,0 +1,92 @@
+-- Laws of how a replay ends.
+use Rattle.std.proofs.Common.{◌≡◌, ◌≢◌, ℕ, ◌<◌, ◌⊎◌, List, ◌++◌, length, drop, cond, refl, inl, inr, sym, ap, subst, ◌∙◌, arith, length-append}
+use Rattle.std.proofs.lemmas.List.{append-nil, drop_all}
+use Rattle.std.proofs.lemmas.Bool.{cases_lt, lt-ltb}
+use Rattle.std.proofs.Math.Seq.{drop-append_seam}
+use Rattle.std.specs.Prelude.{Option, None, Some, Result, Ok, Err, IfErr, nat_lt, Bool, true}
+use Rattle.mv_io.specs.Octets.{Appended, AppendedPart}
+use Rattle.scenario_defs.specs.declared.event.Script.{Script}
+use Rattle.scenario_defs.specs.Rules.{ScriptRules}
+use Rattle.scenario_text.specs.FaultText.{fault_text}
+use Rattle.scenario_text.specs.Grammar.{script_of}
+use Rattle.scenario_text.specs.declared.fault.TextFault.{TextFault}
+use Rattle.net_laws.proofs.SafeLemmas.{run_is_safe}
+use Rattle.net_laws.proofs.OnceLemmas.{run_is_once}
+use Rattle.mvpn_tool.specs.declared.stop.Stop.{Stop}
+use Rattle.mvpn_tool.specs.declared.stop.Stop.TheVariants as stops
+use Rattle.mvpn_tool.specs.Input.{IsInput, IsReadUpTo, Taken}
+use Rattle.mvpn_tool.specs.Outcome.{ReplayEnds, Replays, Takes}
+use Rattle.mvpn_tool.specs.WorldState.{WorldState}
+
+-- Some input that the source may have had says what these octets say.
+pub record SaysAlike (left : Option (List ℕ)) (octets : List ℕ) : Type 0 where
+  pub input : List ℕ
+  pub is_input : IsInput left input
+  pub same : script_of input ≡ script_of octets
+
+both_true : {A : Type 0} (b c : Bool) (x y z : A) → b ≡ true → c ≡ true → cond b x y ≡ cond c x z
+both_true b c x y z h k = rw (h, k) refl
+
+-- What is longer than the limit says that alone.
+long : (octets : List ℕ) → 16777216 < length octets → (more : List ℕ) → script_of (octets ++ more) ≡ script_of octets
+long octets h more =
+    both_true (nat_lt 16777216 (length (octets ++ more))) (nat_lt 16777216 (length octets)) _ _ _ (lt-ltb 16777216 (length (octets ++ more)) (omega (arith, length-append octets more, h))) (lt-ltb 16777216 (length octets) h)
+
+-- What was read says what the whole input says.
+pub says-alike : (left new : Option (List ℕ)) (octets : List ℕ) → IsReadUpTo 16777216 left new octets → SaysAlike left octets
+says-alike None new octets h = record { input = octets; is_input = tt; same = refl }
+says-alike (Some xs) None octets h = absurd h.taken
+says-alike (Some xs) (Some ys) octets h = elim (cases_lt 16777216 (length octets)) [
+  | inl lt ↦ record { input = xs; is_input = refl; same = rw h.taken (long octets lt ys) }
+  | inr le ↦ record { input = octets; is_input = rw h.taken (rw (h.whole le) (append-nil octets)); same = refl }
+]
+
+-- What was read is the input, or its octets up to one past the limit.
+pub read-taken : (left new : Option (List ℕ)) (octets : List ℕ) → IsReadUpTo 16777216 left new octets → Taken left new
+read-taken None new octets h = tt
+read-taken (Some xs) None octets h = tt
+read-taken (Some xs) (Some ys) octets h = elim (cases_lt 16777216 (length octets)) [
+  | inl lt ↦ let e : length octets ≡ 16777217 = omega (arith, lt, h.within) in
+      rw h.taken (subst (λ (n : ℕ). ys ≡ drop n (octets ++ ys)) e (sym (drop-append_seam octets ys)))
+  | inr le ↦ h.whole le ∙ sym (drop_all 16777217 xs (omega (arith, ap length h.taken, length-append octets ys, ap length (h.whole le), le)))
+]
+
+-- The input was taken, however the replay ended.
+pub takes : (left new : Option (List ℕ)) (result : Result WorldState Stop) → Taken left new → Takes result left new
+takes left new (Ok world) t = t
+takes left new (Err stops.Text) t = t
+takes left new (Err stops.Source) t = tt
+takes left new (Err stops.Sink) t = t
+takes left new (Err stops.Memory) t = tt
+
+-- The text had a fault.
+pub ends-fault : (left old new : Option (List ℕ)) (octets : List ℕ) (fault : TextFault) (stop : Stop) → SaysAlike left octets → script_of octets ≡ Err fault →
+    (stop ≡ stops.Text → Appended old new (fault_text fault)) → (stop ≡ stops.Text) ⊎ AppendedPart old new (fault_text fault) → stop ≢ stops.Source → ReplayEnds left (Err stop) old new
+ends-fault left old new octets fault stops.Text a e w p n = record { input = a.input; is_input = a.is_input; fault = fault; said = a.same ∙ e; text = w refl }
+ends-fault left old new octets fault stops.Source a e w p n = absurd (n refl)
+ends-fault left old new octets fault stops.Sink a e w (inl t) n = absurd cc
+ends-fault left old new octets fault stops.Sink a e w (inr p) n = record { input = a.input; is_input = a.is_input; part = rw (a.same, e) p }
+ends-fault left old new octets fault stops.Memory a e w (inl t) n = absurd cc
+ends-fault left old new octets fault stops.Memory a e w (inr p) n = inr (record { input = a.input; is_input = a.is_input; part = rw (a.same, e) p })
+
+-- The script was replayed.
+pub ends-script : (left old new : Option (List ℕ)) (octets : List ℕ) (script : Script) (result : Result WorldState Stop) → ScriptRules script → SaysAlike left octets → script_of octets ≡ Ok script →
+    Replays script result old new → IfErr result (λ e. (e ≡ stops.Sink) ⊎ (e ≡ stops.Memory)) → ReplayEnds left result old new
+ends-script left old new octets script (Ok world) rules a e r o = record {
+  input = a.input;
+  is_input = a.is_input;
+  script = script;
+  said = a.same ∙ e;
+  report = r.report;
+  run = r.run;
+  running = r.running;
+  text = r.text;
+  safe = run_is_safe script r.report world.network rules r.run;
+  once = run_is_once script r.report world.network rules r.run;
+}
+ends-script left old new octets script (Err stops.Sink) rules a e r o = record { input = a.input; is_input = a.is_input; part = rw (a.same, e) r }
+ends-script left old new octets script (Err stops.Memory) rules a e r o = inr (record { input = a.input; is_input = a.is_input; part = rw (a.same, e) r })
+ends-script left old new octets script (Err stops.Text) rules a e r (inl t) = absurd cc
+ends-script left old new octets script (Err stops.Text) rules a e r (inr t) = absurd cc
+ends-script left old new octets script (Err stops.Source) rules a e r (inl t) = absurd cc
+ends-script left old new octets script (Err stops.Source) rules a e r (inr t) = absurd cc

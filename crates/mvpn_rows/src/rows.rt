@@ -6,12 +6,15 @@ use std::alloc::Global;
 use std::test::Fail;
 
 /// One edge with one VPN of two sites.
-const ONE_VPN: &str = "edge E1 192.0.2.1\nvrf V1 E1 1 65000:1 65000:1 highest\nsite X 10.1.0.0/16\nsite Y 10.2.0.0/16\niface X1 V1 X 10.1.0.1\niface Y1 V1 Y 10.2.0.1\n";
+const ONE_VPN: &str =
+    "edge E1 192.0.2.1\nvrf V1 E1 1 65000:1 65000:1 highest\nsite X 10.1.0.0/16\nsite Y 10.2.0.0/16\niface X1 V1 X 10.1.0.1\niface Y1 V1 Y 10.2.0.1\n";
 
 /// A second VPN at the edge, with the addresses of the first.
-const SECOND_VPN: &str = "vrf V2 E1 2 65000:2 65000:2 highest\nsite P 10.1.0.0/16\nsite Q 10.2.0.0/16\niface P1 V2 P 10.1.0.1\niface Q1 V2 Q 10.2.0.1\n";
+const SECOND_VPN: &str =
+    "vrf V2 E1 2 65000:2 65000:2 highest\nsite P 10.1.0.0/16\nsite Q 10.2.0.0/16\niface P1 V2 P 10.1.0.1\niface Q1 V2 Q 10.2.0.1\n";
 
-const USAGE: &str = "usage: mvpn replay [--wire] | decode nlri|pmsi|fec|bgp|ldp|pim | make NUMBER | sweep NUMBER\n";
+const USAGE: &str =
+    "usage: mvpn replay [--wire] | decode nlri|pmsi|fec|bgp|ldp|pim | make NUMBER | sweep NUMBER\n";
 
 /// The packet of the payload `aabb` from 10.1.0.9 to 232.1.1.1.
 const OUT_1: &str = "out 1 Y1 4500001600000000401187cb0a010009e8010101aabb\n";
@@ -51,7 +54,13 @@ fn outcome(alloc: Global, words: &[&str], input: &[&str]) -> Result<(u8, Bytes),
 #[test]
 fn scenarios_are_replayed(rt: HostRuntime) -> Result<(), Fail> {
     let rows: [(&str, &str, &str, &str, &str); 5] = [
-        (ONE_VPN, "", "join Y1 10.1.0.9 232.1.1.1\nsend X 10.1.0.9 232.1.1.1 aabb\ndrain\nstate\n", OUT_1, CALM),
+        (
+            ONE_VPN,
+            "",
+            "join Y1 10.1.0.9 232.1.1.1\nsend X 10.1.0.9 232.1.1.1 aabb\ndrain\nstate\n",
+            OUT_1,
+            CALM,
+        ),
         (
             ONE_VPN,
             SECOND_VPN,
@@ -59,12 +68,34 @@ fn scenarios_are_replayed(rt: HostRuntime) -> Result<(), Fail> {
             OUT_1,
             CALM,
         ),
-        (ONE_VPN, "", "send Y 10.9.9.9 232.1.1.1 -\nstate\n", "", CALM),
-        (ONE_VPN, "", "join Y1 10.1.0.9 232.1.1.1\nsend Y 10.1.0.9 232.1.1.1 aabb\nstate\n", "", CALM),
-        (ONE_VPN, "\r\n# no event\r\n   \n", "join  Y1  10.1.0.9  232.1.1.1\r\n\nsend X 10.1.0.9 232.1.1.1 AABB", OUT_1, ""),
+        (
+            ONE_VPN,
+            "",
+            "send Y 10.9.9.9 232.1.1.1 -\nstate\n",
+            "",
+            CALM,
+        ),
+        (
+            ONE_VPN,
+            "",
+            "join Y1 10.1.0.9 232.1.1.1\nsend Y 10.1.0.9 232.1.1.1 aabb\nstate\n",
+            "",
+            CALM,
+        ),
+        (
+            ONE_VPN,
+            "\r\n# no event\r\n   \n",
+            "join  Y1  10.1.0.9  232.1.1.1\r\n\nsend X 10.1.0.9 232.1.1.1 AABB",
+            OUT_1,
+            "",
+        ),
     ];
     for (first, second, events, outs, state) in rows {
-        let (status, written) = outcome(rt.alloc(), &["replay"], &[first, second, "events\n", events])?;
+        let (status, written) = outcome(
+            rt.alloc(),
+            &["replay"],
+            &[first, second, "events\n", events],
+        )?;
         assert_eq!(rt; status, 0, "{events}");
         let expected = octets_of(rt.alloc(), &[outs, state])?;
         assert_eq!(rt; written.as_slice(), expected.as_slice(), "{events}");
@@ -76,23 +107,71 @@ fn scenarios_are_replayed(rt: HostRuntime) -> Result<(), Fail> {
 fn text_faults_are_told(rt: HostRuntime) -> Result<(), Fail> {
     let rows: [(&str, &str, &str); 18] = [
         ("", "", "fault 1:1 events\n"),
-        ("edge E1 192.0.2.1\n", "vrf V1 E1 4096 65000:1 65000:1 highest\n", "fault 2:11 number\n"),
-        ("edge E1 192.0.2.1\n", "vrf V1 E1 1 65000:1 65000:1,65000:2 highest\n", "fault 2:1 later\n"),
-        ("edge E1 192.0.2.1\n", "core C 192.0.2.9\n", "fault 2:1 later\n"),
-        ("edge E1 192.0.2.1\n", "edge E2 192.0.2.2\nevents\n", "fault 3:1 apart\n"),
-        ("edge E1 192.0.2.1\n", "edge E1 192.0.2.2\n", "fault 2:6 again\n"),
-        ("edge E1 192.0.2.1\n", "edge E2 192.0.2.1\n", "fault 2:9 again\n"),
+        (
+            "edge E1 192.0.2.1\n",
+            "vrf V1 E1 4096 65000:1 65000:1 highest\n",
+            "fault 2:11 number\n",
+        ),
+        (
+            "edge E1 192.0.2.1\n",
+            "vrf V1 E1 1 65000:1 65000:1,65000:2 highest\n",
+            "fault 2:1 later\n",
+        ),
+        (
+            "edge E1 192.0.2.1\n",
+            "core C 192.0.2.9\n",
+            "fault 2:1 later\n",
+        ),
+        (
+            "edge E1 192.0.2.1\n",
+            "edge E2 192.0.2.2\nevents\n",
+            "fault 3:1 apart\n",
+        ),
+        (
+            "edge E1 192.0.2.1\n",
+            "edge E1 192.0.2.2\n",
+            "fault 2:6 again\n",
+        ),
+        (
+            "edge E1 192.0.2.1\n",
+            "edge E2 192.0.2.1\n",
+            "fault 2:9 again\n",
+        ),
         ("edge E1 224.0.2.1\n", "", "fault 1:9 address\n"),
         ("edge 1E 192.0.2.1\n", "", "fault 1:6 name\n"),
         ("edge E1\n", "", "fault 1:8 count\n"),
         ("join Y1 10.1.0.9 232.1.1.1\n", "", "fault 1:1 word\n"),
         ("edge\tE1 192.0.2.1\n", "", "fault 1:5 byte\n"),
-        (ONE_VPN, "vrf V2 E1 2 65000:2 65000:1 highest\n", "fault 7:21 vpn\n"),
-        (ONE_VPN, "site Z 10.1.0.0/16\niface Z1 V1 Z 10.1.0.2\n", "fault 8:13 taken\n"),
-        (ONE_VPN, "vrf V2 E1 2 65000:2 65000:2 highest\niface X2 V2 X 10.1.0.2\n", "fault 8:13 mixed\n"),
-        (ONE_VPN, "events\njoin Y1 * 225.1.1.1\n", "fault 8:1 later\n"),
-        (ONE_VPN, "events\njoin Y1 10.1.0.9 224.0.0.5\n", "fault 8:18 group\n"),
-        (ONE_VPN, "events\nsend X 10.1.0.9 232.1.1.1 a\n", "fault 8:27 hex\n"),
+        (
+            ONE_VPN,
+            "vrf V2 E1 2 65000:2 65000:1 highest\n",
+            "fault 7:21 vpn\n",
+        ),
+        (
+            ONE_VPN,
+            "site Z 10.1.0.0/16\niface Z1 V1 Z 10.1.0.2\n",
+            "fault 8:13 taken\n",
+        ),
+        (
+            ONE_VPN,
+            "vrf V2 E1 2 65000:2 65000:2 highest\niface X2 V2 X 10.1.0.2\n",
+            "fault 8:13 mixed\n",
+        ),
+        (
+            ONE_VPN,
+            "events\njoin Y1 * 225.1.1.1\n",
+            "fault 8:1 later\n",
+        ),
+        (
+            ONE_VPN,
+            "events\njoin Y1 10.1.0.9 224.0.0.5\n",
+            "fault 8:18 group\n",
+        ),
+        (
+            ONE_VPN,
+            "events\nsend X 10.1.0.9 232.1.1.1 a\n",
+            "fault 8:27 hex\n",
+        ),
     ];
     for (first, second, fault) in rows {
         let (status, written) = outcome(rt.alloc(), &["replay"], &[first, second])?;
@@ -148,7 +227,11 @@ fn faults_of_source_and_sink_are_told(rt: HostRuntime) -> Result<(), Fail> {
 fn joins(alloc: Global, count: u32) -> Result<Bytes, Fail> {
     let mut lines = Seq::new(alloc);
     for number in 0..count {
-        let line = format!(in alloc; "join Y1 10.1.0.9 232.1.{}.{}\n", number / 256, number % 256)?;
+        let line = format!(in alloc;
+            "join Y1 10.1.0.9 232.1.{}.{}\n",
+            number / 256,
+            number % 256
+        )?;
         lines.extend(line.as_bytes())?;
     }
     Ok(lines)

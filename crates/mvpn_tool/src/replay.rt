@@ -5,9 +5,7 @@ ghost use Rattle.mv_io.specs.Octets.{Appended, AppendedPart};
 ghost use Rattle.std.specs.List.{flat_map};
 ghost use Rattle.scenario_defs.specs.Text.{line_text, IsLineOf};
 ghost use Rattle.scenario_defs.specs.Rules.{IsEventOf, ScriptRules};
-ghost use Rattle.scenario_text.specs.Answers.{Gives};
 ghost use Rattle.scenario_text.specs.FaultText.{fault_text};
-ghost use Rattle.scenario_text.specs.Grammar.{script_of};
 ghost use Rattle.mvpn_tool.specs.Outcome.{EventReplayed, Replays, ReplayEnds, Takes, event_text};
 ghost use Rattle.mvpn_tool.specs.declared.stop.Stop.TheVariants as stops;
 
@@ -20,14 +18,6 @@ use mv_io::{Sink, Source, write_all};
 use scenario_defs::{Lines, Script, Timed};
 use scenario_text::{ReadFault, TextFault, read};
 use std::alloc::Global;
-
-/// What a text says, or its first fault.
-fn script_of_input(alloc: Global, input: &[u8]) -> Result<Script, ReadFault>
-    ensures gives { Gives result (script_of input.now) }
-    ensures rules { IfOk result ScriptRules }
-{
-    read(alloc, input)
-}
 
 /// Writes the lines of an event. The text is room for them.
 fn write_lines<K: Sink>(
@@ -133,7 +123,7 @@ pub fn replay<S: Source, K: Sink>(
     ensures sink_failed { IsErrOf result stops.Sink → Rose (K.faults sink.old) (K.faults sink.new) }
 {
     let input = read_all(alloc, source)?;
-    match script_of_input(alloc, &input) {
+    match read(alloc, &input) {
         Err(ReadFault::NoMemory) => Err(Stop::Memory),
         Err(ReadFault::Text(fault)) => Err(write_fault(alloc, fault, sink)),
         Ok(script) => replay_script(alloc, script, sink),

@@ -2,3 +2,4 @@ pub mod NumberLemmas
 pub mod CutLemmas
 pub mod DottedLemmas
 pub mod AddrTextLemmas
+pub mod Fields

@@ -6,3 +6,6 @@ pub mod AddrText
 pub mod Prefix
 pub mod Pattern
 pub mod Checksum
+pub mod Octets
+pub mod Cursor
+pub mod Writing

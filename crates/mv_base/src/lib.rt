@@ -1,5 +1,5 @@
-//! Words that every crate uses: ids, addresses, prefixes, patterns, and the lists and octets that contracts see as
-//! lists.
+//! Words that every crate uses: ids, addresses, prefixes, patterns, a reader of octets, and the lists and octets that
+//! contracts see as lists.
 #![tactic(auto)]
 
 mod addr;
@@ -13,7 +13,9 @@ mod number;
 mod pattern;
 mod prefix;
 mod rd;
+mod reader;
 mod seq;
+mod writing;
 
 pub use addr::Addr;
 pub use checksum::ones_sum;
@@ -25,4 +27,6 @@ pub use number::{cut_at, read_number};
 pub use pattern::Pattern;
 pub use prefix::Prefix;
 pub use rd::{Rd, Rule};
+pub use reader::{Reader, Short};
 pub use seq::{Bytes, Seq};
+pub use writing::put;

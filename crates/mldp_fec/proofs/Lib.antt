@@ -1,0 +1,6 @@
+pub mod TlvLemmas
+pub mod KindLemmas
+pub mod RootLemmas
+pub mod OpaqueLemmas
+pub mod FecLemmas
+pub mod CallLemmas

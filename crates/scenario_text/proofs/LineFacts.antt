@@ -1,5 +1,5 @@
 -- What a line that is without fault keeps to.
-use Rattle.std.proofs.Common.{◌≡◌, ℕ, ◌+◌, ◌*◌, ◌<◌, ◌≤◌, ◌==◌, ◌⊎◌, inl, inr, Bool, true, false, not, ◌&&◌, ◌||◌, List, [], ◌∷◌, length, refl, sym, ap, subst, ◌∙◌, cond, arith, nat_eq, nat_lt, nat_le, slice_index, slice_get, position, Option, Some, None}
+use Rattle.std.proofs.Common.{◌≡◌, ℕ, ◌+◌, ◌<◌, ◌≤◌, ◌==◌, ◌⊎◌, inl, inr, Bool, true, false, not, ◌&&◌, List, [], ◌∷◌, length, refl, sym, subst, cond, arith, nat_eq, nat_lt, nat_le, slice_index, slice_get, Option, Some, None}
 use Rattle.std.specs.Prelude.{Result, Ok, Err}
 use Rattle.std.specs.List.{AllByRecursion, list_any, slice_split}
 use Rattle.std.specs.Map.{lookup}
@@ -16,11 +16,9 @@ use Rattle.mv_base.specs.declared.ids.IfaceId.{IfaceId}
 use Rattle.mv_base.specs.declared.addr.Addr.{Addr}
 use Rattle.mv_base.specs.declared.addr.Addr.TheVariants.{V4, V6}
 use Rattle.mv_base.specs.Number.{◌>>?◌, only_if}
-use Rattle.route_targets.specs.declared.communities.Target.{Target}
 use Rattle.scenario_defs.specs.declared.scenario.Vrf.{Vrf}
 use Rattle.scenario_defs.specs.declared.scenario.Iface.{Iface}
 use Rattle.scenario_defs.specs.declared.scenario.Scenario.{Scenario}
-use Rattle.scenario_defs.specs.declared.event.Event.{Event}
 use Rattle.scenario_defs.specs.Rules.{IsSource, IsGroup, IsEventOf}
 use Rattle.scenario_text.specs.declared.fault.TextFault.{TextFault}
 use Rattle.scenario_text.specs.declared.fault.Reason.{Reason}
@@ -35,13 +33,12 @@ use Rattle.scenario_text.specs.declared.scenario_lines.ScenarioWord.{ScenarioWor
 use Rattle.scenario_text.specs.declared.scenario_lines.ScenarioWord.TheVariants as scenario_kinds
 use Rattle.scenario_text.specs.declared.event_lines.EventWord.{EventWord}
 use Rattle.scenario_text.specs.declared.event_lines.EventWord.TheVariants as event_kinds
-use Rattle.scenario_text.specs.declared.event_lines.SendHead.{SendHead}
 use Rattle.scenario_text.specs.Drafted.{Drafted}
 use Rattle.scenario_text.specs.Words.{Placed, placed, words_of}
 use Rattle.scenario_text.specs.Forms.{◌>>=◌, or_fault, is_name, new_name, addr_at, node_addr_at, prefix_at, vrf_number_at, rd_at, rule_at, assigned_of, node_of, vrf_of, site_of, iface_of, named, edge_named, vrf_named, site_named, iface_named, edge_at, vrf_at, site_at, iface_at, source_at, group_at, targets_at, payload_at, is_unicast, is_group}
 use Rattle.scenario_text.specs.ScenarioGrammar.{edge_words, edge_counted, edge_line, vrf_head, vrf_tail, vrf_rules, vrf_words, vrf_counted, vrf_line, site_words, site_counted, site_line, iface_rules, iface_parts, iface_words, iface_counted, iface_line, events_line, scenario_word, scenario_words, scenario_line, overlaps, is_vpn_at, is_mixed, is_taken}
 use Rattle.scenario_text.specs.EventGrammar.{join_words, join_line, send_head, send_words, send_line, bare_line, event_word, event_words, event_line}
-use Rattle.scenario_text.specs.Grammar.{line_of, words_line, is_outside, is_blank, row_of, IsFree, IsNew}
+use Rattle.scenario_text.specs.Grammar.{line_of, words_line, row_of, IsFree, IsNew}
 use Rattle.scenario_text.proofs.WordsLemmas.{total, total-slice_split}
 
 -- Each value without fault has the property.

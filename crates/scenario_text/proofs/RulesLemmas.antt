@@ -1,10 +1,9 @@
 -- What is read meets the rules of scripts.
 use Rattle.std.proofs.Common.{◌≡◌, ℕ, ◌+◌, ◌<◌, ◌≤◌, ◌==◌, ◌⊎◌, inl, inr, Bool, true, false, not, ◌&&◌, ◌||◌, List, [], ◌∷◌, ◌++◌, length, refl, sym, ap, subst, ◌∙◌, arith, suc, zero, slice_get, Option, Some, None, length-append}
-use Rattle.std.specs.Prelude.{Result, Ok, Err}
+use Rattle.std.specs.Prelude.{Ok}
 use Rattle.std.specs.List.{AllByRecursion, list_any}
 use Rattle.std.specs.Str.Lines.{lines}
 use Rattle.std.proofs.lemmas.Bool.Decides.{nat_tests}
-use Rattle.std.proofs.lemmas.Option.{slice_get_within}
 use Rattle.mv_base.specs.declared.ids.NodeId.{NodeId}
 use Rattle.mv_base.specs.declared.ids.VrfId.{VrfId}
 use Rattle.route_targets.specs.declared.communities.Target.{Target}
@@ -14,19 +13,18 @@ use Rattle.scenario_defs.specs.declared.scenario.Vrf.{Vrf}
 use Rattle.scenario_defs.specs.declared.scenario.Site.{Site}
 use Rattle.scenario_defs.specs.declared.scenario.Iface.{Iface}
 use Rattle.scenario_defs.specs.declared.scenario.Scenario.{Scenario}
-use Rattle.scenario_defs.specs.declared.event.Event.{Event}
 use Rattle.scenario_defs.specs.declared.event.Timed.{Timed}
 use Rattle.scenario_defs.specs.declared.event.Script.{Script}
 use Rattle.scenario_defs.specs.Vpn.{targets_of, same_vpn}
-use Rattle.scenario_defs.specs.Rules.{Rules, ScriptRules, Rises, IsEventOf}
+use Rattle.scenario_defs.specs.Rules.{ScriptRules, Rises, IsEventOf}
 use Rattle.scenario_text.specs.declared.line.Line.{Line}
 use Rattle.scenario_text.specs.declared.line.Line.TheVariants as says
 use Rattle.scenario_text.specs.Drafted.{Drafted}
 use Rattle.scenario_text.specs.ScenarioGrammar.{is_vpn_at, is_mixed}
-use Rattle.scenario_text.specs.Grammar.{line_of, added, empty_draft, script_at, script_from, script_of}
-use Rattle.scenario_text.specs.Faults.{Says, SaysScript}
+use Rattle.scenario_text.specs.Grammar.{added, empty_draft, script_at, script_from, script_of}
+use Rattle.scenario_text.specs.Faults.{Says}
 use Rattle.scenario_text.proofs.FaultsLemmas.{read_text, short_text}
-use Rattle.scenario_text.proofs.LineFacts.{Meets, line_meets, IsSaid, IsDeclared, IsTold, IsToldBelow, VrfFacts, IfaceFacts}
+use Rattle.scenario_text.proofs.LineFacts.{line_meets, IsSaid, IsDeclared, IsToldBelow, VrfFacts, IfaceFacts}
 
 -- One more at the end: each place has what it had, or the new one is there.
 snoc_get : {X : Type 0} (xs : List X) (y : X) (k : ℕ) (z : X) → slice_get (xs ++ y ∷ []) k ≡ Some z → ((k < length xs) × (slice_get xs k ≡ Some z)) ⊎ ((k ≡ length xs) × (y ≡ z))

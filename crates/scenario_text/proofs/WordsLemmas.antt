@@ -1,5 +1,5 @@
 -- Laws of the parts of a line, and of the lines of a text.
-use Rattle.std.proofs.Common.{◌≡◌, ℕ, ◌+◌, ◌<◌, ◌≤◌, ◌==◌, List, [], ◌∷◌, Bool, true, false, length, map, take, drop, get_or, refl, sym, ap, ◌∙◌, arith, cond, suc, drop-cons, Bor, Option, Some, None, nat_lt, position}
+use Rattle.std.proofs.Common.{◌≡◌, ℕ, ◌+◌, ◌<◌, ◌≤◌, ◌==◌, List, [], ◌∷◌, Bool, true, false, length, map, take, drop, get_or, refl, ap, ◌∙◌, arith, cond, suc, drop-cons, Bor, Option, Some, None, nat_lt, position}
 use Rattle.std.specs.List.{slice_split, onto_first, position_or_len, before_first, after_first, All}
 use Rattle.std.specs.Str.Lines.{lines, lines_of_parts, strip_carriage_return}
 use Rattle.std.proofs.lemmas.Bool.Decides.{nat_tests}

@@ -1,5 +1,5 @@
 -- The lines of events: what each says, or its first fault.
-use Rattle.std.specs.Prelude.{ℕ, ◌||◌, Bool, true, false, nat_eq, nat_le, List, [], ◌∷◌, length, Result, Ok, Err, if◌then◌else◌, codes}
+use Rattle.std.specs.Prelude.{ℕ, ◌||◌, Bool, false, nat_eq, nat_le, List, [], ◌∷◌, length, Result, Ok, if◌then◌else◌, codes}
 use Rattle.std.specs.Cmp.Lexicographic.{pointwise}
 use Rattle.scenario_defs.specs.declared.event.Event.TheVariants as events
 use Rattle.scenario_defs.specs.declared.event.JoinEntry.TheVariants as entries

@@ -1,5 +1,5 @@
 -- What a text says, and its first fault, with no order of reading.
-use Rattle.std.specs.Prelude.{◌≡◌, ℕ, ◌+◌, ◌<◌, ◌≤◌, ◌⊎◌, Bool, true, false, List, [], ◌∷◌, ◌++◌, length, Result, Ok, Err}
+use Rattle.std.specs.Prelude.{◌≡◌, ℕ, ◌+◌, ◌<◌, ◌≤◌, true, false, List, [], ◌∷◌, ◌++◌, length, Ok, Err}
 use Rattle.std.specs.Str.Lines.{lines}
 use Rattle.scenario_defs.specs.declared.event.Script.{Script}
 use Rattle.scenario_text.specs.declared.fault.TextFault.{TextFault}
@@ -13,7 +13,7 @@ abbrev pub Says : Drafted → ℕ → List (List ℕ) → Drafted → Type 0
 Says old number [] new = new ≡ old
 Says old number (octets ∷ more) new = (said : Line) × (line_of old number octets ≡ Ok said) × Says (added old number said) (number + 1) more new
 
--- That is wrong with the next line, or with the end.
+-- The fault is that of the next line, or of the end.
 abbrev pub IsFaultyAt : Drafted → ℕ → List (List ℕ) → TextFault → Type 0
 IsFaultyAt draft number [] fault = (draft.begun ≡ false) × (fault ≡ record { line = number; column = 1; reason = reasons.Events })
 IsFaultyAt draft number (octets ∷ more) fault = line_of draft number octets ≡ Err fault

@@ -1,5 +1,5 @@
 -- The forms of the words: what a word declares, names or writes, or the fault at it.
-use Rattle.std.specs.Prelude.{ℕ, ◌+◌, ◌-◌, ◌*◌, ◌/◌, ◌%◌, ◌^◌, ◌==◌, ◌||◌, ◌&&◌, Bool, true, false, not, nat_eq, nat_lt, nat_le, List, [], ◌∷◌, length, slice_index, slice_get, Option, None, Some, option_map, Result, Ok, Err, if◌then◌else◌, codes}
+use Rattle.std.specs.Prelude.{ℕ, ◌-◌, ◌/◌, ◌%◌, ◌^◌, ◌==◌, ◌||◌, ◌&&◌, Bool, false, not, nat_eq, nat_lt, nat_le, List, [], ◌∷◌, length, slice_index, slice_get, Option, None, Some, option_map, Result, Ok, Err, if◌then◌else◌, codes}
 use Rattle.std.specs.List.{list_any, list_all}
 use Rattle.std.specs.Map.{lookup}
 use Rattle.std.specs.Int.{w32, from_be_bytes}

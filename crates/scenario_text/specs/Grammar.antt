@@ -1,12 +1,10 @@
 -- The grammar of a text: what each line says, given what the lines before it declared, or its first fault.
-use Rattle.std.specs.Prelude.{◌≡◌, ℕ, ◌+◌, ◌==◌, ◌||◌, Bool, true, false, nat_eq, nat_lt, List, [], ◌∷◌, ◌++◌, length, Option, None, Some, Result, Ok, Err, if◌then◌else◌, position}
+use Rattle.std.specs.Prelude.{◌≡◌, ℕ, ◌+◌, ◌==◌, ◌||◌, Bool, true, false, nat_eq, nat_lt, List, [], ◌∷◌, ◌++◌, length, None, Some, Result, Ok, if◌then◌else◌, position}
 use Rattle.std.specs.List.{list_any, list_all}
 use Rattle.std.specs.Map.{lookup}
 use Rattle.std.specs.Str.Lines.{lines}
 use Rattle.std.specs.Cmp.Lexicographic.{pointwise}
-use Rattle.mv_base.specs.declared.ids.NodeId.{NodeId}
 use Rattle.scenario_defs.specs.declared.event.Script.{Script}
-use Rattle.scenario_text.specs.declared.draft.Thing.{Thing}
 use Rattle.scenario_text.specs.declared.draft.Thing.TheVariants as things
 use Rattle.scenario_text.specs.declared.fault.Reason.TheVariants as reasons
 use Rattle.scenario_text.specs.declared.fault.TextFault.{TextFault}

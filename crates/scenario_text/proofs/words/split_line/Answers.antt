@@ -1,4 +1,4 @@
-use Rattle.std.proofs.Common.{◌≡◌, ◌+◌, ◌∙◌, ap, sym, take, drop}
+use Rattle.std.proofs.Common.{◌+◌, ◌∙◌, sym}
 use Rattle.std.proofs.lemmas.List.{take_rest}
 use Rattle.scenario_text.proofs.WordsLemmas.{lines-first, lines-whole}
 use Rattle.scenario_text.proofs.words.split_line.Goals as goal

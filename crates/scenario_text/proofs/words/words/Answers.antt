@@ -1,4 +1,4 @@
-use Rattle.std.proofs.Common.{◌≡◌, ◌+◌, ◌≤◌, ℕ, List, [], Bor, map, arith, ap, ◌∙◌, length}
+use Rattle.std.proofs.Common.{◌≡◌, ◌+◌, ℕ, List, [], Bor, map, arith, ap, ◌∙◌, length}
 use Rattle.scenario_text.proofs.WordsLemmas.{total, total-slice_split, column_fits, part_fits}
 use Rattle.scenario_text.proofs.words.words.Goals as goal
 

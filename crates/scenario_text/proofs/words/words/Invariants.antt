@@ -1,4 +1,4 @@
-use Rattle.std.proofs.Common.{◌≡◌, ◌+◌, ◌++◌, ◌≤◌, length, map, drop}
+use Rattle.std.proofs.Common.{◌≡◌, ◌+◌, ◌++◌, ◌≤◌, map, drop}
 use Rattle.scenario_text.specs.Words.{placed, placed_word}
 use Rattle.scenario_text.proofs.WordsLemmas.{total}
 use Rattle.scenario_text.proofs.words.words.Given as goal

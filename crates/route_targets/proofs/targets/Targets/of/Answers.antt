@@ -13,5 +13,5 @@ invariant_of-result c =
       some = search (arith);
       within = omega arith;
       places = rw (front, back, length-append, drop-replicate) (rw length-replicate (omega arith));
-      spare = rw (front, back, drop_at c.args.list.now (drop n (replicate 8 zeros)) n refl, drop-replicate) refl
+      spare = rw (front, back, drop_at c.args.list.now (drop n (replicate 8 zeros)) n refl, drop-replicate) refl;
     }

@@ -1,5 +1,5 @@
 -- Sets of Route Targets.
-use Rattle.std.specs.Prelude.{◌≡◌, Bool, nat_eq, List, Contains, ◌&&◌}
+use Rattle.std.specs.Prelude.{Bool, nat_eq, List, Contains, ◌&&◌}
 use Rattle.std.specs.List.{list_any, list_all}
 use Rattle.std.specs.Cmp.Lexicographic.{pointwise}
 use Rattle.route_targets.specs.declared.communities.Target.{Target}

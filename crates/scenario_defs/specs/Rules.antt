@@ -1,10 +1,9 @@
 -- What every scenario and script that is read meets.
-use Rattle.std.specs.Prelude.{◌≡◌, ℕ, ◌+◌, ◌<◌, ◌≤◌, ◌==◌, Bool, true, false, List, [], ◌∷◌, length, slice_get, slice_index, Some}
+use Rattle.std.specs.Prelude.{◌≡◌, ℕ, ◌<◌, ◌≤◌, true, false, List, [], ◌∷◌, length, slice_get, slice_index, Some}
 use Rattle.std.specs.List.{AllByRecursion}
 use Rattle.mv_base.specs.declared.addr.Addr.{Addr}
 use Rattle.mv_base.specs.declared.addr.Addr.TheVariants.{V4, V6}
 use Rattle.route_targets.specs.Targets.{same}
-use Rattle.scenario_defs.specs.declared.scenario.Node.{Node}
 use Rattle.scenario_defs.specs.declared.scenario.Vrf.{Vrf}
 use Rattle.scenario_defs.specs.declared.scenario.Iface.{Iface}
 use Rattle.scenario_defs.specs.declared.scenario.Scenario.{Scenario}

@@ -1,5 +1,5 @@
 -- VPNs: which VRFs and sites belong together (RFC 4364 sections 1.2 and 4.3).
-use Rattle.std.specs.Prelude.{ℕ, ◌+◌, ◌==◌, ◌&&◌, Bool, true, false, List, [], ◌∷◌, Option, None, Some, slice_get, option_map, find, if◌then◌else◌}
+use Rattle.std.specs.Prelude.{ℕ, ◌+◌, ◌==◌, ◌&&◌, Bool, List, [], ◌∷◌, Option, None, Some, slice_get, option_map, find, if◌then◌else◌}
 use Rattle.std.specs.List.{list_any}
 use Rattle.mv_base.specs.declared.ids.VrfId.{VrfId}
 use Rattle.mv_base.specs.declared.ids.SiteId.{SiteId}

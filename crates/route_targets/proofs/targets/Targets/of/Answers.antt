@@ -1,6 +1,5 @@
-use Rattle.std.proofs.Common.{◌≡◌, ℕ, ◌++◌, List, length, drop, replicate, arith, length-append, refl}
+use Rattle.std.proofs.Common.{◌≡◌, length, drop, replicate, arith, length-append, refl}
 use Rattle.std.proofs.lemmas.List.{drop_at, drop-replicate, length-replicate}
-use Rattle.route_targets.specs.declared.communities.Target.{Target}
 use Rattle.route_targets.specs.Padding.{zeros}
 use Rattle.route_targets.proofs.targets.Targets.of.Goals as goal
 

@@ -1,11 +1,7 @@
 -- Laws of routes and of the longest among them.
-use Rattle.std.proofs.Common.{◌≡◌, ℕ, ◌+◌, ◌<◌, List, [], ◌∷◌, ◌++◌, length, drop, get_or, map, filter, refl, sym, ap, ◌∙◌, suc, add-one, append_assoc, drop-cons, cond, Bool, true, false}
+use Rattle.std.proofs.Common.{◌≡◌, ℕ, ◌+◌, ◌<◌, List, [], ◌∷◌, ◌++◌, length, drop, get_or, filter, refl, sym, ap, ◌∙◌, add-one, drop-cons, cond, Bool, true, false}
 use Rattle.std.specs.Prelude.{Option, if◌then◌else◌}
 use Rattle.mv_base.specs.declared.ids.VrfId.{VrfId}
-use Rattle.mv_base.specs.declared.ids.SiteId.{SiteId}
-use Rattle.mv_base.specs.declared.addr.Addr.{Addr}
-use Rattle.mv_base.specs.declared.prefix.Prefix.{Prefix}
-use Rattle.mv_base.specs.Prefix.{covers}
 use Rattle.scenario_defs.specs.declared.scenario.Site.{Site}
 use Rattle.scenario_defs.specs.declared.scenario.Scenario.{Scenario}
 use Rattle.scenario_defs.specs.declared.scenario.Route.{Route}

@@ -1,5 +1,5 @@
 -- The longest of the routes that cover a source is one of them, and none of them is longer.
-use Rattle.std.proofs.Common.{◌≡◌, ℕ, ◌+◌, ◌≤◌, ◌<◌, ◌⊎◌, Bool, true, false, List, [], ◌∷◌, filter, refl, sym, ap, subst, ◌∙◌, cond, zero, suc, inl, inr, arith}
+use Rattle.std.proofs.Common.{◌≡◌, ℕ, ◌≤◌, ◌⊎◌, Bool, true, false, List, [], ◌∷◌, filter, refl, sym, ap, subst, ◌∙◌, cond, zero, suc, inl, inr, arith}
 use Rattle.std.specs.Prelude.{Option, None, Some, IfSome, IfNone, slice_get, nat_le, option_map}
 use Rattle.std.proofs.lemmas.Bool.{leb-true, leb-false}
 use Rattle.mv_base.specs.declared.ids.SiteId.{SiteId}

@@ -1,5 +1,5 @@
 -- Laws of the table of flows, and of the interfaces at which a datagram leaves.
-use Rattle.std.proofs.Common.{◌≡◌, ℕ, ◌+◌, ◌<◌, Bool, true, false, List, [], ◌∷◌, ◌++◌, length, map, filter, refl, sym, ap, ◌∙◌, cond, subst, suc, arith, Some, eqb}
+use Rattle.std.proofs.Common.{◌≡◌, ℕ, ◌+◌, Bool, true, false, List, [], ◌∷◌, ◌++◌, map, filter, refl, sym, ap, ◌∙◌, cond, subst, suc, arith, Some, eqb}
 use Rattle.std.specs.Prelude.{◌&&◌, ◌||◌, not, slice_get}
 use Rattle.net_laws.proofs.OutLemmas.{ifaces_where-same}
 use Rattle.std.specs.List.{list_any}

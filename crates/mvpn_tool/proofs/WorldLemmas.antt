@@ -1,5 +1,5 @@
 -- Laws of the tables of a world, and of the lines of a send.
-use Rattle.std.proofs.Common.{◌≡◌, ℕ, ◌+◌, ◌<◌, ◌≤◌, Bool, true, false, List, [], ◌∷◌, ◌++◌, length, get_or, map, refl, sym, ap, ◌∙◌, cond, subst, suc, zero, arith, length-append, inl, inr, eqb}
+use Rattle.std.proofs.Common.{◌≡◌, ℕ, ◌<◌, true, false, List, [], ◌∷◌, ◌++◌, length, get_or, map, refl, sym, ap, ◌∙◌, suc, zero, arith, length-append, inl, inr, eqb}
 use Rattle.std.specs.Prelude.{Option, None, Some, IfSome, Result, Ok, Err, OnOk, OnErr}
 use Rattle.std.specs.Result.{is_err}
 use Rattle.std.specs.Option.{option_to_list}
@@ -17,7 +17,7 @@ use Rattle.scenario_defs.specs.Rules.{Rules}
 use Rattle.scenario_defs.specs.Vpn.{vrf_of_site, entered}
 use Rattle.scenario_defs.specs.Home.{home}
 use Rattle.mvpn_model.specs.Past.{is_home}
-use Rattle.net_defs.specs.Network.{Network, entering, acts_of, leaves}
+use Rattle.net_defs.specs.Network.{Network, entering, leaves}
 use Rattle.net_laws.proofs.VpnLemmas.{vrf_of_site-is}
 use Rattle.mvpn_tool.specs.Tables.{upto}
 use Rattle.mvpn_tool.specs.WorldState.{event_lines}

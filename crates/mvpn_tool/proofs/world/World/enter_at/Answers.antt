@@ -1,9 +1,8 @@
-use Rattle.std.proofs.Common.{◌≡◌, ◌+◌, ◌++◌, List, true, sym, ap, subst, ◌∙◌}
+use Rattle.std.proofs.Common.{◌≡◌, ◌++◌, List, true, sym, ap, subst, ◌∙◌}
 use Rattle.std.specs.Prelude.{None, OnOk, OnErr}
 use Rattle.scenario_defs.specs.declared.report.ReportLine.{ReportLine}
 use Rattle.mvpn_model.specs.Past.{is_home}
 use Rattle.net_defs.specs.Network.{Network, entering}
-use Rattle.mvpn_tool.specs.Entering.{outs}
 use Rattle.mvpn_tool.specs.WorldState.{WorldState, AppendsFront}
 use Rattle.mvpn_tool.proofs.FlowsLemmas.{outs-told}
 use Rattle.mvpn_tool.proofs.world.World.enter_at.Goals as goal

@@ -21,6 +21,7 @@ pub use draft::Thing;
 pub use fault::{ReadFault, Reason, TextFault, reason_word};
 pub use laws::first_faults;
 pub use line::Line;
+pub use pieces::{put_hex, put_number};
 pub use reader::read;
 pub use scenario_defs::{
     Event, Events, FaultWord, Iface, Ifaces, JoinEntry, Kind, Lines, Links, Name, Node, Nodes,

@@ -16,10 +16,9 @@ pub fn put_number(out: &mut Bytes, number: u64) -> Result<(), NoMemory>
 }
 
 /// Appends octets in hexadecimal digits, or `-` for none.
-pub fn put_hex(out: &mut Bytes, octets: &Bytes) -> Result<(), NoMemory>
+pub fn put_hex(out: &mut Bytes, octets: &[u8]) -> Result<(), NoMemory>
     ensures { OnOk result (out.new ≡ out.old ++ hex_text octets.now) }
 {
-    let octets = octets.as_slice();
     match octets {
         [] => out.extend(b"-"),
         [_, ..] => {

@@ -44,7 +44,7 @@ fn put_out(
     out.extend(b" ")?;
     put_iface(out, scenario, iface)?;
     out.extend(b" ")?;
-    put_hex(out, bytes)?;
+    put_hex(out, bytes.as_slice())?;
     out.extend(b"\n")
 }
 
@@ -120,7 +120,7 @@ fn put_octets(
     out.extend(b" ")?;
     put_ends(out, scenario, from, to)?;
     out.extend(b" ")?;
-    put_hex(out, bytes)?;
+    put_hex(out, bytes.as_slice())?;
     out.extend(b"\n")
 }
 

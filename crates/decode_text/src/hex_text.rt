@@ -1,0 +1,119 @@
+//! Octets in hexadecimal text.
+ghost use Rattle.std.specs.Prelude.{◌≡◌, ◌≤◌, ◌<◌, ◌+◌, ◌^◌, ◌==◌, length, position, IfOk};
+ghost use Rattle.std.specs.List.{count_by, filter};
+ghost use Rattle.hex.specs.Hex.{is_hex_digit};
+ghost use Rattle.scenario_text.specs.Answers.{Gives};
+ghost use Rattle.scenario_text.specs.declared.fault.Reason.TheVariants as reasons;
+ghost use Rattle.decode_text.specs.HexText.{is_white, is_other, behind_lf, one_further, fault_behind, octets_of, octets_of_digits};
+
+use hex::FromHexError;
+use mv_base::{Bytes, NoMemory};
+use scenario_text::{ReadFault, Reason, TextFault};
+use std::alloc::Global;
+
+/// The most octets of a text.
+const TEXT_LIMIT: usize = 16_777_216;
+
+fn is_hex_digit(b: u8) -> bool
+    ensures { result ≡ is_hex_digit b }
+{
+    matches!(b, b'A'..=b'F' | b'a'..=b'f' | b'0'..=b'9')
+}
+
+fn is_white(b: u8) -> bool
+    ensures { result ≡ is_white b }
+{
+    matches!(b, b' ' | b'\t' | b'\r' | b'\n')
+}
+
+fn is_other(b: u8) -> bool
+    ensures { result ≡ is_other b }
+{
+    !is_hex_digit(b) && !is_white(b)
+}
+
+fn first_other(text: &[u8]) -> Option<usize>
+    ensures { result ≡ position is_other text.now }
+{
+    text.iter().position(|b| is_other(*b))
+}
+
+fn count_lines(front: &[u8]) -> usize
+    ensures value { result ≡ count_by (λ b. b == 10) front.now }
+{
+    front.iter().filter(|b| **b == b'\n').count()
+}
+
+fn one_further(passed: usize, b: u8) -> usize
+    requires { passed + 1 < 2 ^ 64 }
+    ensures { result ≡ one_further passed b }
+{
+    if b == b'\n' { 0 } else { passed + 1 }
+}
+
+/// How many octets stand behind the last LF.
+fn behind_lf(front: &[u8]) -> usize
+    ensures value { result ≡ behind_lf 0 front.now }
+    ensures within { result ≤ length front.now }
+{
+    let mut passed = 0;
+    for b in front {
+        passed = one_further(passed, *b);
+    }
+    passed
+}
+
+/// The fault behind the front of a text.
+fn fault_behind(front: &[u8]) -> TextFault
+    requires { length front.now ≤ TEXT_LIMIT }
+    ensures { result ≡ fault_behind front.now reasons.Hex }
+{
+    TextFault {
+        line: count_lines(front) as u32 + 1,
+        column: behind_lf(front) as u32 + 1,
+        reason: Reason::Hex,
+    }
+}
+
+fn digits_of(alloc: Global, text: &[u8]) -> Result<Bytes, NoMemory>
+    ensures { IfOk result (λ digits. digits ≡ filter is_hex_digit text.now) }
+{
+    let mut digits = Bytes::new(alloc);
+    for b in text {
+        if is_hex_digit(*b) {
+            digits.push(*b)?;
+        }
+    }
+    Ok(digits)
+}
+
+fn read_digits(alloc: Global, text: &[u8]) -> Result<Bytes, ReadFault>
+    requires { length text.now ≤ TEXT_LIMIT }
+    ensures { Gives result (octets_of_digits text.now) }
+{
+    let digits = digits_of(alloc, text)?;
+    match hex::decode(alloc, digits.as_slice()) {
+        Ok(octets) => Ok(Bytes::from_vec(octets)),
+        Err(FromHexError::OutOfMemory) => Err(ReadFault::NoMemory),
+        Err(_) => Err(ReadFault::Text(fault_behind(text))),
+    }
+}
+
+/// The octets that a text writes, two hexadecimal digits each, with white space between digits left out; or its first
+/// fault. A text of more than 16,777,216 octets is `Long`. `Hex` stands at the first octet that is neither a digit nor
+/// white space, or behind the last octet where the number of digits is odd.
+pub fn read_octets(alloc: Global, text: &[u8]) -> Result<Bytes, ReadFault>
+    ensures { Gives result (octets_of text.now) }
+{
+    if text.len() > TEXT_LIMIT {
+        return Err(ReadFault::Text(TextFault {
+            line: 1,
+            column: 1,
+            reason: Reason::Long,
+        }));
+    }
+    match first_other(text) {
+        Some(place) => Err(ReadFault::Text(fault_behind(&text[..place]))),
+        None => read_digits(alloc, text),
+    }
+}

@@ -1,5 +1,5 @@
 -- Octets in hexadecimal text: two digits each, of either case, with white space anywhere between digits.
-use Rattle.std.specs.Prelude.{◌≡◌, ℕ, ◌+◌, ◌==◌, ◌||◌, Bool, not, nat_lt, List, [], ◌∷◌, length, take, Option, Some, None, Result, Ok, Err, if◌then◌else◌, position}
+use Rattle.std.specs.Prelude.{ℕ, ◌+◌, ◌==◌, ◌||◌, Bool, not, nat_lt, List, [], ◌∷◌, length, take, Some, None, Result, Ok, Err, if◌then◌else◌, position}
 use Rattle.std.specs.List.{filter, count_by}
 use Rattle.hex.specs.Hex.{decode_of, is_hex_digit}
 use Rattle.scenario_text.specs.declared.fault.Reason.{Reason}

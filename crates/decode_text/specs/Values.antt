@@ -1,5 +1,5 @@
 -- Octets that are values end to end, or values and then a fault; and the lines of both.
-use Rattle.std.specs.Prelude.{◌≡◌, ℕ, ◌+◌, ◌<◌, Bool, true, false, List, [], ◌∷◌, ◌++◌, length}
+use Rattle.std.specs.Prelude.{◌≡◌, ℕ, ◌+◌, ◌<◌, Bool, true, false, List, ◌++◌, length}
 use Rattle.std.specs.List.{flat_map, AllByRecursion}
 use Rattle.mv_base.specs.Cursor.{start}
 use Rattle.mldp_fec.specs.declared.fault.FecFault.{FecFault}

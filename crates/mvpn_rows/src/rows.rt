@@ -192,6 +192,35 @@ fn words_of_no_form_give_the_usage_line(rt: HostRuntime) -> Result<(), Fail> {
     Ok(())
 }
 
+#[test]
+fn elements_are_decoded(rt: HostRuntime) -> Result<(), Fail> {
+    let rows: [(&str, u8, &str); 9] = [
+        ("", 0, ""),
+        (
+            "06000104C0000201000701000400100000\n07 0001 04 C0000202 0000",
+            0,
+            "p2mp 192.0.2.1 01000400100000\nup 192.0.2.2 -\n",
+        ),
+        (
+            "06000104C0000201000701000400100000 05",
+            1,
+            "p2mp 192.0.2.1 01000400100000\nrefused 17 kind\n",
+        ),
+        ("0600030400\n", 1, "refused 1 family\n"),
+        ("06000104C00002010041\n", 1, "refused 8 opaque-too-long\n"),
+        ("06000104C000020100020100\n", 1, "refused 10 opaque-shape\n"),
+        ("06000104C000\n", 1, "refused 4 short\n"),
+        ("0600 01x\n", 3, "fault 1:8 hex\n"),
+        ("060\n", 3, "fault 2:1 hex\n"),
+    ];
+    for (input, status, lines) in rows {
+        let (ended, written) = outcome(rt.alloc(), &["decode", "fec"], &[input])?;
+        assert_eq!(rt; ended, status, "{input}");
+        assert_eq!(rt; written.as_slice(), lines.as_bytes(), "{input}");
+    }
+    Ok(())
+}
+
 /// The status of a replay whose source or sink fails at those calls, and what it wrote.
 fn failing(alloc: Global, reads: &[u64], writes: &[u64]) -> Result<(u8, Bytes), Fail> {
     let input = octets_of(alloc, &[ONE_VPN, "events\nstate\nstate\n"])?;

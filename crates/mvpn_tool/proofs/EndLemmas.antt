@@ -17,27 +17,37 @@ use Rattle.mvpn_tool.specs.declared.stop.Stop.TheVariants as stops
 use Rattle.mvpn_tool.specs.Input.{IsInput, IsReadUpTo, Taken}
 use Rattle.mvpn_tool.specs.Outcome.{ReplayEnds, Replays, Takes}
 use Rattle.mvpn_tool.specs.WorldState.{WorldState}
+use Rattle.decode_text.specs.HexText.{octets_of}
 
 -- Some input that the source may have had says what these octets say.
-pub record SaysAlike (left : Option (List ℕ)) (octets : List ℕ) : Type 0 where
+pub record SaysAlike {X : Type 0} (says : List ℕ → X) (left : Option (List ℕ)) (octets : List ℕ) : Type 0 where
   pub input : List ℕ
   pub is_input : IsInput left input
-  pub same : script_of input ≡ script_of octets
+  pub same : says input ≡ says octets
+
+-- What is longer than the limit says that alone.
+abbrev pub IsBounded : {X : Type 0} → (List ℕ → X) → Type 0
+IsBounded says = (octets : List ℕ) → 16777216 < length octets → (more : List ℕ) → says (octets ++ more) ≡ says octets
 
 both_true : {A : Type 0} (b c : Bool) (x y z : A) → b ≡ true → c ≡ true → cond b x y ≡ cond c x z
 both_true b c x y z h k = rw (h, k) refl
 
--- What is longer than the limit says that alone.
-long : (octets : List ℕ) → 16777216 < length octets → (more : List ℕ) → script_of (octets ++ more) ≡ script_of octets
-long octets h more =
+-- A script is bounded.
+pub script-bounded : IsBounded script_of
+script-bounded octets h more =
+    both_true (nat_lt 16777216 (length (octets ++ more))) (nat_lt 16777216 (length octets)) _ _ _ (lt-ltb 16777216 (length (octets ++ more)) (omega (arith, length-append octets more, h))) (lt-ltb 16777216 (length octets) h)
+
+-- Hexadecimal text is bounded.
+pub hex-bounded : IsBounded octets_of
+hex-bounded octets h more =
     both_true (nat_lt 16777216 (length (octets ++ more))) (nat_lt 16777216 (length octets)) _ _ _ (lt-ltb 16777216 (length (octets ++ more)) (omega (arith, length-append octets more, h))) (lt-ltb 16777216 (length octets) h)
 
 -- What was read says what the whole input says.
-pub says-alike : (left new : Option (List ℕ)) (octets : List ℕ) → IsReadUpTo 16777216 left new octets → SaysAlike left octets
-says-alike None new octets h = record { input = octets; is_input = tt; same = refl }
-says-alike (Some xs) None octets h = absurd h.taken
-says-alike (Some xs) (Some ys) octets h = elim (cases_lt 16777216 (length octets)) [
-  | inl lt ↦ record { input = xs; is_input = refl; same = rw h.taken (long octets lt ys) }
+pub says-alike : {X : Type 0} (says : List ℕ → X) (left new : Option (List ℕ)) (octets : List ℕ) → IsBounded says → IsReadUpTo 16777216 left new octets → SaysAlike says left octets
+says-alike says None new octets b h = record { input = octets; is_input = tt; same = refl }
+says-alike says (Some xs) None octets b h = absurd h.taken
+says-alike says (Some xs) (Some ys) octets b h = elim (cases_lt 16777216 (length octets)) [
+  | inl lt ↦ record { input = xs; is_input = refl; same = rw h.taken (b octets lt ys) }
   | inr le ↦ record { input = octets; is_input = rw h.taken (rw (h.whole le) (append-nil octets)); same = refl }
 ]
 
@@ -60,7 +70,7 @@ takes left new (Err stops.Sink) t = t
 takes left new (Err stops.Memory) t = tt
 
 -- The text had a fault.
-pub ends-fault : (left old new : Option (List ℕ)) (octets : List ℕ) (fault : TextFault) (stop : Stop) → SaysAlike left octets → script_of octets ≡ Err fault →
+pub ends-fault : (left old new : Option (List ℕ)) (octets : List ℕ) (fault : TextFault) (stop : Stop) → SaysAlike script_of left octets → script_of octets ≡ Err fault →
     (stop ≡ stops.Text → Appended old new (fault_text fault)) → (stop ≡ stops.Text) ⊎ AppendedPart old new (fault_text fault) → stop ≢ stops.Source → ReplayEnds left (Err stop) old new
 ends-fault left old new octets fault stops.Text a e w p n = record { input = a.input; is_input = a.is_input; fault = fault; said = a.same ∙ e; text = w refl }
 ends-fault left old new octets fault stops.Source a e w p n = absurd (n refl)
@@ -70,7 +80,7 @@ ends-fault left old new octets fault stops.Memory a e w (inl t) n = absurd cc
 ends-fault left old new octets fault stops.Memory a e w (inr p) n = inr (record { input = a.input; is_input = a.is_input; part = rw (a.same, e) p })
 
 -- The script was replayed.
-pub ends-script : (left old new : Option (List ℕ)) (octets : List ℕ) (script : Script) (result : Result WorldState Stop) → ScriptRules script → SaysAlike left octets → script_of octets ≡ Ok script →
+pub ends-script : (left old new : Option (List ℕ)) (octets : List ℕ) (script : Script) (result : Result WorldState Stop) → ScriptRules script → SaysAlike script_of left octets → script_of octets ≡ Ok script →
     Replays script result old new → IfErr result (λ e. (e ≡ stops.Sink) ⊎ (e ≡ stops.Memory)) → ReplayEnds left result old new
 ends-script left old new octets script (Ok world) rules a e r o = record {
   input = a.input;

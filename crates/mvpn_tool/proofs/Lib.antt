@@ -3,3 +3,4 @@ pub mod FlowsLemmas
 pub mod WorldLemmas
 pub mod OutcomeLemmas
 pub mod EndLemmas
+pub mod DecodeLemmas

@@ -4,3 +4,5 @@ pub mod WorldState
 pub mod Entering
 pub mod Input
 pub mod Outcome
+pub mod DecodeOutcome
+pub mod Commands

@@ -1,7 +1,6 @@
 -- How a replay may end: what it read, what it wrote, and in what world.
-use Rattle.std.specs.Prelude.{◌≡◌, ℕ, ◌⊎◌, ⊤, Bool, false, List, [], ◌∷◌, codes, nat_eq, Option, None, Some, Result, Ok, Err, MatchResult}
+use Rattle.std.specs.Prelude.{◌≡◌, ℕ, ◌⊎◌, ⊤, List, [], Option, None, Some, Result, Ok, Err, MatchResult}
 use Rattle.std.specs.List.{flat_map}
-use Rattle.std.specs.Cmp.Lexicographic.{pointwise}
 use Rattle.mv_io.specs.Octets.{Appended, AppendedPart}
 use Rattle.scenario_defs.specs.declared.event.Timed.{Timed}
 use Rattle.scenario_defs.specs.declared.event.Script.{Script}
@@ -97,13 +96,3 @@ Takes (Err stops.Memory) left rest = ⊤
 abbrev pub EndsWellSome : Option (List ℕ) → Option (List ℕ) → Option (List ℕ) → Option WorldState → Type 0
 EndsWellSome left old new None = ⊥
 EndsWellSome left old new (Some world) = EndsWell left old new world
-
--- whether the words are those of a command
-abbrev pub is_form : List (List ℕ) → Bool
-is_form [] = false
-is_form (word ∷ []) = pointwise nat_eq word (codes "replay")
-is_form (word ∷ other ∷ more) = false
-
--- the line that tells the forms of a command
-abbrev pub usage_line : List ℕ
-usage_line = codes "usage: mvpn replay [--wire] | decode nlri|pmsi|fec|bgp|ldp|pim | make NUMBER | sweep NUMBER\n"

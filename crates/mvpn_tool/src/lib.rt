@@ -1,6 +1,8 @@
 //! Replays a script over a network, from octets to octets.
 #![tactic(auto)]
 
+mod command;
+mod decode;
 mod entering;
 mod entries;
 mod halt;
@@ -13,6 +15,7 @@ mod tables;
 mod top;
 mod world;
 
+pub use command::Command;
 pub use halt::Halt;
 pub use stop::Stop;
 pub use top::{End, run};

@@ -93,7 +93,7 @@ fn replay_script<K: Sink>(alloc: Global, script: Script, sink: &mut K) -> Result
 }
 
 /// Writes the line that tells the fault, and answers why the replay ended.
-fn write_fault<K: Sink>(alloc: Global, fault: TextFault, sink: &mut K) -> Stop
+pub fn write_fault<K: Sink>(alloc: Global, fault: TextFault, sink: &mut K) -> Stop
     ensures text { result ≡ stops.Text → Appended (K.written sink.old) (K.written sink.new) (fault_text fault) }
     ensures part { (result ≡ stops.Text) ⊎ AppendedPart (K.written sink.old) (K.written sink.new) (fault_text fault) }
     ensures later { K.faults sink.old ≤ K.faults sink.new }

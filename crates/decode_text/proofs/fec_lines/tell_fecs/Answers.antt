@@ -1,4 +1,4 @@
-use Rattle.std.proofs.Common.{◌≡◌, ◌+◌, ◌≤◌, ℕ, List, length, take, drop, arith, ap, subst, sym, ◌∙◌}
+use Rattle.std.proofs.Common.{◌+◌, ◌≤◌, ℕ, List, length, take, drop, arith, subst, sym}
 use Rattle.std.proofs.lemmas.List.{take_rest, length-drop}
 use Rattle.mv_base.specs.Cursor.{start}
 use Rattle.mv_base.specs.Octets.{IsOctets}

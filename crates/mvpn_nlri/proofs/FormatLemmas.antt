@@ -4,7 +4,7 @@ use Rattle.std.proofs.lemmas.Bool.{ltb-false, ltb-true, le-ltb, lt-ltb, eqb-true
 use Rattle.std.proofs.lemmas.List.{take_at, drop_at, take-append-drop, length-append, length-take-le}
 use Rattle.mv_base.specs.Octets.{IsOctets}
 use Rattle.mv_base.specs.Cursor.{◌>>=◌}
-use Rattle.mv_base.proofs.Fields.{octets_behind, bind_ok, bind_err, ok_is, err_is, err_again, checked_ok, checked_err}
+use Rattle.mv_base.proofs.Fields.{octets_behind, octets_before, bind_ok, bind_err, ok_is, err_is, err_again, checked_ok, checked_err}
 use Rattle.mvpn_nlri.specs.declared.fault.RouteFault.{RouteFault}
 use Rattle.mvpn_nlri.specs.declared.fault.RouteReason.TheVariants.{Short, LengthTooSmall, LengthTooLarge}
 use Rattle.mvpn_nlri.specs.Bounds.{Bounded, Passes}
@@ -35,6 +35,10 @@ passes_end b text d p = omega (arith, p.place, ap (λ (xs : List ℕ). length xs
 -- Octets behind octets are octets.
 pub passes_octets : (b : Bounded) (text : List ℕ) (d : Bounded) → Passes b text d → IsOctets b.left → IsOctets d.left
 passes_octets b text d p fits = subst IsOctets (ap (λ (xs : List ℕ). drop (length text) xs) p.parts ∙ drop_at text d.left (length text) refl) (octets_behind (length text) b.left fits)
+
+-- What is passed are octets.
+pub passes_text : (b : Bounded) (text : List ℕ) (d : Bounded) → Passes b text d → IsOctets b.left → IsOctets text
+passes_text b text d p fits = subst IsOctets (ap (λ (xs : List ℕ). take (length text) xs) p.parts ∙ take_at text d.left (length text) refl) (octets_before (length text) b.left fits)
 
 pub passes_is : (b : Bounded) (x y : List ℕ) (d : Bounded) → Passes b x d → x ≡ y → Passes b y d
 passes_is b x y d p e = subst (λ (t : List ℕ). Passes b t d) e p
@@ -137,13 +141,13 @@ turned_failing f read b g e = rw e refl
 
 -- A value that stands for the one that was read, and back, has its format.
 pub turned_format : {A B : Type 0} {read : Bounded → Read A} {text : A → List ℕ} {Meets : A → Type 0} {After : Bounded → Type 0} {Fails : Bounded → RouteFault → Type 0}
-    → (f : A → B) (own : B → List ℕ) (Holds : B → Type 0) → ((x : A) → Meets x → (text x ≡ own (f x)) × Holds (f x)) → ((y : B) → Holds y → (x : A) × (y ≡ f x) × (own y ≡ text x) × Meets x)
+    → (f : A → B) (own : B → List ℕ) (Holds : B → Type 0) → ((x : A) → IsOctets (text x) → Meets x → (text x ≡ own (f x)) × Holds (f x)) → ((y : B) → Holds y → (x : A) × (y ≡ f x) × (own y ≡ text x) × Meets x)
     → Format read text Meets After Fails → Format (turned f read) own Holds After Fails
 turned_format {read} {text} {Meets} {After} {Fails} f own Holds there back format = record {
   taken = λ b x fits e.
       let t = turned_ok f read b x e in
       let k = format.taken b t.0 fits t.1 in
-      let w = there t.0.0 k.1.0 in
+      let w = there t.0.0 (passes_text b (text t.0.0) t.0.1 k.0 fits) k.1.0 in
       subst (λ y. Passes b (own y.0) y.1 × (Holds y.0 × After y.1)) t.2 (passes_is b (text t.0.0) (own (f t.0.0)) t.0.1 k.0 w.0, (w.1, k.1.1));
   again = λ b y d p holds end.
       let w = back y holds in

@@ -45,7 +45,7 @@ passes_is b x y d p e = subst (λ (t : List ℕ). Passes b t d) e p
 
 -- ---- so many octets
 
-bounded_is : (left : List ℕ) (place within : ℕ) (d : Bounded) → left ≡ d.left → place ≡ d.place → within ≡ d.within → record { left = left; place = place; within = within } ≡ d
+pub bounded_is : (left : List ℕ) (place within : ℕ) (d : Bounded) → left ≡ d.left → place ≡ d.place → within ≡ d.within → record { left = left; place = place; within = within } ≡ d
 bounded_is left place within d p q r = rw (p, q, r) refl
 
 guarded_ok : {A : Type 0} (p q : Bool) (e f : RouteFault) (x y : A) → cond p (Err e) (cond q (Err f) (Ok x)) ≡ Ok y → (p ≡ false) × (q ≡ false) × (x ≡ y)

@@ -1,2 +1,4 @@
 pub mod FormatLemmas
 pub mod FieldLemmas
+pub mod KeyLemmas
+pub mod RouteLemmas

@@ -2,3 +2,4 @@ pub mod FormatLemmas
 pub mod FieldLemmas
 pub mod KeyLemmas
 pub mod RouteLemmas
+pub mod CallLemmas

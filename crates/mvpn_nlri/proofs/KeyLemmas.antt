@@ -189,7 +189,7 @@ key_taken afi b x fits e =
     let end : Bounded = bounded (len.0.1.within - len.0.0) k.0.1 in
     let all = passes_then b (kind.0.0 ∷ []) kind.0.1 (len.0.0 ∷ key_fields k.0.0) end p.0 (passes_then kind.0.1 (len.0.0 ∷ []) len.0.1 (key_fields k.0.0) end q.0 s.0) in
     let made : LeafKey × Bounded = (k.0.0, end) in
-    subst {x = made} (λ (y : LeafKey × Bounded). Passes b (key y.0) y.1 × IsKey afi y.0) (ok_is made x k.2)
+    subst (λ (y : LeafKey × Bounded). Passes b (key y.0) y.1 × IsKey afi y.0) {x = made} (ok_is made x k.2)
     (passes_is b (kind.0.0 ∷ (len.0.0 ∷ key_fields k.0.0)) (key k.0.0) end all (key_text kind.0.0 len.0.0 k.0.0 r.1.1.0 s.1), r.1.0)
 
 key_kind_is : (k : LeafKey) → IsKeyKind (key_kind k)

@@ -3,3 +3,4 @@ pub mod FieldLemmas
 pub mod KeyLemmas
 pub mod RouteLemmas
 pub mod CallLemmas
+pub mod WritingLemmas

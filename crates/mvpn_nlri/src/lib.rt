@@ -7,10 +7,12 @@ mod fault;
 mod key;
 mod reading;
 mod route;
+mod writing;
 
 pub use fault::{RouteFault, RouteReason};
 pub use reading::{decode, one_spelling};
 pub use route::{Afi, LeafKey, Raw, Route};
+pub use writing::{encode, round_trip};
 
 #[cfg(test)]
 mod tests;

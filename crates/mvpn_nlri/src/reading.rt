@@ -11,8 +11,14 @@ use crate::key::{read_inter, read_key, read_selective};
 use crate::route::{Afi, Raw, Route};
 use mv_base::{Addr, Rd};
 
-/// A route's RD and Source AS, and its source and group.
-type Join = (Rd, (u32, (Addr, Addr)));
+/// The fields of a C-multicast route.
+#[derive(Clone, Copy, Debug)]
+struct Join {
+    rd: Rd,
+    source_as: u32,
+    source: Addr,
+    group: Addr,
+}
 
 #[tactic(auto, unfolding(crate::specs::Reading::intra_at))]
 fn read_intra(fields: &mut Fields<'_>) -> Result<Route, RouteFault>
@@ -44,12 +50,17 @@ fn read_active(fields: &mut Fields<'_>, afi: Afi) -> Result<Route, RouteFault>
 /// Reads the fields of a C-multicast route.
 #[tactic(auto, unfolding(crate::specs::Reading::join_at))]
 fn read_join(fields: &mut Fields<'_>, afi: Afi) -> Result<Join, RouteFault>
-    ensures { Gives (λ join. join) result fields.new (join_at afi fields.old) }
+    ensures { Gives (λ join. (join.rd, (join.source_as, (join.source, join.group)))) result fields.new (join_at afi fields.old) }
 {
     let rd = fields.rd()?;
     let source_as = fields.source_as()?;
-    let flow = read_flow(fields, afi)?;
-    Ok((rd, (source_as, flow)))
+    let (source, group) = read_flow(fields, afi)?;
+    Ok(Join {
+        rd,
+        source_as,
+        source,
+        group,
+    })
 }
 
 #[tactic(auto, unfolding(crate::specs::Reading::other_at))]
@@ -74,21 +85,21 @@ fn read_fields(fields: &mut Fields<'_>, afi: Afi, kind: u8) -> Result<Route, Rou
         4 => read_leaf(fields, afi),
         5 => read_active(fields, afi),
         6 => {
-            let (rd, (source_as, (source, group))) = read_join(fields, afi)?;
+            let join = read_join(fields, afi)?;
             Ok(Route::SharedJoin {
-                rd,
-                source_as,
-                source,
-                group,
+                rd: join.rd,
+                source_as: join.source_as,
+                source: join.source,
+                group: join.group,
             })
         }
         7 => {
-            let (rd, (source_as, (source, group))) = read_join(fields, afi)?;
+            let join = read_join(fields, afi)?;
             Ok(Route::SourceJoin {
-                rd,
-                source_as,
-                source,
-                group,
+                rd: join.rd,
+                source_as: join.source_as,
+                source: join.source,
+                group: join.group,
             })
         }
         _ => read_other(fields, kind),

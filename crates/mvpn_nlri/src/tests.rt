@@ -1,4 +1,6 @@
 //! Routes and faults that were spelled by hand.
+ghost use Rattle.std.specs.Prelude.{◌≤◌, length};
+
 use super::*;
 use mv_base::{Addr, Rd};
 use std::test::*;
@@ -16,6 +18,16 @@ const SECOND: Addr = Addr::V4([192, 0, 2, 2]);
 const SOURCE_6: Addr = Addr::V6([0x20, 1, 0xd, 0xb8, 0, 0, 0, 0, 0, 0, 0, 0, 0, 0, 0, 9]);
 
 const GROUP_6: Addr = Addr::V6([0xff, 0x3e, 0, 0, 0, 0, 0, 0, 0, 0, 0, 0, 0, 0, 0, 1]);
+
+/// Writes the route that is read, and answers how many octets it has.
+fn rewrite(afi: Afi, bytes: &[u8], out: &mut [u8]) -> Option<usize>
+    requires { 257 ≤ length out.old }
+{
+    match decode(afi, bytes) {
+        Ok((route, _)) => Some(encode(&route, out)),
+        Err(_) => None,
+    }
+}
 
 #[test]
 fn reads_and_writes(rt: HostRuntime) -> Result<(), Fail> {
@@ -103,7 +115,10 @@ fn reads_and_writes(rt: HostRuntime) -> Result<(), Fail> {
         (Afi::Ipv4, b"\x09\x02\xaa\xbb", Route::Other(9, raw)),
     ];
     for (afi, bytes, route) in cases.iter() {
+        let mut out = [0xff; 257];
         assert!(rt; decode(*afi, bytes) == Ok((*route, bytes.len())));
+        assert!(rt; rewrite(*afi, bytes, &mut out) == Some(bytes.len()));
+        assert!(rt; out.starts_with(bytes));
     }
     Ok(())
 }

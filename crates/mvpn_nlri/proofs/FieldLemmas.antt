@@ -1,7 +1,7 @@
 -- The fields of routes: each is read exactly where it stands, and its faults.
-use Rattle.std.proofs.Common.{◌≡◌, ◌≢◌, ℕ, suc, ◌+◌, ◌<◌, ◌≤◌, Bool, true, false, cond, eqb, leb, ◌&&◌, ◌⊎◌, List, [], ◌∷◌, ◌++◌, length, get_or, take, drop, Option, Some, None, Result, Ok, Err, refl, sym, ap, subst, ◌∙◌, arith, inl, inr}
+use Rattle.std.proofs.Common.{◌≡◌, ◌≢◌, ℕ, ◌+◌, ◌<◌, ◌≤◌, Bool, true, false, eqb, ◌&&◌, ◌⊎◌, List, [], ◌∷◌, ◌++◌, length, get_or, take, drop, Option, Some, None, Ok, Err, refl, sym, ap, subst, ◌∙◌, arith, inl, inr}
 use Rattle.std.specs.Int.{w32, to_be_bytes, from_be_bytes}
-use Rattle.std.proofs.lemmas.Bool.{eqb-true, eq-eqb, ne_eqb, eqb-false, leb-true, leb-false, le-leb}
+use Rattle.std.proofs.lemmas.Bool.{eqb-true, eq-eqb, ne_eqb, eqb-false, leb-true, le-leb}
 use Rattle.std.proofs.lemmas.List.{take-append-drop, length-take-le}
 use Rattle.mv_base.specs.declared.addr.Addr.{Addr}
 use Rattle.mv_base.specs.declared.addr.Addr.TheVariants.{V4, V6}
@@ -18,8 +18,8 @@ use Rattle.mvpn_nlri.specs.Bounds.{Bounded, Passes}
 use Rattle.mvpn_nlri.specs.Spelling.{IsRd, IsAs, IsAddr, IsSource, IsMulticast, IsGroup, IsAnyOr, plain, sized, any_or_sized}
 use Rattle.mvpn_nlri.specs.FirstFault as faults
 use Rattle.mvpn_nlri.specs.FirstFault.{Is, Lacks, bits, addr_len, wrong_len, IsPart, AnyOrFault, AddrFault, OriginatorFault, FlowFault}
-use Rattle.mvpn_nlri.specs.Reading.{fault, octets_within, turned, octet_at, rd_at, as_at, is_multicast, is_part, addr_of, plain_at, any_or_addr_at, no_wildcard, addr_at, originator_at, flow_at}
-use Rattle.mvpn_nlri.proofs.FormatLemmas.{Format, Open, Ends, passes_then, passes_split, passes_is, passes_end, octets_taken, octets_again, octets_fail, fail_octets, lacks_near, is_near, octets_format, turned_format, turned_ok, turned_err, turned_again, both_format, closed_format}
+use Rattle.mvpn_nlri.specs.Reading.{fault, octets_within, octet_at, rd_at, as_at, is_multicast, is_part, addr_of, plain_at, any_or_addr_at, no_wildcard, addr_at, originator_at, flow_at}
+use Rattle.mvpn_nlri.proofs.FormatLemmas.{Format, Open, Ends, passes_then, passes_split, passes_is, passes_end, octets_taken, octets_again, octets_fail, fail_octets, lacks_near, is_near, octets_format, turned_format, turned_ok, turned_err, both_format, closed_format}
 
 -- ---- octets and numbers
 

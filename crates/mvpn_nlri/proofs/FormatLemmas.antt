@@ -1,12 +1,11 @@
 -- Fields that a length bounds: what is read stands there, what stands there is read, and the fault is the first one.
-use Rattle.std.proofs.Common.{◌≡◌, ◌≢◌, ℕ, ◌+◌, ◌-◌, ◌<◌, ◌≤◌, Bool, true, false, cond, ltb, ◌⊎◌, List, [], ◌∷◌, ◌++◌, length, take, drop, Result, Ok, Err, refl, sym, ap, subst, ◌∙◌, append_assoc, arith, inl, inr}
+use Rattle.std.proofs.Common.{◌≡◌, ◌≢◌, ℕ, ◌+◌, ◌-◌, ◌≤◌, Bool, true, false, cond, ltb, ◌⊎◌, List, ◌++◌, length, take, drop, Ok, Err, refl, sym, ap, subst, ◌∙◌, append_assoc, arith, inl, inr}
 use Rattle.std.proofs.lemmas.Bool.{ltb-false, ltb-true, le-ltb, lt-ltb, eqb-true, eq-eqb, ne_eqb, eqb-false}
 use Rattle.std.proofs.lemmas.List.{take_at, drop_at, take-append-drop, length-append, length-take-le}
 use Rattle.mv_base.specs.Octets.{IsOctets}
-use Rattle.mv_base.specs.Cursor.{◌>>=◌}
-use Rattle.mv_base.proofs.Fields.{octets_behind, octets_before, bind_ok, bind_err, ok_is, err_is, err_again, checked_ok, checked_err}
+use Rattle.mv_base.proofs.Fields.{octets_behind, octets_before, bind_ok, bind_err, ok_is, err_again, checked_ok, checked_err}
 use Rattle.mvpn_nlri.specs.declared.fault.RouteFault.{RouteFault}
-use Rattle.mvpn_nlri.specs.declared.fault.RouteReason.TheVariants.{Short, LengthTooSmall, LengthTooLarge}
+use Rattle.mvpn_nlri.specs.declared.fault.RouteReason.TheVariants.{Short, LengthTooSmall}
 use Rattle.mvpn_nlri.specs.Bounds.{Bounded, Passes}
 use Rattle.mvpn_nlri.specs.FirstFault as faults
 use Rattle.mvpn_nlri.specs.FirstFault.{Is, Lacks, Then, Remains}

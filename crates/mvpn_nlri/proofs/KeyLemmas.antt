@@ -1,12 +1,11 @@
 -- Keys: each is read exactly where it is spelled, and its first fault.
-use Rattle.std.proofs.Common.{◌≡◌, ◌≢◌, ℕ, ◌+◌, ◌-◌, ◌<◌, ◌≤◌, Bool, true, false, cond, eqb, leb, ◌||◌, ◌⊎◌, List, [], ◌∷◌, ◌++◌, length, Option, Some, None, Result, Ok, Err, refl, sym, ap, subst, ◌∙◌, arith, inl, inr}
+use Rattle.std.proofs.Common.{◌≡◌, ◌≢◌, ℕ, ◌+◌, ◌-◌, ◌<◌, ◌≤◌, Bool, true, false, eqb, leb, ◌||◌, ◌⊎◌, List, [], ◌∷◌, ◌++◌, length, Option, Ok, Err, refl, sym, ap, subst, ◌∙◌, arith, inl, inr}
 use Rattle.std.specs.Int.{w32, to_be_bytes}
-use Rattle.std.proofs.lemmas.Bool.{eqb-true, eq-eqb, ne_eqb, eqb-false, leb-true, leb-false, le-leb, lt-leb}
+use Rattle.std.proofs.lemmas.Bool.{eqb-true, ne_eqb, eqb-false, leb-true, leb-false, le-leb, lt-leb}
 use Rattle.mv_base.specs.declared.addr.Addr.{Addr}
 use Rattle.mv_base.specs.declared.rd.Rd.{Rd}
 use Rattle.mv_base.specs.Octets.{IsOctets}
-use Rattle.mv_base.specs.Cursor.{checked}
-use Rattle.mv_base.proofs.Fields.{bind_ok, bind_err, ok_is, err_again, checked_ok, checked_err, chosen}
+use Rattle.mv_base.proofs.Fields.{bind_ok, bind_err, ok_is, err_again, checked_ok, checked_err}
 use Rattle.mvpn_nlri.specs.declared.fault.RouteFault.{RouteFault}
 use Rattle.mvpn_nlri.specs.declared.fault.RouteReason.TheVariants.{LengthTooSmall, KeyType}
 use Rattle.mvpn_nlri.specs.declared.route.Afi.{Afi}
@@ -17,7 +16,7 @@ use Rattle.mvpn_nlri.specs.Bounds.{Bounded, Passes, bounded}
 use Rattle.mvpn_nlri.specs.Spelling.{IsRd, IsAs, IsAddr, IsSource, IsGroup, IsAnyOr, IsKey, plain, any_or_sized, key_kind, key_fields, key}
 use Rattle.mvpn_nlri.specs.FirstFault as faults
 use Rattle.mvpn_nlri.specs.FirstFault.{Is, Lacks, InterFault, SelectiveFault, KeyFieldsFault, KeyFault}
-use Rattle.mvpn_nlri.specs.Reading.{fault, octet_at, rd_at, as_at, both, closed, any_or_addr_at, originator_at, inter_of, selective_of, inter_at, selective_at, key_fields_at, key_kind_at, key_len_at, key_at}
+use Rattle.mvpn_nlri.specs.Reading.{fault, octet_at, inter_of, selective_of, inter_at, selective_at, key_fields_at, key_kind_at, key_len_at, key_at}
 use Rattle.mvpn_nlri.proofs.FormatLemmas.{Format, Open, Ends, passes_then, passes_split, passes_is, passes_end, passes_octets, bounded_is, lacks_near, is_near, turned_format, both_format, closed_format}
 use Rattle.mvpn_nlri.proofs.FieldLemmas.{octet_format, rd_format, as_format, any_or_format, originator_format}
 

@@ -1,11 +1,10 @@
 -- The fields of a route: they are read exactly where they are spelled, and their first fault.
-use Rattle.std.proofs.Common.{◌≡◌, ◌≢◌, ℕ, ◌+◌, ◌<◌, ◌≤◌, Bool, true, false, cond, eqb, ◌⊎◌, List, [], ◌∷◌, ◌++◌, length, Result, Ok, Err, refl, sym, ap, subst, ◌∙◌, arith, inl, inr}
+use Rattle.std.proofs.Common.{◌≡◌, ◌≢◌, ℕ, ◌+◌, ◌<◌, ◌≤◌, Bool, true, false, eqb, ◌⊎◌, List, ◌++◌, length, Ok, Err, refl, sym, ap, subst, ◌∙◌, arith, inl, inr}
 use Rattle.std.specs.Int.{w32, to_be_bytes}
 use Rattle.std.proofs.lemmas.Bool.{eqb-true, ne_eqb, eqb-false}
 use Rattle.mv_base.specs.declared.addr.Addr.{Addr}
 use Rattle.mv_base.specs.declared.rd.Rd.{Rd}
 use Rattle.mv_base.specs.Octets.{IsOctets}
-use Rattle.mv_base.proofs.Fields.{ok_is, err_again}
 use Rattle.mvpn_nlri.specs.declared.fault.RouteFault.{RouteFault}
 use Rattle.mvpn_nlri.specs.declared.fault.RouteReason.TheVariants.{Short}
 use Rattle.mvpn_nlri.specs.declared.route.Afi.{Afi}
@@ -14,13 +13,13 @@ use Rattle.mvpn_nlri.specs.declared.route.LeafKey.TheVariants as keys
 use Rattle.mvpn_nlri.specs.declared.route.Route.{Route}
 use Rattle.mvpn_nlri.specs.declared.route.Route.TheVariants.{Intra, Inter, Selective, Leaf, Active, SharedJoin, SourceJoin, Other}
 use Rattle.mvpn_nlri.specs.Bounds.{Bounded, Passes}
-use Rattle.mvpn_nlri.specs.Spelling.{IsRd, IsAs, IsAddr, IsSource, IsGroup, IsKey, IsOther, IsRoute, plain, sized, key, key_kind, key_fields, kind, fields}
+use Rattle.mvpn_nlri.specs.Spelling.{IsRd, IsAs, IsAddr, IsSource, IsGroup, IsKey, IsOther, IsRoute, plain, sized, key, key_fields, kind, fields}
 use Rattle.mvpn_nlri.specs.FirstFault as faults
 use Rattle.mvpn_nlri.specs.FirstFault.{Is, RdThen, AsThen, FlowFault, OriginatorFault, Then, KeyFault, FieldsFault}
-use Rattle.mvpn_nlri.specs.Reading.{Read, octets_within, turned, both, rd_at, as_at, flow_at, originator_at, key_at, inter_at, selective_at, own_route, intra_of, leaf_of, active_of, shared_of, source_of, intra_at, leaf_at, active_at, join_at, other_at, fields_at}
+use Rattle.mvpn_nlri.specs.Reading.{Read, octets_within, turned, both, rd_at, flow_at, originator_at, key_at, inter_at, selective_at, own_route, intra_of, leaf_of, active_of, shared_of, source_of, intra_at, leaf_at, active_at, join_at, other_at, fields_at}
 use Rattle.mvpn_nlri.proofs.FormatLemmas.{Format, Ends, passes_is, octets_taken, octets_again, is_near, turned_ok, turned_err, turned_again, turned_failing, both_format}
 use Rattle.mvpn_nlri.proofs.FieldLemmas.{rd_format, as_format, flow_format, originator_format, rest_fails, fail_rest}
-use Rattle.mvpn_nlri.proofs.KeyLemmas.{IsInter, IsSelective, inter_key, selective_key, inter_format, selective_format, key_format, fields_near}
+use Rattle.mvpn_nlri.proofs.KeyLemmas.{IsInter, IsSelective, inter_format, selective_format, key_format, fields_near}
 
 -- ---- the fields of each type, as pairs
 

@@ -1,6 +1,6 @@
 -- The first fault of octets: whole fields that meet their conditions stand before its place, and the next one fails.
 -- A field is tried against the length that encloses it, then against the input, and then by its own condition.
-use Rattle.std.specs.Prelude.{◌≡◌, ◌≢◌, ℕ, ◌<◌, ◌≤◌, ◌⊎◌, List, [], ◌∷◌, ◌++◌, length, take}
+use Rattle.std.specs.Prelude.{◌≡◌, ◌≢◌, ℕ, ◌<◌, ◌≤◌, ◌⊎◌, List, [], ◌∷◌, length, take}
 use Rattle.std.specs.Int.{w32, to_be_bytes}
 use Rattle.mv_base.specs.declared.addr.Addr.{Addr}
 use Rattle.mv_base.specs.declared.rd.Rd.{Rd}
@@ -9,11 +9,10 @@ use Rattle.mvpn_nlri.specs.declared.fault.RouteReason.{RouteReason}
 use Rattle.mvpn_nlri.specs.declared.fault.RouteReason.TheVariants.{Short, LengthTooSmall, LengthTooLarge, SourceLength, GroupLength, Wildcard, OriginatorLength, KeyType, GroupNotMulticast}
 use Rattle.mvpn_nlri.specs.declared.route.Afi.{Afi}
 use Rattle.mvpn_nlri.specs.declared.route.Afi.TheVariants.{Ipv4, Ipv6}
-use Rattle.mvpn_nlri.specs.declared.route.LeafKey.{LeafKey}
 use Rattle.mvpn_nlri.specs.declared.address.Role.{Role}
 use Rattle.mvpn_nlri.specs.declared.address.Role.TheVariants.{Source, Group}
 use Rattle.mvpn_nlri.specs.Bounds.{Bounded, Passes, bounded}
-use Rattle.mvpn_nlri.specs.Spelling.{IsRd, IsAs, IsAddr, IsSource, IsMulticast, IsGroup, IsAnyOr, IsOther, IsKey, plain, sized, any_or_sized, key}
+use Rattle.mvpn_nlri.specs.Spelling.{IsRd, IsAs, IsSource, IsMulticast, IsGroup, IsAnyOr, IsOther, IsKey, plain, sized, any_or_sized, key}
 
 -- the fault is this one
 abbrev pub Is : RouteFault → ℕ → RouteReason → Type 0

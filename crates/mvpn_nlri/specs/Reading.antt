@@ -7,7 +7,7 @@ use Rattle.mv_base.specs.declared.addr.Addr.TheVariants.{V4, V6}
 use Rattle.mv_base.specs.declared.rd.Rd.{Rd}
 use Rattle.mvpn_nlri.specs.declared.fault.RouteFault.{RouteFault}
 use Rattle.mvpn_nlri.specs.declared.fault.RouteReason.{RouteReason}
-use Rattle.mvpn_nlri.specs.declared.fault.RouteReason.TheVariants.{Short, LengthTooSmall, LengthTooLarge, SourceLength, GroupLength, Wildcard, OriginatorLength, KeyType, GroupNotMulticast}
+use Rattle.mvpn_nlri.specs.declared.fault.RouteReason.TheVariants.{Short, LengthTooSmall, LengthTooLarge, Wildcard, OriginatorLength, KeyType, GroupNotMulticast}
 use Rattle.mvpn_nlri.specs.declared.route.Afi.{Afi}
 use Rattle.mvpn_nlri.specs.declared.route.Afi.TheVariants.{Ipv4, Ipv6}
 use Rattle.mvpn_nlri.specs.declared.route.LeafKey.{LeafKey}

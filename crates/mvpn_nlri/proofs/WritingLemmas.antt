@@ -86,7 +86,3 @@ fields_room afi (SharedJoin rd source_as source group) h =
 fields_room afi (SourceJoin rd source_as source group) h =
     omega (arith, h.0, sized_room afi source h.1.1.0, sized_room afi group h.1.1.1.0, length-append rd.0 (to_be_bytes w32 source_as ++ (sized source ++ sized group)), length-append (sized source) (sized group))
 fields_room afi (Other number octets) h = h.1
-
--- A key whose route has fewer than 256 octets has fewer.
-pub key_few : (k : LeafKey) (originator : Addr) → length (key k ++ plain originator) < 256 → length (key_fields k) < 256
-key_few k originator h = omega (arith, h, length-append (key_fields k) (plain originator))

@@ -32,7 +32,7 @@ pub data Then {A : Type 0} (text : A → List ℕ) (Meets : A → Type 0) (First
 abbrev pub Remains : Bounded → RouteFault → Type 0
 Remains b f = (0 < b.within) × Is f b.place LengthTooLarge
 
--- a number of bits and of octets by family
+-- the bits and the octets of an address by family
 abbrev pub bits : Afi → ℕ
 bits Ipv4 = 32
 bits Ipv6 = 128

@@ -84,7 +84,7 @@ IsKey afi (keys.Selective rd source group originator) = IsRd rd × (IsAnyOr (IsS
 
 -- ---- routes
 
--- the types of RFC 6514 are 1 to 7
+-- a type that is none of the seven of RFC 6514
 abbrev pub IsOther : ℕ → Type 0
 IsOther kind = (kind ≡ 0) ⊎ (7 < kind)
 

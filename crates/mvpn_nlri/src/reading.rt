@@ -136,8 +136,8 @@ fn read_route(afi: Afi, bytes: &[u8]) -> Result<(Route, usize), RouteFault>
 
 /// The route at the front of the octets, and how many of them it has.
 ///
-/// The family of its source and group is that of `afi`. Octets behind the route may be anything. The answer is the
-/// first fault where no route stands at the front (RFC 6514 section 4).
+/// The AFI tells the family of its source and group. Octets behind the route may be anything. Where no route stands
+/// at the front, the answer is the first fault (RFC 6514 section 4).
 pub fn decode(afi: Afi, bytes: &[u8]) -> Result<(Route, usize), RouteFault>
     // It is what reading from left to right gives.
     ensures exact { result ≡ route_at afi bytes.now }

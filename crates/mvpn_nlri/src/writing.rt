@@ -152,6 +152,18 @@ fn put_key(out: &mut [u8], place: usize, leaf_key: &LeafKey) -> usize
     end
 }
 
+/// Writes the fields of a Leaf A-D route.
+#[tactic(auto, using(crate::proofs::WritingLemmas::puts_two))]
+fn put_leaf(out: &mut [u8], place: usize, leaf_key: &LeafKey, originator: &Addr) -> usize
+    requires few { length (key leaf_key.now ++ plain originator.now) < 256 }
+    requires room { place + length (key leaf_key.now ++ plain originator.now) ≤ length out.old }
+    ensures place { result ≡ place + length (key leaf_key.now ++ plain originator.now) }
+    ensures octets { out.new ≡ put_at out.old place (key leaf_key.now ++ plain originator.now) }
+{
+    let place = put_key(out, place, leaf_key);
+    put_plain(out, place, originator)
+}
+
 /// Writes the fields of a route.
 #[tactic(auto, using(crate::proofs::WritingLemmas::puts_two))]
 fn put_fields(out: &mut [u8], place: usize, route: &Route) -> usize
@@ -172,10 +184,7 @@ fn put_fields(out: &mut [u8], place: usize, route: &Route) -> usize
             group,
             originator,
         } => put_selective(out, place, rd, source, group, originator),
-        Route::Leaf { key, originator } => {
-            let place = put_key(out, place, key);
-            put_plain(out, place, originator)
-        }
+        Route::Leaf { key, originator } => put_leaf(out, place, key, originator),
         Route::Active { rd, source, group } => {
             let place = put(out, place, &rd.0);
             put_flow(out, place, source, group)
@@ -211,7 +220,9 @@ fn kind_of(route: &Route) -> u8
     }
 }
 
-/// Writes the route to the front of 257 octets or more, and answers how many octets it has. The others stay.
+/// Writes the route to the front, and answers how many octets it has. The others stay.
+///
+/// The route has a spelling under AFI 1 or 2 (RFC 6514 section 4), and 257 octets have room for each of them.
 #[tactic(auto, using(crate::proofs::WritingLemmas::puts_before))]
 pub fn encode(route: &Route, out: &mut [u8]) -> usize
     requires spelled { (afi : Afi) × Spells afi route.now (written route.now) }

@@ -66,9 +66,10 @@ pub record Spells (p : Pmsi) (text : List ℕ) : Type 0 where
 abbrev pub leaf_bit : Bool → ℕ
 leaf_bit leaf = if leaf then 1 else 0
 
--- the text that is written: zeros in those bits
+-- the header that is written: zeros in those bits
 abbrev pub written_header : Pmsi → List ℕ
 written_header p = header (leaf_bit p.leaf_info) p 0
 
+-- the text that is written
 abbrev pub written : Pmsi → List ℕ
 written p = written_header p ++ identifier p.tunnel

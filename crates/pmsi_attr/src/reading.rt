@@ -1,21 +1,16 @@
 //! Reading a PMSI Tunnel attribute.
-ghost use Rattle.std.specs.Prelude.{◌≡◌, ◌≤◌, List, ℕ, length, take, IfOk, IfErr};
-ghost use Rattle.mv_base.specs.Cursor.{IsRead, start};
-ghost use Rattle.mldp_fec.specs.Reading.{fec_at};
+ghost use Rattle.std.specs.Prelude.{◌≡◌, ◌≤◌, List, ℕ, length, IfOk, IfErr};
 ghost use Rattle.pmsi_attr.specs.Reading.{misfit, none_of, mldp_of, ingress_of, other_of, tunnel_of, label_of, label_behind, pmsi_of};
 ghost use Rattle.pmsi_attr.specs.Spelling.{Spells, written};
 ghost use Rattle.pmsi_attr.specs.FirstFault.{FirstFault};
 
 use crate::fault::{PmsiFault, PmsiReason};
 use crate::pmsi::{Ident, Pmsi, Tunnel};
-use mldp_fec::{Fec, FecFault, FecKind};
+use mldp_fec::FecKind;
 use mv_base::Addr;
 
 /// The place of the tunnel identifier.
 const IDENTIFIER: u32 = 5;
-
-/// The most octets that a FEC element has.
-const MOST: usize = 86;
 
 /// The flag of leaf information.
 pub(crate) const LEAF_INFO: u8 = 0x01;
@@ -47,31 +42,11 @@ fn read_none(octets: &[u8]) -> Result<Tunnel, PmsiFault>
     Ok(Tunnel::None)
 }
 
-/// The octets that an element at the front can have.
-fn front_of(octets: &[u8]) -> &[u8]
-    ensures front { result.now ≡ take MOST octets.now }
-    ensures within { length result.now ≤ MOST }
-{
-    if octets.len() <= MOST {
-        octets
-    } else {
-        &octets[..MOST]
-    }
-}
-
-/// The FEC element at the front, and how many octets it has.
-fn read_element(octets: &[u8]) -> Result<(Fec, usize), FecFault>
-    ensures read { IsRead result (fec_at (start octets.now)) }
-    ensures within { IfErr result (λ fault. fault.place ≤ MOST) }
-{
-    mldp_fec::decode(front_of(octets))
-}
-
 #[tactic(auto, unfolding(crate::specs::Reading::mldp_of))]
 fn read_mldp(octets: &[u8]) -> Result<Tunnel, PmsiFault>
     ensures { result ≡ mldp_of octets.now }
 {
-    match read_element(octets) {
+    match mldp_fec::decode(octets) {
         Ok((element, len)) => {
             if element.kind != FecKind::P2mp || len != octets.len() {
                 return Err(misfit());
@@ -160,7 +135,7 @@ fn read_pmsi(bytes: &[u8]) -> Result<Pmsi, PmsiFault>
     }
 }
 
-/// The value that all the octets are.
+/// The value of an attribute that all the octets spell (RFC 6514 section 5), or their first fault.
 pub fn decode(bytes: &[u8]) -> Result<Pmsi, PmsiFault>
     // It is what reading from left to right gives.
     ensures exact { result ≡ pmsi_of bytes.now }

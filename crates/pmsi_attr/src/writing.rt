@@ -55,7 +55,7 @@ fn put_identifier(out: &mut [u8], tunnel: &Tunnel) -> usize
     }
 }
 
-/// Writes the value to the front, and answers how many octets it has. The others stay.
+/// Writes the value to the front, and answers how many octets it has, at most 101. The others stay.
 pub fn encode(pmsi: &Pmsi, out: &mut [u8]) -> usize
     requires spelled { Spells pmsi.now (written pmsi.now) }
     requires room { 101 ≤ length out.old }

@@ -1,0 +1,3 @@
+pub mod TunnelLemmas
+pub mod PmsiLemmas
+pub mod WritingLemmas

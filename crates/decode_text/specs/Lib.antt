@@ -1,3 +1,4 @@
 pub mod HexText
 pub mod ValueText
 pub mod Values
+pub mod Formats

@@ -1,48 +1,38 @@
 -- Octets that are values end to end, or values and then a fault; and the lines of both.
-use Rattle.std.specs.Prelude.{◌≡◌, ℕ, ◌+◌, ◌<◌, Bool, true, false, List, ◌++◌, length}
+use Rattle.std.specs.Prelude.{◌≡◌, ℕ, ◌<◌, List, ◌++◌, length}
 use Rattle.std.specs.List.{flat_map, AllByRecursion}
-use Rattle.mv_base.specs.Cursor.{start}
-use Rattle.mldp_fec.specs.declared.fault.FecFault.{FecFault}
-use Rattle.mldp_fec.specs.declared.fec.Fec.{Fec}
-use Rattle.mldp_fec.specs.FirstFault.{FirstFault}
-use Rattle.mldp_fec.specs.Spelling.{Spells, written}
-use Rattle.decode_text.specs.ValueText.{fec_line, fec_word, refused_line}
 
--- the FEC element has a spelling
-abbrev pub IsFec : Fec → Type 0
-IsFec fec = Spells fec (written fec)
+-- How values of a format are spelled and told: the octets and the condition of each, the first fault of octets, the
+-- line of each, and the line of a fault behind so many octets.
+pub record Telling (T F : Type 0) : Type 1 where
+  pub text : T → List ℕ
+  pub Is : T → Type 0
+  pub First : List ℕ → F → Type 0
+  pub line : T → List ℕ
+  pub refusal : ℕ → F → List ℕ
 
--- The octets are those FEC elements, end to end.
-pub record AreFecs (octets : List ℕ) (fecs : List Fec) : Type 0 where
-  pub spelled : AllByRecursion IsFec fecs
-  pub whole : octets ≡ flat_map written fecs
+-- The octets are those values, end to end.
+pub record Whole {T F : Type 0} (t : Telling T F) (octets : List ℕ) (values : List T) : Type 0 where
+  pub spelled : AllByRecursion t.Is values
+  pub whole : octets ≡ flat_map t.text values
 
--- Those FEC elements stand first, octets follow, and these have that first fault.
-pub record StopFecs (octets : List ℕ) (fecs : List Fec) (fault : FecFault) : Type 0 where
-  pub spelled : AllByRecursion IsFec fecs
+-- Those values stand first, octets follow, and these have that first fault.
+pub record Stop {T F : Type 0} (t : Telling T F) (octets : List ℕ) (values : List T) (fault : F) : Type 0 where
+  pub spelled : AllByRecursion t.Is values
   pub rest : List ℕ
-  pub whole : octets ≡ flat_map written fecs ++ rest
+  pub whole : octets ≡ flat_map t.text values ++ rest
   pub more : 0 < length rest
-  pub first : FirstFault (start rest) fault
+  pub first : t.First rest fault
 
--- the place of a fault behind those FEC elements
-abbrev pub place_behind : List Fec → FecFault → ℕ
-place_behind fecs fault = length (flat_map written fecs) + fault.place
+-- The text has the lines of the values that the octets are.
+pub record TellsWhole {T F : Type 0} (t : Telling T F) (octets told : List ℕ) : Type 0 where
+  pub values : List T
+  pub whole : Whole t octets values
+  pub lines : told ≡ flat_map t.line values
 
--- The text has the lines of the FEC elements that the octets are.
-pub record TellsFecs (octets text : List ℕ) : Type 0 where
-  pub fecs : List Fec
-  pub whole : AreFecs octets fecs
-  pub told : text ≡ flat_map fec_line fecs
-
--- The text has the lines of the FEC elements before the first fault, and that fault.
-pub record TellsFault (octets text : List ℕ) : Type 0 where
-  pub fecs : List Fec
-  pub fault : FecFault
-  pub stop : StopFecs octets fecs fault
-  pub told : text ≡ flat_map fec_line fecs ++ refused_line (place_behind fecs fault) (fec_word fault.reason)
-
--- what a text tells of octets, by whether a fault was met
-abbrev pub Tells : Bool → List ℕ → List ℕ → Type 0
-Tells false octets text = TellsFecs octets text
-Tells true octets text = TellsFault octets text
+-- The text has the lines of the values before the first fault, and that of the fault.
+pub record TellsStop {T F : Type 0} (t : Telling T F) (octets told : List ℕ) : Type 0 where
+  pub values : List T
+  pub fault : F
+  pub stop : Stop t octets values fault
+  pub lines : told ≡ flat_map t.line values ++ t.refusal (length (flat_map t.text values)) fault

@@ -3,9 +3,15 @@
 
 mod addr_text;
 mod fec_lines;
+mod format;
 mod hex_text;
+mod pmsi_lines;
+mod refused;
+mod route_lines;
+mod telling;
 #[cfg(test)]
 mod tests;
 
-pub use fec_lines::{Told, tell_fecs};
+pub use format::Format;
 pub use hex_text::read_octets;
+pub use telling::{Told, tell};

@@ -57,7 +57,7 @@ fn lines_of_fec_elements(rt: HostRuntime) -> Result<(), Fail> {
         let octets = read_octets(rt.alloc(), text)
             .ok()
             .ok_or("the text is octets")?;
-        let told = tell_fecs(rt.alloc(), octets.as_slice())?;
+        let told = tell(rt.alloc(), Format::Fec, octets.as_slice())?;
         assert_eq!(rt; told.text.as_slice(), *lines);
         assert_eq!(rt; told.refused, *refused);
     }

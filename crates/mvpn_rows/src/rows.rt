@@ -193,30 +193,117 @@ fn words_of_no_form_give_the_usage_line(rt: HostRuntime) -> Result<(), Fail> {
 }
 
 #[test]
-fn elements_are_decoded(rt: HostRuntime) -> Result<(), Fail> {
-    let rows: [(&str, u8, &str); 9] = [
-        ("", 0, ""),
+fn octets_are_decoded(rt: HostRuntime) -> Result<(), Fail> {
+    let rows: [(&str, &str, u8, &str); 24] = [
         (
+            "nlri",
+            "010C0000FDE800000001C0000201\n",
+            0,
+            "intra 0000fde800000001 192.0.2.1\n",
+        ),
+        (
+            "nlri",
+            "010C0000FDE800000001C00002",
+            1,
+            "refused 10 short\n",
+        ),
+        (
+            "nlri",
+            "030E0000FDE8000000010000C0000201 010C0000FDE800000001C0000201",
+            0,
+            "selective 0000fde800000001 * * 192.0.2.1\nintra 0000fde800000001 192.0.2.1\n",
+        ),
+        (
+            "nlri",
+            "050A0000FDE8000000010000",
+            1,
+            "refused 10 wildcard\n",
+        ),
+        (
+            "nlri",
+            "041C03160000FDE800000001200A01000920E8010101C0000201C0000202",
+            0,
+            "leaf 192.0.2.2 selective 0000fde800000001 10.1.0.9 232.1.1.1 192.0.2.1\n",
+        ),
+        (
+            "nlri",
+            "041C05160000FDE800000001200A01000920E8010101C0000201C0000202",
+            1,
+            "refused 2 key-type\n",
+        ),
+        ("nlri", "01", 1, "refused 1 short\n"),
+        ("nlri", "0100", 1, "refused 2 length-too-small\n"),
+        (
+            "nlri",
+            "010D0000FDE800000001C000020100",
+            1,
+            "refused 10 originator-length\n",
+        ),
+        (
+            "nlri",
+            "020D0000FDE8000000010000FDE800",
+            1,
+            "refused 14 length-too-large\n",
+        ),
+        (
+            "nlri",
+            "03160000FDE800000001180A01000920E8010101C0000201",
+            1,
+            "refused 10 source-length\n",
+        ),
+        (
+            "nlri",
+            "05120000FDE800000001200A010009200A010101",
+            1,
+            "refused 16 group-not-multicast\n",
+        ),
+        (
+            "pmsi",
+            "000200000006000104C0000201000701000400100000",
+            0,
+            "pmsi 0 2 - p2mp 192.0.2.1 01000400100000\n",
+        ),
+        (
+            "pmsi",
+            "000200000006000104C00002010007010004001000",
+            1,
+            "refused 15 fec.short\n",
+        ),
+        ("pmsi", "0008000000", 1, "refused 1 tunnel-type\n"),
+        ("pmsi", "000600000001", 1, "refused 5 identifier\n"),
+        ("pmsi", "0002000000", 1, "refused 5 fec.short\n"),
+        (
+            "pmsi",
+            "000200000007000104C0000201000701000400100000",
+            1,
+            "refused 5 identifier\n",
+        ),
+        (
+            "fec",
             "06000104C0000201000701000400100000\n07 0001 04 C0000202 0000",
             0,
             "p2mp 192.0.2.1 01000400100000\nup 192.0.2.2 -\n",
         ),
+        ("fec", "0600030400\n", 1, "refused 1 family\n"),
         (
-            "06000104C0000201000701000400100000 05",
+            "fec",
+            "06000104C00002010041\n",
             1,
-            "p2mp 192.0.2.1 01000400100000\nrefused 17 kind\n",
+            "refused 8 opaque-too-long\n",
         ),
-        ("0600030400\n", 1, "refused 1 family\n"),
-        ("06000104C00002010041\n", 1, "refused 8 opaque-too-long\n"),
-        ("06000104C000020100020100\n", 1, "refused 10 opaque-shape\n"),
-        ("06000104C000\n", 1, "refused 4 short\n"),
-        ("0600 01x\n", 3, "fault 1:8 hex\n"),
-        ("060\n", 3, "fault 2:1 hex\n"),
+        (
+            "fec",
+            "06000104C000020100020100\n",
+            1,
+            "refused 10 opaque-shape\n",
+        ),
+        ("fec", "0600 01x\n", 3, "fault 1:8 hex\n"),
+        ("fec", "060\n", 3, "fault 2:1 hex\n"),
     ];
-    for (input, status, lines) in rows {
-        let (ended, written) = outcome(rt.alloc(), &["decode", "fec"], &[input])?;
-        assert_eq!(rt; ended, status, "{input}");
-        assert_eq!(rt; written.as_slice(), lines.as_bytes(), "{input}");
+    for (format, input, status, lines) in rows {
+        let (ended, written) = outcome(rt.alloc(), &["decode", format], &[input])?;
+        assert_eq!(rt; ended, status, "{format} {input}");
+        assert_eq!(rt; written.as_slice(), lines.as_bytes(), "{format} {input}");
     }
     Ok(())
 }

@@ -5,6 +5,7 @@ use Rattle.mv_io.specs.Octets.{Appended, AppendedPart}
 use Rattle.scenario_text.specs.FaultText.{fault_text}
 use Rattle.scenario_text.specs.declared.fault.TextFault.{TextFault}
 use Rattle.decode_text.specs.HexText.{octets_of}
+use Rattle.decode_text.specs.declared.format.Format.{Format}
 use Rattle.mvpn_tool.specs.declared.stop.Stop.{Stop}
 use Rattle.mvpn_tool.specs.declared.stop.Stop.TheVariants as stops
 use Rattle.mvpn_tool.specs.Input.{Taken}
@@ -28,25 +29,26 @@ decode_takes left new (Err stops.Sink) t = t
 decode_takes left new (Err stops.Memory) t = tt
 
 -- The text had a fault.
-pub ends_faulty : (left old new : Option (List ℕ)) (octets : List ℕ) (fault : TextFault) (stop : Stop) → SaysAlike octets_of left octets → octets_of octets ≡ Err fault →
-    (stop ≡ stops.Text → Appended old new (fault_text fault)) → (stop ≡ stops.Text) ⊎ AppendedPart old new (fault_text fault) → stop ≢ stops.Source → DecodeEnds left (Err stop) old new
-ends_faulty left old new octets fault stops.Text a e w p n = record { input = a.input; is_input = a.is_input; fault = fault; said = a.same ∙ e; text = w refl }
-ends_faulty left old new octets fault stops.Source a e w p n = absurd (n refl)
-ends_faulty left old new octets fault stops.Sink a e w (inl t) n = absurd cc
-ends_faulty left old new octets fault stops.Sink a e w (inr p) n = record { input = a.input; is_input = a.is_input; part = rw (a.same, e) p }
-ends_faulty left old new octets fault stops.Memory a e w (inl t) n = absurd cc
-ends_faulty left old new octets fault stops.Memory a e w (inr p) n = inr (record { input = a.input; is_input = a.is_input; part = rw (a.same, e) p })
+pub ends_faulty : (format : Format) (left old new : Option (List ℕ)) (octets : List ℕ) (fault : TextFault) (stop : Stop) →
+    (stop ≡ stops.Text → Appended old new (fault_text fault)) → (stop ≡ stops.Text) ⊎ AppendedPart old new (fault_text fault) → stop ≢ stops.Source →
+    SaysAlike octets_of left octets → octets_of octets ≡ Err fault → DecodeEnds format left (Err stop) old new
+ends_faulty format left old new octets fault stops.Text w p n a e = record { input = a.input; is_input = a.is_input; fault = fault; said = a.same ∙ e; text = w refl }
+ends_faulty format left old new octets fault stops.Source w p n a e = absurd (n refl)
+ends_faulty format left old new octets fault stops.Sink w (inl t) n a e = absurd cc
+ends_faulty format left old new octets fault stops.Sink w (inr p) n a e = record { input = a.input; is_input = a.is_input; part = rw (a.same, e) p }
+ends_faulty format left old new octets fault stops.Memory w (inl t) n a e = absurd cc
+ends_faulty format left old new octets fault stops.Memory w (inr p) n a e = inr (record { input = a.input; is_input = a.is_input; part = rw (a.same, e) p })
 
 -- The lines were written.
-pub ends_told : (left old new : Option (List ℕ)) (text octets : List ℕ) (result : Result Bool Stop) → SaysAlike octets_of left text → octets_of text ≡ Ok octets →
-    LinesEnd octets result old new → IfErr result (λ e. (e ≡ stops.Sink) ⊎ (e ≡ stops.Memory)) → DecodeEnds left result old new
-ends_told left old new text octets (Ok refused) a e l o = record { input = a.input; is_input = a.is_input; octets = octets; said = a.same ∙ e; text = l.0; tells = l.1; written = l.2 }
-ends_told left old new text octets (Err stops.Sink) a e l o = record { input = a.input; is_input = a.is_input; part = rw (a.same, e) l }
-ends_told left old new text octets (Err stops.Memory) a e l o = inl l
-ends_told left old new text octets (Err stops.Text) a e l (inl t) = absurd cc
-ends_told left old new text octets (Err stops.Text) a e l (inr t) = absurd cc
-ends_told left old new text octets (Err stops.Source) a e l (inl t) = absurd cc
-ends_told left old new text octets (Err stops.Source) a e l (inr t) = absurd cc
+pub ends_told : (format : Format) (left old new : Option (List ℕ)) (text octets : List ℕ) (result : Result Bool Stop) → SaysAlike octets_of left text → octets_of text ≡ Ok octets →
+    LinesEnd format octets result old new → IfErr result (λ e. (e ≡ stops.Sink) ⊎ (e ≡ stops.Memory)) → DecodeEnds format left result old new
+ends_told format left old new text octets (Ok refused) a e l o = record { input = a.input; is_input = a.is_input; octets = octets; said = a.same ∙ e; text = l.0; tells = l.1; written = l.2 }
+ends_told format left old new text octets (Err stops.Sink) a e l o = record { input = a.input; is_input = a.is_input; part = rw (a.same, e) l }
+ends_told format left old new text octets (Err stops.Memory) a e l o = inl l
+ends_told format left old new text octets (Err stops.Text) a e l (inl t) = absurd cc
+ends_told format left old new text octets (Err stops.Text) a e l (inr t) = absurd cc
+ends_told format left old new text octets (Err stops.Source) a e l (inl t) = absurd cc
+ends_told format left old new text octets (Err stops.Source) a e l (inr t) = absurd cc
 
 some_is : (x y : List ℕ) → Some x ≡ Some y → x ≡ y
 some_is x y e = cc

@@ -1,42 +1,45 @@
 //! Decodes the octets of a source into a sink.
 ghost use Rattle.std.specs.Prelude.{◌≡◌, ◌≢◌, ◌≤◌, ◌⊎◌, ℕ, List, Some, Ok, Err, true, false, IsErrOf, IfErr, OnOk, OnErr};
-ghost use Rattle.mldp_fec.specs.declared.fault.FecFault.{FecFault};
-ghost use Rattle.mldp_fec.specs.declared.fec.Fec.{Fec};
 ghost use Rattle.mv_io.specs.Causes.{Rose};
 ghost use Rattle.decode_text.specs.HexText.{octets_of};
-ghost use Rattle.decode_text.specs.Values.{AreFecs, StopFecs};
+ghost use Rattle.decode_text.specs.Formats.{IsWhole, HasFault};
 ghost use Rattle.mvpn_tool.specs.DecodeOutcome.{Decoded, DecodeEnds, DecodeTakes, LinesEnd};
 ghost use Rattle.mvpn_tool.specs.declared.stop.Stop.TheVariants as stops;
 
 use crate::input::read_all;
 use crate::replay::write_fault;
 use crate::stop::Stop;
-use decode_text::{read_octets, tell_fecs};
+use decode_text::{Format, read_octets, tell};
 use mv_io::{Sink, Source, write_all};
 use scenario_text::ReadFault;
 use std::alloc::Global;
 
 /// Writes the lines of the octets, and answers whether they end with a fault.
-fn write_values<K: Sink>(alloc: Global, octets: &[u8], sink: &mut K) -> Result<bool, Stop>
-    ensures ends { LinesEnd octets.now result (K.written sink.old) (K.written sink.new) }
-    ensures whole { (fecs : List Fec) → AreFecs octets.now fecs → result ≢ Ok true }
-    ensures stops { (fecs : List Fec) (fault : FecFault) → StopFecs octets.now fecs fault → result ≢ Ok false }
+fn write_values<K: Sink>(
+    alloc: Global,
+    format: Format,
+    octets: &[u8],
+    sink: &mut K,
+) -> Result<bool, Stop>
+    ensures ends { LinesEnd format octets.now result (K.written sink.old) (K.written sink.new) }
+    ensures whole { IsWhole format octets.now → result ≢ Ok true }
+    ensures fault { HasFault format octets.now → result ≢ Ok false }
     ensures later { K.faults sink.old ≤ K.faults sink.new }
     ensures failed { IsErrOf result stops.Sink → Rose (K.faults sink.old) (K.faults sink.new) }
     ensures others { IfErr result (λ stop. (stop ≡ stops.Sink) ⊎ (stop ≡ stops.Memory)) }
 {
-    let told = tell_fecs(alloc, octets)?;
+    let told = tell(alloc, format, octets)?;
     write_all(sink, told.text.as_slice())?;
     Ok(told.refused)
 }
 
-/// Reads all of the source, and writes the lines of the FEC elements that its hexadecimal text has. Answers whether a
-/// fault stands behind them, whose line is then the last one.
-pub fn decode<S: Source, K: Sink>(alloc: Global, source: &mut S, sink: &mut K) -> Result<bool, Stop>
-    ensures ends { DecodeEnds (S.left source.old) result (K.written sink.old) (K.written sink.new) }
+/// Reads all of the source, and writes the lines of the values of the format that its hexadecimal text has. Answers
+/// whether a fault stands behind them, whose line is then the last one.
+pub fn decode<S: Source, K: Sink>(alloc: Global, format: Format, source: &mut S, sink: &mut K) -> Result<bool, Stop>
+    ensures ends { DecodeEnds format (S.left source.old) result (K.written sink.old) (K.written sink.new) }
     ensures taken { DecodeTakes result (S.left source.old) (S.left source.new) }
-    ensures whole { (input octets : List ℕ) (fecs : List Fec) → S.left source.old ≡ Some input → octets_of input ≡ Ok octets → AreFecs octets fecs → result ≢ Ok true }
-    ensures stops { (input octets : List ℕ) (fecs : List Fec) (fault : FecFault) → S.left source.old ≡ Some input → octets_of input ≡ Ok octets → StopFecs octets fecs fault → result ≢ Ok false }
+    ensures whole { (input octets : List ℕ) → S.left source.old ≡ Some input → octets_of input ≡ Ok octets → IsWhole format octets → result ≢ Ok true }
+    ensures fault { (input octets : List ℕ) → S.left source.old ≡ Some input → octets_of input ≡ Ok octets → HasFault format octets → result ≢ Ok false }
     ensures source_later { S.faults source.old ≤ S.faults source.new }
     ensures source_failed { IsErrOf result stops.Source → Rose (S.faults source.old) (S.faults source.new) }
     ensures sink_later { K.faults sink.old ≤ K.faults sink.new }
@@ -46,6 +49,6 @@ pub fn decode<S: Source, K: Sink>(alloc: Global, source: &mut S, sink: &mut K) -
     match read_octets(alloc, &input) {
         Err(ReadFault::NoMemory) => Err(Stop::Memory),
         Err(ReadFault::Text(fault)) => Err(write_fault(alloc, fault, sink)),
-        Ok(octets) => write_values(alloc, octets.as_slice(), sink),
+        Ok(octets) => write_values(alloc, format, octets.as_slice(), sink),
     }
 }

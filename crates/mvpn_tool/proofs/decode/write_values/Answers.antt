@@ -1,5 +1,5 @@
 use Rattle.mvpn_tool.proofs.DecodeLemmas.{not_false}
 use Rattle.mvpn_tool.proofs.decode.write_values.Goals as goal
 
-pub returns-clause-stops : goal.returns-clause-stops
-returns-clause-stops g c fecs fault stop = not_false c.in_ok-told.told.refused (c.in_ok-told.ensures.stops fecs fault stop)
+pub returns-clause-fault : goal.returns-clause-fault
+returns-clause-fault g c has = not_false c.in_ok-told.told.refused (c.in_ok-told.ensures.fault has)

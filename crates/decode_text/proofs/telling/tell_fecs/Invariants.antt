@@ -1,11 +1,12 @@
 use Rattle.std.proofs.Common.{◌-◌, ◌≤◌, length}
+use Rattle.decode_text.specs.Formats.{of_fecs}
 use Rattle.decode_text.proofs.TellLemmas.{Passed}
-use Rattle.decode_text.proofs.fec_lines.tell_fecs.Given as goal
+use Rattle.decode_text.proofs.telling.tell_fecs.Given as goal
 
--- FEC elements stand before the place, and their lines were written
+-- values stand before the place, and their lines were appended
 abbrev pub invariant-loop-place : goal.invariant-loop-place
 invariant-loop-place l = record {
-  passed : Passed l.octets l.text l.place;
+  passed : Passed of_fecs l.octets l.text l.place;
   within : l.place ≤ length l.octets;
 }
 

@@ -1,0 +1,14 @@
+use Rattle.std.proofs.Common.{◌-◌, ◌≤◌, length}
+use Rattle.decode_text.specs.Formats.{of_routes}
+use Rattle.decode_text.proofs.TellLemmas.{Passed}
+use Rattle.decode_text.proofs.telling.tell_routes.Given as goal
+
+-- values stand before the place, and their lines were appended
+abbrev pub invariant-loop-place : goal.invariant-loop-place
+invariant-loop-place l = record {
+  passed : Passed of_routes l.octets l.text l.place;
+  within : l.place ≤ length l.octets;
+}
+
+abbrev pub decreases-loop-place : goal.decreases-loop-place
+decreases-loop-place l = length l.octets - l.place

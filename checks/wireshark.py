@@ -1,0 +1,327 @@
+#!/usr/bin/env python3
+"""Compares what tshark reads in messages of BGP and LDP with what `mvpn decode` reads in the same octets.
+
+Field values are written here as MCAST-VPN routes of AFI 1 (RFC 6514 section 4; the wildcards of RFC 6625 section 3),
+PMSI Tunnel attributes (RFC 6514 section 5) and multipoint FEC elements (RFC 6388 sections 2.2 and 3.1), in messages
+of a pcap file. The fields that tshark tells of a message become the lines that the program is to write. The program,
+built without its proofs, gets the octets alone.
+
+tshark 4.0.17 does not tell all, so the cases keep within this:
+- The key of a leaf route is told as octets. It is a route, so tshark reads them again in a message of their own.
+- Originators, roots, and endpoints of ingress replication are IPv4: those of IPv6 are not told, or told wrongly.
+- The opaque value in a PMSI Tunnel attribute has one TLV, of type 1 or 255.
+- The two reserved octets in an identifier of RSVP-TE are not told: they are zero (RFC 4875 section 19.1.1).
+- FEC elements end to end have opaque values of 7 octets: behind another length the next element is not found.
+- What the program refuses has no line of tshark's, so no case has a fault.
+
+Prints the cases that differ, and then 'N passed, M failed'. Without tshark nothing is compared, and nothing failed.
+"""
+
+import pathlib
+import re
+import shutil
+import socket
+import struct
+import subprocess
+import sys
+import tempfile
+import xml.etree.ElementTree as xml
+
+PROGRAM = pathlib.Path(__file__).resolve().parent.parent / 'crates' / 'mvpn'
+
+
+# ---- octets of field values
+
+def number(value, size):
+    return value.to_bytes(size, 'big')
+
+
+def addr(text):
+    return socket.inet_aton(text)
+
+
+def sized(text):
+    """An address behind its length in bits; the wildcard `*` is a length of 0."""
+    return b'\0' if text == '*' else b'\x20' + addr(text)
+
+
+def route(kind, *fields):
+    octets = b''.join(fields)
+    return bytes([kind, len(octets)]) + octets
+
+
+def inter(rd, source_as):
+    return route(2, rd, number(source_as, 4))
+
+
+def selective(rd, source, group, originator):
+    return route(3, rd, sized(source), sized(group), addr(originator))
+
+
+def flow(source, group):
+    return sized(source) + sized(group)
+
+
+def pmsi(flags, kind, label, identifier=b'', low=0):
+    """`low` is the four bits behind the label."""
+    return bytes([flags, kind]) + number(16 * label + low, 3) + identifier
+
+
+def fec(kind, root, opaque):
+    """The root is an address of IPv4."""
+    return bytes([kind]) + number(1, 2) + b'\4' + addr(root) + number(len(opaque), 2) + opaque
+
+
+def tlv(kind, value):
+    return bytes([kind]) + number(len(value), 2) + value
+
+
+# Route Distinguishers of the three types (RFC 4364 section 4.2)
+RD_0 = number(0, 2) + number(65000, 2) + number(1, 4)
+RD_1 = number(1, 2) + addr('192.0.2.1') + number(200, 2)
+RD_2 = number(2, 2) + number(4200000001, 4) + number(7, 2)
+
+LSP_ID = tlv(1, number(1048576, 4))
+EXTENDED = b'\xff' + number(7, 2) + number(3, 2) + b'abc'
+
+ROUTES = {
+    'intra': route(1, RD_0, addr('192.0.2.7')),
+    'intra-rd-1': route(1, RD_1, addr('192.0.2.7')),
+    'intra-rd-2': route(1, RD_2, addr('203.0.113.255')),
+    'inter': inter(RD_0, 65001),
+    'inter-rd-2': inter(RD_2, 4200000001),
+    'selective': selective(RD_0, '10.1.0.9', '232.1.1.1', '192.0.2.7'),
+    'selective-any-any': selective(RD_1, '*', '*', '192.0.2.7'),
+    'selective-any-source': selective(RD_0, '*', '239.255.0.1', '192.0.2.8'),
+    'selective-any-group': selective(RD_2, '10.1.0.9', '*', '192.0.2.7'),
+    'leaf-inter': route(4, inter(RD_1, 65001), addr('192.0.2.9')),
+    'leaf-selective': route(4, selective(RD_0, '10.1.0.9', '232.1.1.1', '192.0.2.7'), addr('192.0.2.9')),
+    'leaf-any-any': route(4, selective(RD_2, '*', '*', '192.0.2.7'), addr('192.0.2.9')),
+    'active': route(5, RD_0, flow('10.1.0.9', '232.1.1.1')),
+    'active-rd-1': route(5, RD_1, flow('223.255.255.255', '224.0.1.0')),
+    'shared': route(6, RD_0, number(65001, 4), flow('10.9.9.9', '239.1.1.1')),
+    'shared-rd-2': route(6, RD_2, number(0, 4), flow('10.9.9.9', '239.1.1.1')),
+    'source': route(7, RD_0, number(65001, 4), flow('10.1.0.9', '232.1.1.1')),
+    'source-rd-1': route(7, RD_1, number(4294967295, 4), flow('10.1.0.9', '232.1.1.1')),
+    'other': route(9, bytes.fromhex('010203')),
+}
+ROUTES['all'] = b''.join(ROUTES.values())
+
+PMSIS = {
+    'none': pmsi(0, 0, 0),
+    'none-leaf': pmsi(1, 0, 0),
+    'none-label': pmsi(0, 0, 17),
+    'rsvp-te': pmsi(0, 1, 0, addr('10.0.0.1') + bytes(2) + number(5, 2) + addr('192.0.2.9')),
+    'rsvp-te-leaf': pmsi(1, 1, 18, addr('10.0.0.1') + bytes(2) + number(65535, 2) + addr('192.0.2.9')),
+    'mldp': pmsi(0, 2, 0, fec(6, '192.0.2.1', LSP_ID)),
+    'mldp-leaf': pmsi(1, 2, 0, fec(6, '192.0.2.1', LSP_ID)),
+    'mldp-label': pmsi(0, 2, 1048575, fec(6, '192.0.2.1', LSP_ID)),
+    'mldp-extended': pmsi(1, 2, 16, fec(6, '192.0.2.1', EXTENDED)),
+    'pim-ssm': pmsi(0, 3, 0, addr('192.0.2.1') + addr('232.1.1.1')),
+    'pim-sm': pmsi(0, 4, 0, addr('192.0.2.1') + addr('239.1.1.1')),
+    'bidir-pim': pmsi(0, 5, 0, addr('192.0.2.1') + addr('239.1.1.1')),
+    'ingress': pmsi(0, 6, 0, addr('192.0.2.5')),
+    'ingress-leaf-label': pmsi(1, 6, 300, addr('192.0.2.5')),
+    'ingress-low-bits': pmsi(0, 6, 300, addr('192.0.2.5'), low=1),
+    'ingress-flags': pmsi(254, 6, 1, addr('192.0.2.5')),
+    'ingress-all-flags': pmsi(255, 6, 1, addr('192.0.2.5')),
+}
+
+FECS = {
+    'p2mp': fec(6, '192.0.2.1', LSP_ID),
+    'up': fec(7, '192.0.2.2', LSP_ID),
+    'down': fec(8, '192.0.2.3', LSP_ID),
+    'two-tlvs': fec(6, '192.0.2.1', LSP_ID + tlv(2, b'hello world')),
+    'extended': fec(7, '192.0.2.1', EXTENDED + LSP_ID),
+    'no-opaque': fec(7, '192.0.2.2', b''),
+    'longest': fec(8, '192.0.2.1', tlv(3, bytes(61))),
+}
+FECS['three'] = FECS['p2mp'] + FECS['up'] + FECS['down']
+
+
+# ---- messages and packets
+
+def update(flags, kind, value):
+    """An UPDATE with one path attribute, which has an extended length (RFC 4271 section 4.3)."""
+    attribute = bytes([flags | 0x10, kind]) + number(len(value), 2) + value
+    body = number(0, 2) + number(len(attribute), 2) + attribute
+    return b'\xff' * 16 + number(19 + len(body), 2) + b'\2' + body
+
+
+def reach(routes):
+    """An UPDATE with MP_REACH_NLRI, AFI 1 and SAFI 5 (RFC 4760 section 3, RFC 6514 section 4)."""
+    return update(0x80, 14, number(1, 2) + b'\5' + b'\4' + addr('192.0.2.1') + b'\0' + routes)
+
+
+def tunnel(attribute):
+    """An UPDATE with a PMSI Tunnel attribute."""
+    return update(0xc0, 22, attribute)
+
+
+def label_mapping(fecs):
+    """A PDU of LDP with a Label Mapping Message, an FEC TLV and a label (RFC 5036 sections 3.1 to 3.5.7)."""
+    tlvs = number(0x100, 2) + number(len(fecs), 2) + fecs + number(0x200, 2) + number(4, 2) + number(18, 4)
+    message = number(0x400, 2) + number(4 + len(tlvs), 2) + number(1, 4) + tlvs
+    return number(1, 2) + number(6 + len(message), 2) + addr('192.0.2.1') + number(0, 2) + message
+
+
+def pcap(port, messages):
+    """A pcap file with a packet for each message: Ethernet, IPv4, TCP to the port. Each is a connection of its own."""
+    octets = struct.pack('<IHHiIII', 0xa1b2c3d4, 2, 4, 0, 0, 65535, 1)
+    for place, message in enumerate(messages):
+        tcp = struct.pack('>HHIIBBHHH', 40000 + place, port, 1, 1, 0x50, 0x18, 65535, 0, 0)
+        ip = struct.pack('>BBHHHBBH', 0x45, 0, 40 + len(message), place, 0, 64, 6, 0)
+        packet = bytes(12) + b'\x08\x00' + ip + addr('192.0.2.1') + addr('192.0.2.2') + tcp + message
+        octets += struct.pack('<IIII', place, 0, len(packet), len(packet)) + packet
+    return octets
+
+
+# ---- lines of the fields that tshark tells
+
+NLRI = 'bgp.mcast_vpn_nlri'
+PMSI = 'bgp.update.path_attribute.pmsi.'
+LABEL = 'bgp.update.path_attribute.mpls_label_value_20bits'
+LDP = 'ldp.msg.tlv.'
+ROUTE_WORDS = {1: 'intra', 2: 'inter', 3: 'selective', 5: 'active', 6: 'shared', 7: 'source'}
+FEC_WORDS = {6: 'p2mp', 7: 'up', 8: 'down'}
+
+
+class Told(dict):
+    """The fields of one value, by name. A field that tshark did not tell is a KeyError."""
+
+    def number(self, name):
+        return int(self[name].get('show'), 0)
+
+    def octets(self, name):
+        return self[name].get('value')
+
+    def addr(self, name):
+        return self[name].get('show')
+
+    def part(self, name):
+        """A source or a group, or `*`."""
+        if self.number(f'{NLRI}_{name}_length') == 0:
+            return '*'
+        return self.addr(f'{NLRI}_{name}_addr_ipv4')
+
+    def inside(self, *prefixes):
+        """The octets of all fields whose names begin so, in the order of the message."""
+        return ''.join(self.octets(name) for name in self if name.startswith(prefixes))
+
+
+def route_line(told):
+    kind = told.number(NLRI + '_route_type')
+    originator = NLRI + '_origin_router_ipv4'
+    if kind == 4:
+        key = lines_of('nlri', [bytes.fromhex(told.octets(NLRI + '_route_key'))])[0]
+        return ' '.join(['leaf', told.addr(originator)] + key)
+    if kind not in ROUTE_WORDS:
+        return f'other {kind} {told.octets(NLRI)}'
+    words = [ROUTE_WORDS[kind], told.octets(NLRI + '_rd')]
+    if kind in (2, 6, 7):
+        words.append(str(told.number(NLRI + '_source_as')))
+    if kind in (3, 5, 6, 7):
+        words += [told.part('source'), told.part('group')]
+    if kind in (1, 3):
+        words.append(told.addr(originator))
+    return ' '.join(words)
+
+
+def identifier_text(kind, told):
+    if kind == 1:
+        reserved = '0000'
+        return told.octets(PMSI + 'rsvp.id') + reserved + told.inside(PMSI + 'rsvp.tunnel_id', PMSI + 'rsvp.ext_')
+    if kind == 2:
+        mldp = PMSI + 'mldp.fec.'
+        word = FEC_WORDS[told.number(mldp + 'type')]
+        return f'{word} {told.addr(mldp + "root_nodev4")} {told.inside(mldp + "opaque_value", mldp + "opaque_ext")}'
+    if kind == 6:
+        return told.addr(PMSI + 'ingress_rep_ip')
+    return told.inside(PMSI + {0: 'tunnel_id.', 3: 'pimssm.', 4: 'pimsm.', 5: 'bidir_pim_tree.'}[kind]) or '-'
+
+
+def pmsi_line(told):
+    """Leaf information is the lowest of the flags, and a label of 0 is none (RFC 6514 section 5)."""
+    leaf, kind = told.number(PMSI + 'tunnel.flags') % 2, told.number(PMSI + 'tunnel.type')
+    return f'pmsi {leaf} {kind} {told.number(LABEL) or "-"} {identifier_text(kind, told)}'
+
+
+def fec_line(told):
+    word = FEC_WORDS[told.number(LDP + 'fec.type')]
+    return f'{word} {told.addr(LDP + "ldp_p2mp.ipv4_rtnodeaddr")} {told.octets(LDP + "ldp_p2mp.opvalue") or "-"}'
+
+
+# by command: its cases, the port and the message that carry them, the first field of a value, the line of its fields
+COMMANDS = {
+    'nlri': (ROUTES, 179, reach, NLRI + '_route_type', route_line),
+    'pmsi': (PMSIS, 179, tunnel, PMSI + 'tunnel.flags', pmsi_line),
+    'fec': (FECS, 646, label_mapping, LDP + 'fec.type', fec_line),
+}
+
+
+def dissect(port, messages):
+    """What tshark tells of each message: the elements `field`, in their order."""
+    with tempfile.NamedTemporaryFile(suffix='.pcap') as file:
+        file.write(pcap(port, messages))
+        file.flush()
+        run = subprocess.run(['tshark', '-n', '-r', file.name, '-T', 'pdml'], capture_output=True, text=True)
+    if run.returncode:
+        sys.exit(run.stderr)
+    return [packet.iter('field') for packet in xml.fromstring(run.stdout)]
+
+
+def line_of(line, told):
+    if '_ws.expert' in told:
+        return 'tshark: a fault'
+    try:
+        return line(told)
+    except KeyError as name:
+        return f'tshark: no field {name}'
+
+
+def lines_of(command, octets):
+    """For each of the octets the lines of what tshark reads in them."""
+    _, port, message, first, line = COMMANDS[command]
+    lines = []
+    for fields in dissect(port, [message(o) for o in octets]):
+        values = []
+        for field in fields:
+            if field.get('name') == first:
+                values.append(Told())
+            if values:
+                values[-1].setdefault(field.get('name'), field)
+        lines.append([line_of(line, told) for told in values])
+    return lines
+
+
+# ---- the comparison
+
+def compare(command):
+    """How many cases the program decodes as tshark does, and how many it does not; those are printed."""
+    cases = COMMANDS[command][0]
+    with tempfile.TemporaryDirectory() as folder:
+        for (name, octets), lines in zip(cases.items(), lines_of(command, cases.values())):
+            case = pathlib.Path(folder) / name
+            case.write_text(octets.hex() + '\n')
+            case.with_suffix('.stdout').write_text(''.join(line + '\n' for line in lines))
+        words = ['rt', 'try', '--cases', folder, '--', 'decode', command]
+        run = subprocess.run(words, cwd=PROGRAM, stdout=subprocess.PIPE, stderr=subprocess.STDOUT, text=True)
+    agreed = re.findall(r'^case=(\S+) run=ended status=0 .*output=expected', run.stdout, re.MULTILINE)
+    passed = len(cases.keys() & set(agreed))
+    if passed < len(cases):
+        print(re.sub(r'^case=.* output=expected.*\n', '', run.stdout, flags=re.MULTILINE))
+    return passed, len(cases) - passed
+
+
+def main():
+    if not shutil.which('tshark'):
+        print('tshark is not installed, so nothing was compared')
+        print('0 passed, 0 failed')
+        return 0
+    passed, failed = map(sum, zip(*map(compare, COMMANDS)))
+    print('%d passed, %d failed' % (passed, failed))
+    return 1 if failed else 0
+
+
+if __name__ == '__main__':
+    sys.exit(main())

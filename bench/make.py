@@ -1,5 +1,5 @@
 #!/usr/bin/env python3
-"""Writes an input for `mvpn replay` to standard output:
+"""Writes an input for the program to standard output:
 
     python3 bench/make.py KIND SIZE > FILE
 
@@ -8,8 +8,11 @@
     events      a scenario with 1,000 interfaces, then SIZE events: joins and sends in turn, each datagram leaving at
                 ten interfaces
     late-fault  SIZE octets of comments, of which the last line is faulty
+    decode      SIZE octets of hexadecimal text, which writes multipoint FEC elements end to end, one on each line
+    decode-nlri SIZE octets of hexadecimal text, which writes MCAST-VPN routes of AFI 1 end to end, one on each line
 
-The input is within the limits: 16,777,216 octets, 200,000 events, 1,024 interfaces and entries, 4,096 octets a line.
+The first four are inputs of `replay`, `decode` is one of `decode fec`, and `decode-nlri` one of `decode nlri`. The input
+is within the limits: 16,777,216 octets, 200,000 events, 1,024 interfaces and entries, 4,096 octets a line.
 """
 
 import sys
@@ -79,11 +82,65 @@ def events(size):
             yield 'send S%d %s aabb\n' % (site, flow(site))
 
 
+def numbered(number):
+    """Four octets that differ from value to value."""
+    return number.to_bytes(4, 'big')
+
+
+def fec(number):
+    """A FEC element of each kind in turn, whose opaque value is a Generic LSP Identifier."""
+    root = bytes([192, 0, 2, number % 254 + 1])
+    opaque = bytes([1, 0, 4]) + numbered(number)
+    return bytes([6 + number % 3, 0, 1, 4]) + root + len(opaque).to_bytes(2, 'big') + opaque
+
+
+def route(number):
+    """A route of each type from 1 to 7 in turn."""
+    distinguisher = bytes([0, 0]) + (65000).to_bytes(2, 'big') + numbered(number)
+    originator = bytes([192, 0, 2, number % 254 + 1])
+    source_as = numbered(65000)
+    source = bytes([32, 10, number % 100, 0, 99])
+    group = bytes([32, 232, 1, 1, number % 254 + 1])
+    wildcard = bytes([0])
+    key = sized(3, distinguisher + source + group + originator)
+    fields = [
+        distinguisher + originator,
+        distinguisher + source_as,
+        distinguisher + wildcard + group + originator,
+        key + originator,
+        distinguisher + source + group,
+        distinguisher + source_as + source + group,
+        distinguisher + source_as + source + group,
+    ]
+    kind = number % len(fields)
+    return sized(kind + 1, fields[kind])
+
+
+def sized(kind, fields):
+    """A type, the length of the rest, and the rest."""
+    return bytes([kind, len(fields)]) + fields
+
+
+def hexadecimal(value_of, size):
+    """The values in hexadecimal text, one on each line, and then spaces, so that the text has exactly that many
+    octets."""
+    number = 0
+    line = value_of(number).hex() + '\n'
+    while len(line) <= size:
+        yield line
+        size -= len(line)
+        number += 1
+        line = value_of(number).hex() + '\n'
+    yield ' ' * size
+
+
 KINDS = {
     'comments': lambda size: [*comments(size), *small()],
     'joins': joins,
     'events': events,
     'late-fault': lambda size: [*comments(size - len('edgy\n')), 'edgy\n'],
+    'decode': lambda size: hexadecimal(fec, size),
+    'decode-nlri': lambda size: hexadecimal(route, size),
 }
 
 

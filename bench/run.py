@@ -1,5 +1,5 @@
 #!/usr/bin/env python3
-"""Measures `mvpn replay` on each kind of input of make.py, at a size and at twice that size, and prints a table.
+"""Measures the program on each kind of input of make.py, at a size and at twice that size, and prints a table.
 
     python3 bench/run.py
 """
@@ -14,15 +14,22 @@ import time
 HERE = pathlib.Path(__file__).resolve().parent
 MVPN = HERE.parent / 'mvpn'
 
-# the kind, the smaller size, and the status that is expected
-INPUTS = [('comments', 8_000_000, 0), ('joins', 8_000_000, 0), ('events', 100_000, 0), ('late-fault', 8_000_000, 3)]
+# the kind, the words of the command, the smaller size, and the status that is expected
+INPUTS = [
+    ('comments', ['replay'], 8_000_000, 0),
+    ('joins', ['replay'], 8_000_000, 0),
+    ('events', ['replay'], 100_000, 0),
+    ('late-fault', ['replay'], 8_000_000, 3),
+    ('decode', ['decode', 'fec'], 8_000_000, 0),
+    ('decode-nlri', ['decode', 'nlri'], 8_000_000, 0),
+]
 
 
-def measure(file):
-    """The status, the seconds and the peak memory in MiB of one replay, whose output is thrown away."""
+def measure(words, file):
+    """The status, the seconds and the peak memory in MiB of one call, whose output is thrown away."""
     with open(file, 'rb') as text, open(os.devnull, 'wb') as nowhere:
         begin = time.monotonic()
-        child = subprocess.Popen([MVPN, 'replay'], stdin=text, stdout=nowhere)
+        child = subprocess.Popen([MVPN, *words], stdin=text, stdout=nowhere)
         _, status, usage = os.wait4(child.pid, 0)
         seconds = time.monotonic() - begin
     child.returncode = os.waitstatus_to_exitcode(status)
@@ -37,13 +44,13 @@ def main():
     print('|---|---|---|---|---|')
     wrong = 0
     with tempfile.TemporaryDirectory() as folder:
-        for kind, smaller, expected in INPUTS:
+        for kind, words, smaller, expected in INPUTS:
             for size in (smaller, 2 * smaller):
                 file = os.path.join(folder, 'input')
                 with open(file, 'wb') as out:
                     subprocess.run([sys.executable, HERE / 'make.py', kind, str(size)], stdout=out, check=True)
                 octets = os.path.getsize(file)
-                status, seconds, memory = measure(file)
+                status, seconds, memory = measure(words, file)
                 print('| %s | %s | %s | %.2f | %.0f |' % (kind, f'{size:,}', f'{octets:,}', seconds, memory), flush=True)
                 if status != expected:
                     wrong = 1

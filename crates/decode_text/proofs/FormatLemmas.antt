@@ -1,5 +1,5 @@
 -- The formats of `decode` are apart: octets are whole, or have a fault.
-use Rattle.std.proofs.Common.{◌≡◌, ℕ, ◌+◌, List, ◌++◌, length, Ok, refl, sym, ◌∙◌}
+use Rattle.std.proofs.Common.{◌≡◌, ℕ, ◌+◌, List, ◌++◌, length, refl, sym, ◌∙◌}
 use Rattle.mv_base.specs.Cursor.{start}
 use Rattle.mv_base.specs.Octets.{IsOctets}
 use Rattle.mv_base.proofs.Fields.{ok_or_err}

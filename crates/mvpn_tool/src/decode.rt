@@ -35,7 +35,12 @@ fn write_values<K: Sink>(
 
 /// Reads all of the source, and writes the lines of the values of the format that its hexadecimal text has. Answers
 /// whether a fault stands behind them, whose line is then the last one.
-pub fn decode<S: Source, K: Sink>(alloc: Global, format: Format, source: &mut S, sink: &mut K) -> Result<bool, Stop>
+pub fn decode<S: Source, K: Sink>(
+    alloc: Global,
+    format: Format,
+    source: &mut S,
+    sink: &mut K,
+) -> Result<bool, Stop>
     ensures ends { DecodeEnds format (S.left source.old) result (K.written sink.old) (K.written sink.new) }
     ensures taken { DecodeTakes result (S.left source.old) (S.left source.new) }
     ensures whole { (input octets : List ℕ) → S.left source.old ≡ Some input → octets_of input ≡ Ok octets → IsWhole format octets → result ≢ Ok true }

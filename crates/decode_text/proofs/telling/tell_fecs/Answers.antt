@@ -1,11 +1,11 @@
-use Rattle.std.proofs.Common.{◌≡◌, ◌+◌, ◌≤◌, ℕ, List, length, take, drop, arith, refl, subst, sym}
+use Rattle.std.proofs.Common.{◌+◌, ◌≤◌, ℕ, List, length, take, drop, arith, refl, subst, sym}
 use Rattle.std.proofs.lemmas.List.{take_rest, length-drop}
 use Rattle.mv_base.specs.Cursor.{start}
 use Rattle.mv_base.specs.Octets.{IsOctets}
 use Rattle.mldp_fec.specs.FirstFault.{FirstFault}
 use Rattle.mldp_fec.specs.Spelling.{Spells, written}
 use Rattle.decode_text.specs.Formats.{of_fecs}
-use Rattle.decode_text.specs.Values.{TellsStop, TellsWhole}
+use Rattle.decode_text.specs.Values.{TellsStop}
 use Rattle.decode_text.proofs.TellLemmas.{Passed, one_passed, fault_passed, all_passed, apart}
 use Rattle.decode_text.proofs.FormatLemmas.{fecs_apart}
 use Rattle.decode_text.proofs.telling.tell_fecs.Goals as goal

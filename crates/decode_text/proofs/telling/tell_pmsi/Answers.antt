@@ -10,7 +10,7 @@ returns-in_ok-put_pmsi_line-in-Ok-clause-fault c fault =
     absurd (pmsi_or_fault c.args.octets.now c.in-Ok.pmsi fault.0 fits c.in-Ok.ensures.spelled fault.1)
 
 pub returns-in_ok-put_pmsi_fault-in-Err-clause-tells : goal.returns-in_ok-put_pmsi_fault-in-Err-clause-tells
-returns-in_ok-put_pmsi_fault-in-Err-clause-tells c = 
+returns-in_ok-put_pmsi_fault-in-Err-clause-tells c =
     let fault = c.in-Err.fault in
     (fault, c.in-Err.ensures.first, subst (λ (xs : List ℕ). c.put_pmsi_fault.new.out ≡ xs ++ refused_line fault.place (pmsi_word fault.reason)) c.new-text.ensures c.in_ok-put_pmsi_fault-in-Err.ensures)
 

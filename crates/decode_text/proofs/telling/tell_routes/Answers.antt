@@ -1,11 +1,11 @@
-use Rattle.std.proofs.Common.{◌≡◌, ◌+◌, ◌≤◌, ℕ, List, length, take, drop, arith, subst, sym}
+use Rattle.std.proofs.Common.{◌+◌, ◌≤◌, ℕ, List, length, take, drop, arith, subst, sym}
 use Rattle.std.proofs.lemmas.List.{take_rest, length-drop}
 use Rattle.mvpn_nlri.specs.declared.route.Afi.TheVariants.{Ipv4}
 use Rattle.mv_base.specs.Octets.{IsOctets}
 use Rattle.mvpn_nlri.specs.FirstFault.{FirstFault}
 use Rattle.mvpn_nlri.specs.Spelling.{Spells}
 use Rattle.decode_text.specs.Formats.{of_routes}
-use Rattle.decode_text.specs.Values.{TellsStop, TellsWhole}
+use Rattle.decode_text.specs.Values.{TellsStop}
 use Rattle.decode_text.proofs.TellLemmas.{Passed, one_passed, fault_passed, all_passed, apart}
 use Rattle.decode_text.proofs.FormatLemmas.{routes_apart}
 use Rattle.decode_text.proofs.telling.tell_routes.Goals as goal

@@ -1,8 +1,8 @@
 #!/usr/bin/env python3
 """Compares what tshark reads in messages of BGP and LDP with what `mvpn decode` reads in the same octets.
 
-Field values are written here as MCAST-VPN routes of AFI 1 (RFC 6514 section 4; the wildcards of RFC 6625 section 3),
-PMSI Tunnel attributes (RFC 6514 section 5) and multipoint FEC elements (RFC 6388 sections 2.2 and 3.1), in messages
+Field values are written here as MCAST-VPN routes of AFI 1 (RFC 6514 section 4; the wildcards of RFC 6625 section 2),
+PMSI Tunnel attributes (RFC 6514 section 5) and multipoint FEC elements (RFC 6388 sections 2.2 and 3.2), in messages
 of a pcap file. The fields that tshark tells of a message become the lines that the program is to write. The program,
 built without its proofs, gets the octets alone.
 

@@ -308,6 +308,25 @@ fn octets_are_decoded(rt: HostRuntime) -> Result<(), Fail> {
     Ok(())
 }
 
+#[test]
+fn too_long_an_input_is_told(rt: HostRuntime) -> Result<(), Fail> {
+    let commands: [&[&str]; 2] = [&["replay"], &["decode", "fec"]];
+    for words in commands {
+        let mut spaces = Vec::new(rt.alloc());
+        spaces.resize(16_777_217, b' ')?;
+        let mut source = SureSource::of(Seq::from_vec(spaces));
+        let mut sink = SureSink::of(rt.alloc(), 64)?;
+        let words = words_of(rt.alloc(), words)?;
+        let End { status, world } = run(rt.alloc(), &words, &mut source, &mut sink);
+        if let Some(world) = world {
+            world.close();
+        }
+        assert_eq!(rt; status, 3);
+        assert_eq!(rt; sink.bytes(), b"fault 1:1 long\n".as_slice());
+    }
+    Ok(())
+}
+
 /// The status of a replay whose source or sink fails at those calls, and what it wrote.
 fn failing(alloc: Global, reads: &[u64], writes: &[u64]) -> Result<(u8, Bytes), Fail> {
     let input = octets_of(alloc, &[ONE_VPN, "events\nstate\nstate\n"])?;

@@ -6,6 +6,7 @@ use Rattle.std.specs.Prelude.{IfOk, IfErr}
 use Rattle.std.proofs.Math.Nat.{zero-add}
 use Rattle.std.proofs.lemmas.Bool.{cases_lt}
 use Rattle.std.proofs.lemmas.List.{take_at, take_all, take-append-drop, length-append, length-take-le}
+use Rattle.mv_base.specs.Address.{IsAddr}
 use Rattle.mv_base.specs.declared.addr.Addr.{Addr}
 use Rattle.mv_base.specs.declared.addr.Addr.TheVariants.{V4, V6}
 use Rattle.mv_base.specs.Octets.{Cursor, Passes, IsOctets}
@@ -16,7 +17,7 @@ use Rattle.mldp_fec.specs.declared.fault.FecReason.{FecReason}
 use Rattle.mldp_fec.specs.declared.fault.FecReason.TheVariants as reasons
 use Rattle.mldp_fec.specs.declared.fec.Fec.{Fec}
 use Rattle.mldp_fec.specs.Reading.{fec_at}
-use Rattle.mldp_fec.specs.Spelling.{tlv, IsAddr, kind_octet, root, written, Spells, Version, four, six, family, address_len}
+use Rattle.mldp_fec.specs.Spelling.{tlv, kind_octet, root, written, Spells, Version, four, six, family, address_len}
 use Rattle.mldp_fec.specs.FirstFault as faults
 use Rattle.mldp_fec.specs.FirstFault.{Is, Lacks, KindFault, RootFault, OpaqueFault, FirstFault}
 use Rattle.mldp_fec.proofs.FecLemmas.{fec_taken, fec_again, fec_fails, fails_fec}

@@ -2,6 +2,7 @@
 use Rattle.std.proofs.Common.{◌≡◌, ◌≢◌, ℕ, ◌^◌, ◌<◌, ◌⊎◌, eqb, List, [], ◌∷◌, ◌++◌, length, Some, Ok, Err, refl, sym, ap, subst, arith, inl, inr}
 use Rattle.std.specs.Int.{w16, to_be_bytes}
 use Rattle.std.proofs.lemmas.Bool.{eqb-true, eq-eqb, ne_eqb, eqb-false}
+use Rattle.mv_base.specs.Address.{IsAddr}
 use Rattle.mv_base.specs.declared.addr.Addr.{Addr}
 use Rattle.mv_base.specs.declared.addr.Addr.TheVariants.{V4, V6}
 use Rattle.mv_base.specs.Octets.{Cursor, Passes, IsOctets}
@@ -10,7 +11,7 @@ use Rattle.mv_base.proofs.Fields.{passes_then, passes_is, passes_split, octets_t
 use Rattle.mldp_fec.specs.declared.fault.FecFault.{FecFault}
 use Rattle.mldp_fec.specs.declared.fault.FecReason.TheVariants as reasons
 use Rattle.mldp_fec.specs.Reading.{fault, part, version_of, addr_of, len_at, root_at}
-use Rattle.mldp_fec.specs.Spelling.{IsAddr, root, Version, four, six, family, address_len}
+use Rattle.mldp_fec.specs.Spelling.{root, Version, four, six, family, address_len}
 use Rattle.mldp_fec.specs.FirstFault as faults
 use Rattle.mldp_fec.specs.FirstFault.{Is, Lacks, RootFault}
 

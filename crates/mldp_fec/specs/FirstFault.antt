@@ -2,13 +2,14 @@
 use Rattle.std.specs.Prelude.{◌≡◌, ◌≢◌, ℕ, ◌+◌, ◌<◌, ◌≤◌, ◌^◌, List, [], ◌∷◌, length}
 use Rattle.std.specs.Int.{w16, to_be_bytes}
 use Rattle.framing.specs.Walk.{StopsAt}
+use Rattle.mv_base.specs.Address.{IsAddr}
 use Rattle.mv_base.specs.Octets.{Cursor, Passes}
 use Rattle.mv_base.specs.declared.addr.Addr.{Addr}
 use Rattle.mldp_fec.specs.declared.fault.FecFault.{FecFault}
 use Rattle.mldp_fec.specs.declared.fault.FecReason.{FecReason}
 use Rattle.mldp_fec.specs.declared.fault.FecReason.TheVariants.{Short, Kind, Family, AddressLength, OpaqueShape, OpaqueTooLong}
 use Rattle.mldp_fec.specs.declared.fec.FecKind.{FecKind}
-use Rattle.mldp_fec.specs.Spelling.{tlv, IsTlv, IsAddr, kind_octet, root, Version, family, address_len}
+use Rattle.mldp_fec.specs.Spelling.{tlv, IsTlv, kind_octet, root, Version, family, address_len}
 
 -- the fault is this one
 abbrev pub Is : FecFault → ℕ → FecReason → Type 0

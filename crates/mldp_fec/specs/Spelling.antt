@@ -1,7 +1,8 @@
--- FEC elements (RFC 6388 sections 2.2 and 3.1), and the one spelling of each.
+-- FEC elements (RFC 6388 sections 2.2 and 3.2), and the one spelling of each.
 use Rattle.std.specs.Prelude.{◌≡◌, ◌≢◌, ℕ, ◌<◌, ◌≤◌, ◌^◌, List, ◌∷◌, ◌++◌, length}
 use Rattle.std.specs.Int.{w16, to_be_bytes}
 use Rattle.framing.specs.Walk.{AreWhole}
+use Rattle.mv_base.specs.Address.{IsAddr}
 use Rattle.mv_base.specs.declared.addr.Addr.{Addr}
 use Rattle.mv_base.specs.declared.addr.Addr.TheVariants.{V4, V6}
 use Rattle.mldp_fec.specs.declared.fec.FecKind.{FecKind}
@@ -28,11 +29,6 @@ family six = 2
 abbrev pub address_len : Version → ℕ
 address_len four = 4
 address_len six = 16
-
--- an address has the octets of its family
-abbrev pub IsAddr : Addr → Type 0
-IsAddr (V4 octets) = length octets ≡ 4
-IsAddr (V6 octets) = length octets ≡ 16
 
 -- family, address length and address of the root
 abbrev pub root : Addr → List ℕ

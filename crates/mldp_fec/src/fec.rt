@@ -6,9 +6,9 @@ use mv_base::{Addr, Inline};
 pub enum FecKind {
     /// A point-to-multipoint LSP (RFC 6388 section 2.2).
     P2mp,
-    /// A multipoint-to-multipoint LSP, towards its root (RFC 6388 section 3.1).
+    /// A multipoint-to-multipoint LSP, towards its root (RFC 6388 section 3.2).
     Up,
-    /// A multipoint-to-multipoint LSP, away from its root (RFC 6388 section 3.1).
+    /// A multipoint-to-multipoint LSP, away from its root (RFC 6388 section 3.2).
     Down,
 }
 

@@ -1,4 +1,4 @@
-//! The multipoint FEC element of LDP (RFC 6388 sections 2.2 and 3.1), as octets and as a value.
+//! The multipoint FEC element of LDP (RFC 6388 sections 2.2 and 3.2), as octets and as a value.
 #![tactic(auto)]
 
 mod fault;

@@ -1,5 +1,5 @@
--- Addresses: when two are one, and their octets.
-use Rattle.std.specs.Prelude.{◌≡◌, ℕ, Bool, true, false, nat_eq, List, refl}
+-- Addresses: when two are one, their octets, and how many they are.
+use Rattle.std.specs.Prelude.{◌≡◌, ℕ, Bool, true, false, nat_eq, List, length, refl}
 use Rattle.std.specs.Hash as fed
 use Rattle.std.specs.Cmp.{IsEquivalence}
 use Rattle.std.specs.Cmp.Lexicographic.{pointwise, same_text, nat_list_eq_equiv}
@@ -18,6 +18,11 @@ same_addr (V6 a) (V4 b) = false
 abbrev pub addr_octets : Addr → List ℕ
 addr_octets (V4 octets) = octets
 addr_octets (V6 octets) = octets
+
+-- an address has the octets of its family
+abbrev pub IsAddr : Addr → Type 0
+IsAddr (V4 octets) = length octets ≡ 4
+IsAddr (V6 octets) = length octets ≡ 16
 
 -- Being one address is an equivalence.
 pub same_addr_equiv : IsEquivalence same_addr

@@ -3,6 +3,7 @@ use Rattle.std.proofs.Common.{◌≡◌, ◌≢◌, ℕ, ◌+◌, ◌<◌, ◌�
 use Rattle.std.specs.Int.{w32, to_be_bytes, from_be_bytes}
 use Rattle.std.proofs.lemmas.Bool.{eqb-true, eq-eqb, ne_eqb, eqb-false, leb-true, le-leb}
 use Rattle.std.proofs.lemmas.List.{take-append-drop, length-take-le}
+use Rattle.mv_base.specs.Address.{addr_octets, IsAddr}
 use Rattle.mv_base.specs.declared.addr.Addr.{Addr}
 use Rattle.mv_base.specs.declared.addr.Addr.TheVariants.{V4, V6}
 use Rattle.mv_base.specs.declared.rd.Rd.{Rd}
@@ -15,7 +16,7 @@ use Rattle.mvpn_nlri.specs.declared.route.Afi.TheVariants.{Ipv4, Ipv6}
 use Rattle.mvpn_nlri.specs.declared.address.Role.{Role}
 use Rattle.mvpn_nlri.specs.declared.address.Role.TheVariants.{Source, Group}
 use Rattle.mvpn_nlri.specs.Bounds.{Bounded, Passes}
-use Rattle.mvpn_nlri.specs.Spelling.{IsRd, IsAs, IsAddr, IsSource, IsMulticast, IsGroup, IsAnyOr, plain, sized, any_or_sized}
+use Rattle.mvpn_nlri.specs.Spelling.{IsRd, IsAs, IsSource, IsMulticast, IsGroup, IsAnyOr, sized, any_or_sized}
 use Rattle.mvpn_nlri.specs.FirstFault as faults
 use Rattle.mvpn_nlri.specs.FirstFault.{Is, Lacks, bits, addr_len, wrong_len, IsPart, AnyOrFault, AddrFault, OriginatorFault, FlowFault}
 use Rattle.mvpn_nlri.specs.Reading.{fault, octets_within, octet_at, rd_at, as_at, is_multicast, is_part, addr_of, plain_at, any_or_addr_at, no_wildcard, addr_at, originator_at, flow_at}
@@ -46,23 +47,23 @@ is_source : (afi : Afi) (octets : List ℕ) → length octets ≡ addr_len afi �
 is_source Ipv4 octets h = h
 is_source Ipv6 octets h = h
 
-plain_of : (afi : Afi) (octets : List ℕ) → octets ≡ plain (addr_of afi octets)
+plain_of : (afi : Afi) (octets : List ℕ) → octets ≡ addr_octets (addr_of afi octets)
 plain_of Ipv4 octets = refl
 plain_of Ipv6 octets = refl
 
-source_len : (afi : Afi) (addr : Addr) → IsSource afi addr → length (plain addr) ≡ addr_len afi
+source_len : (afi : Afi) (addr : Addr) → IsSource afi addr → length (addr_octets addr) ≡ addr_len afi
 source_len Ipv4 (V4 octets) h = h
 source_len Ipv6 (V6 octets) h = h
 source_len Ipv4 (V6 octets) h = absurd h
 source_len Ipv6 (V4 octets) h = absurd h
 
-source_is : (afi : Afi) (addr : Addr) → IsSource afi addr → addr_of afi (plain addr) ≡ addr
+source_is : (afi : Afi) (addr : Addr) → IsSource afi addr → addr_of afi (addr_octets addr) ≡ addr
 source_is Ipv4 (V4 octets) h = refl
 source_is Ipv6 (V6 octets) h = refl
 source_is Ipv4 (V6 octets) h = absurd h
 source_is Ipv6 (V4 octets) h = absurd h
 
-sized_is : (afi : Afi) (addr : Addr) → IsSource afi addr → bits afi ∷ plain addr ≡ sized addr
+sized_is : (afi : Afi) (addr : Addr) → IsSource afi addr → bits afi ∷ addr_octets addr ≡ sized addr
 sized_is Ipv4 (V4 octets) h = refl
 sized_is Ipv6 (V6 octets) h = refl
 sized_is Ipv4 (V6 octets) h = absurd h
@@ -106,22 +107,22 @@ no_part_again role addr e h = rw e (true_or_false (is_multicast addr) (λ t. h (
 
 -- the octets of a source or group fail
 abbrev PlainFault : Afi → Role → Bounded → RouteFault → Type 0
-PlainFault afi role b f = Lacks (addr_len afi) b f ⊎ ((addr : Addr) × (e : Bounded) × (role ≡ Group) × IsSource afi addr × Passes b (plain addr) e × ¬ (IsMulticast addr) × Is f b.place GroupNotMulticast)
+PlainFault afi role b f = Lacks (addr_len afi) b f ⊎ ((addr : Addr) × (e : Bounded) × (role ≡ Group) × IsSource afi addr × Passes b (addr_octets addr) e × ¬ (IsMulticast addr) × Is f b.place GroupNotMulticast)
 
-plain_taken : (afi : Afi) (role : Role) (b : Bounded) (x : Addr × Bounded) → plain_at afi role b ≡ Ok x → Passes b (plain x.0) x.1 × IsPart role afi x.0
+plain_taken : (afi : Afi) (role : Role) (b : Bounded) (x : Addr × Bounded) → plain_at afi role b ≡ Ok x → Passes b (addr_octets x.0) x.1 × IsPart role afi x.0
 unfolding plain_at
 plain_taken afi role b x e =
     let o = bind_ok (octets_within (addr_len afi) b) _ x e in
     let t = octets_taken (addr_len afi) b o.0 o.1 in
     let k = checked_ok (is_part role (addr_of afi o.0.0)) (fault b.place GroupNotMulticast) (addr_of afi o.0.0, o.0.1) x o.2 in
-    subst (λ (y : Addr × Bounded). Passes b (plain y.0) y.1 × IsPart role afi y.0) (sym k.1)
-    (passes_is b o.0.0 (plain (addr_of afi o.0.0)) o.0.1 t.0 (plain_of afi o.0.0), part_is role afi (addr_of afi o.0.0) (is_source afi o.0.0 t.1) k.0)
+    subst (λ (y : Addr × Bounded). Passes b (addr_octets y.0) y.1 × IsPart role afi y.0) (sym k.1)
+    (passes_is b o.0.0 (addr_octets (addr_of afi o.0.0)) o.0.1 t.0 (plain_of afi o.0.0), part_is role afi (addr_of afi o.0.0) (is_source afi o.0.0 t.1) k.0)
 
-plain_again : (afi : Afi) (role : Role) (b : Bounded) (addr : Addr) (d : Bounded) → Passes b (plain addr) d → IsPart role afi addr → plain_at afi role b ≡ Ok (addr, d)
+plain_again : (afi : Afi) (role : Role) (b : Bounded) (addr : Addr) (d : Bounded) → Passes b (addr_octets addr) d → IsPart role afi addr → plain_at afi role b ≡ Ok (addr, d)
 unfolding plain_at
 plain_again afi role b addr d p h =
     let source = part_source role afi addr h in
-    rw (octets_again (addr_len afi) b (plain addr) d p (source_len afi addr source), source_is afi addr source, is_part_again role afi addr h) refl
+    rw (octets_again (addr_len afi) b (addr_octets addr) d p (source_len afi addr source), source_is afi addr source, is_part_again role afi addr h) refl
 
 plain_fails : (afi : Afi) (role : Role) (b : Bounded) (f : RouteFault) → plain_at afi role b ≡ Err f → PlainFault afi role b f
 unfolding plain_at
@@ -132,14 +133,14 @@ plain_fails afi role b f e =
           let t = octets_taken (addr_len afi) b o.0 o.1 in
           let k = checked_err (is_part role (addr_of afi o.0.0)) (fault b.place GroupNotMulticast) (addr_of afi o.0.0, o.0.1) f o.2 in
           let n = no_part role (addr_of afi o.0.0) k.0 in
-          inr (addr_of afi o.0.0, o.0.1, n.0, is_source afi o.0.0 t.1, passes_is b o.0.0 (plain (addr_of afi o.0.0)) o.0.1 t.0 (plain_of afi o.0.0), n.1, k.1)
+          inr (addr_of afi o.0.0, o.0.1, n.0, is_source afi o.0.0 t.1, passes_is b o.0.0 (addr_octets (addr_of afi o.0.0)) o.0.1 t.0 (plain_of afi o.0.0), n.1, k.1)
     ]
 
 plain_failing : (afi : Afi) (role : Role) (b : Bounded) (f : RouteFault) → PlainFault afi role b f → plain_at afi role b ≡ Err f
 unfolding plain_at
 plain_failing afi role b f (inl lacks) = rw (fail_octets (addr_len afi) b f lacks) refl
 plain_failing afi role b f (inr (addr, e, group, source, p, not, is)) =
-    rw (octets_again (addr_len afi) b (plain addr) e p (source_len afi addr source), source_is afi addr source, no_part_again role addr group not) (err_again (sym is))
+    rw (octets_again (addr_len afi) b (addr_octets addr) e p (source_len afi addr source), source_is afi addr source, no_part_again role addr group not) (err_again (sym is))
 
 -- ---- a source or group, or the wildcard
 
@@ -161,10 +162,10 @@ any_or_taken afi role b x fits e =
         | inl good ↦
             let t = turned_ok Some (plain_at afi role) l.0.1 x good.1 in
             let q = plain_taken afi role l.0.1 t.0 t.1 in
-            let both = passes_then b (l.0.0 ∷ []) l.0.1 (plain t.0.0) t.0.1 p q.0 in
-            let text : l.0.0 ∷ plain t.0.0 ≡ sized t.0.0 = ap (λ n. n ∷ plain t.0.0) (eqb-true l.0.0 (bits afi) good.0) ∙ sized_is afi t.0.0 (part_source role afi t.0.0 q.1) in
+            let both = passes_then b (l.0.0 ∷ []) l.0.1 (addr_octets t.0.0) t.0.1 p q.0 in
+            let text : l.0.0 ∷ addr_octets t.0.0 ≡ sized t.0.0 = ap (λ n. n ∷ addr_octets t.0.0) (eqb-true l.0.0 (bits afi) good.0) ∙ sized_is afi t.0.0 (part_source role afi t.0.0 q.1) in
             subst (λ (y : Option Addr × Bounded). Passes b (any_or_sized y.0) y.1 × IsAnyOr (IsPart role afi) y.0) t.2
-            (passes_is b (l.0.0 ∷ plain t.0.0) (sized t.0.0) t.0.1 both text, q.1)
+            (passes_is b (l.0.0 ∷ addr_octets t.0.0) (sized t.0.0) t.0.1 both text, q.1)
         | inr bad ↦ absurd cc
       ]
     ]
@@ -174,7 +175,7 @@ unfolding any_or_addr_at
 any_or_again afi role b None d p h = rw (octet_format.again b 0 d p tt tt) refl
 any_or_again afi role b (Some addr) d p h =
     let text = sym (sized_is afi addr (part_source role afi addr h)) in
-    let s = passes_split b (bits afi ∷ []) (plain addr) d (passes_is b (sized addr) (bits afi ∷ plain addr) d p text) in
+    let s = passes_split b (bits afi ∷ []) (addr_octets addr) d (passes_is b (sized addr) (bits afi ∷ addr_octets addr) d p text) in
     rw (octet_format.again b (bits afi) s.0 s.1 tt tt, ne_eqb (bits afi) 0 (bits_some afi), eq-eqb (bits afi) (bits afi) refl, plain_again afi role s.0 addr d s.2 h) refl
 
 in_plain : (afi : Afi) (role : Role) (b d : Bounded) (f : RouteFault) → Passes b (bits afi ∷ []) d → PlainFault afi role d f → AnyOrFault afi role b f
@@ -283,7 +284,7 @@ flow_format afi = both_format (addr_format afi Source) (closed_format (addr_form
 
 -- ---- the originator
 
-originator_taken : (b : Bounded) (x : Addr × Bounded) → originator_at b ≡ Ok x → Passes b (plain x.0) x.1 × (IsAddr x.0 × Ends x.1)
+originator_taken : (b : Bounded) (x : Addr × Bounded) → originator_at b ≡ Ok x → Passes b (addr_octets x.0) x.1 × (IsAddr x.0 × Ends x.1)
 unfolding originator_at
 originator_taken b x e =
     let o = bind_ok (octets_within b.within b) _ x e in
@@ -292,16 +293,16 @@ originator_taken b x e =
     elim (chosen (eqb b.within 4) _ _ _ o.2) [
       | inl short ↦
           let made : Addr × Bounded = (V4 o.0.0, o.0.1) in
-          subst (λ (y : Addr × Bounded). Passes b (plain y.0) y.1 × (IsAddr y.0 × Ends y.1)) (ok_is made x short.1) (t.0, (t.1 ∙ eqb-true b.within 4 short.0, ends))
+          subst (λ (y : Addr × Bounded). Passes b (addr_octets y.0) y.1 × (IsAddr y.0 × Ends y.1)) (ok_is made x short.1) (t.0, (t.1 ∙ eqb-true b.within 4 short.0, ends))
       | inr more ↦ elim (chosen (eqb b.within 16) _ _ _ more.1) [
         | inl long ↦
             let made : Addr × Bounded = (V6 o.0.0, o.0.1) in
-            subst (λ (y : Addr × Bounded). Passes b (plain y.0) y.1 × (IsAddr y.0 × Ends y.1)) (ok_is made x long.1) (t.0, (t.1 ∙ eqb-true b.within 16 long.0, ends))
+            subst (λ (y : Addr × Bounded). Passes b (addr_octets y.0) y.1 × (IsAddr y.0 × Ends y.1)) (ok_is made x long.1) (t.0, (t.1 ∙ eqb-true b.within 16 long.0, ends))
         | inr bad ↦ absurd cc
       ]
     ]
 
-originator_again : (b : Bounded) (x : Addr) (d : Bounded) → Passes b (plain x) d → IsAddr x → Ends d → originator_at b ≡ Ok (x, d)
+originator_again : (b : Bounded) (x : Addr) (d : Bounded) → Passes b (addr_octets x) d → IsAddr x → Ends d → originator_at b ≡ Ok (x, d)
 unfolding originator_at
 originator_again b (V4 octets) d p len end =
     let size : length octets ≡ b.within = omega (arith, p.within, end) in
@@ -354,7 +355,7 @@ originator_near : (b : Bounded) (f : RouteFault) → OriginatorFault b f → f.p
 originator_near b f (faults.short lt is) = is_near f b.place _ (ap (λ (g : RouteFault). g.place) is) (omega arith)
 originator_near b f (faults.wrong le four sixteen is) = is_near f b.place _ (ap (λ (g : RouteFault). g.place) is) (omega arith)
 
-pub originator_format : Format originator_at plain IsAddr Ends OriginatorFault
+pub originator_format : Format originator_at addr_octets IsAddr Ends OriginatorFault
 originator_format = record {
   taken = λ b x fits e. originator_taken b x e;
   again = originator_again;

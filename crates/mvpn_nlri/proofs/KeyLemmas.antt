@@ -2,6 +2,7 @@
 use Rattle.std.proofs.Common.{◌≡◌, ◌≢◌, ℕ, ◌+◌, ◌-◌, ◌<◌, ◌≤◌, Bool, true, false, eqb, leb, ◌||◌, ◌⊎◌, List, [], ◌∷◌, ◌++◌, length, Option, Ok, Err, refl, sym, ap, subst, ◌∙◌, arith, inl, inr}
 use Rattle.std.specs.Int.{w32, to_be_bytes}
 use Rattle.std.proofs.lemmas.Bool.{eqb-true, ne_eqb, eqb-false, leb-true, leb-false, le-leb, lt-leb}
+use Rattle.mv_base.specs.Address.{addr_octets, IsAddr}
 use Rattle.mv_base.specs.declared.addr.Addr.{Addr}
 use Rattle.mv_base.specs.declared.rd.Rd.{Rd}
 use Rattle.mv_base.specs.Octets.{IsOctets}
@@ -13,7 +14,7 @@ use Rattle.mvpn_nlri.specs.declared.route.LeafKey.{LeafKey}
 use Rattle.mvpn_nlri.specs.declared.route.LeafKey.TheVariants as keys
 use Rattle.mvpn_nlri.specs.declared.address.Role.TheVariants.{Source, Group}
 use Rattle.mvpn_nlri.specs.Bounds.{Bounded, Passes, bounded}
-use Rattle.mvpn_nlri.specs.Spelling.{IsRd, IsAs, IsAddr, IsSource, IsGroup, IsAnyOr, IsKey, plain, any_or_sized, key_kind, key_fields, key}
+use Rattle.mvpn_nlri.specs.Spelling.{IsRd, IsAs, IsSource, IsGroup, IsAnyOr, IsKey, any_or_sized, key_kind, key_fields, key}
 use Rattle.mvpn_nlri.specs.FirstFault as faults
 use Rattle.mvpn_nlri.specs.FirstFault.{Is, Lacks, InterFault, SelectiveFault, KeyFieldsFault, KeyFault}
 use Rattle.mvpn_nlri.specs.Reading.{fault, octet_at, inter_of, selective_of, inter_at, selective_at, key_fields_at, key_kind_at, key_len_at, key_at}
@@ -38,7 +39,7 @@ pub inter_format : Format inter_at key_fields IsInter Ends InterFault
 unfolding inter_at
 inter_format = turned_format inter_of key_fields IsInter (λ x fits h. (refl, h)) inter_back (both_format rd_format (closed_format as_format))
 
-selective_back : (afi : Afi) (k : LeafKey) → IsSelective afi k → (x : Rd × (Option Addr × (Option Addr × Addr))) × (k ≡ selective_of x) × (key_fields k ≡ x.0.0 ++ (any_or_sized x.1.0 ++ (any_or_sized x.1.1.0 ++ plain x.1.1.1))) × (IsRd x.0 × (IsAnyOr (IsSource afi) x.1.0 × (IsAnyOr (IsGroup afi) x.1.1.0 × IsAddr x.1.1.1)))
+selective_back : (afi : Afi) (k : LeafKey) → IsSelective afi k → (x : Rd × (Option Addr × (Option Addr × Addr))) × (k ≡ selective_of x) × (key_fields k ≡ x.0.0 ++ (any_or_sized x.1.0 ++ (any_or_sized x.1.1.0 ++ addr_octets x.1.1.1))) × (IsRd x.0 × (IsAnyOr (IsSource afi) x.1.0 × (IsAnyOr (IsGroup afi) x.1.1.0 × IsAddr x.1.1.1)))
 selective_back afi (keys.Inter rd source_as) h = absurd h
 selective_back afi (keys.Selective rd source group originator) h = ((rd, (source, (group, originator))), refl, refl, h)
 

@@ -2,6 +2,7 @@
 use Rattle.std.proofs.Common.{◌≡◌, ◌≢◌, ℕ, ◌+◌, ◌<◌, ◌≤◌, Bool, true, false, eqb, ◌⊎◌, List, ◌++◌, length, Ok, Err, refl, sym, ap, subst, ◌∙◌, arith, inl, inr}
 use Rattle.std.specs.Int.{w32, to_be_bytes}
 use Rattle.std.proofs.lemmas.Bool.{eqb-true, ne_eqb, eqb-false}
+use Rattle.mv_base.specs.Address.{addr_octets, IsAddr}
 use Rattle.mv_base.specs.declared.addr.Addr.{Addr}
 use Rattle.mv_base.specs.declared.rd.Rd.{Rd}
 use Rattle.mv_base.specs.Octets.{IsOctets}
@@ -13,7 +14,7 @@ use Rattle.mvpn_nlri.specs.declared.route.LeafKey.TheVariants as keys
 use Rattle.mvpn_nlri.specs.declared.route.Route.{Route}
 use Rattle.mvpn_nlri.specs.declared.route.Route.TheVariants.{Intra, Inter, Selective, Leaf, Active, SharedJoin, SourceJoin, Other}
 use Rattle.mvpn_nlri.specs.Bounds.{Bounded, Passes}
-use Rattle.mvpn_nlri.specs.Spelling.{IsRd, IsAs, IsAddr, IsSource, IsGroup, IsKey, IsOther, IsRoute, plain, sized, key, key_fields, kind, fields}
+use Rattle.mvpn_nlri.specs.Spelling.{IsRd, IsAs, IsSource, IsGroup, IsKey, IsOther, IsRoute, sized, key, key_fields, kind, fields}
 use Rattle.mvpn_nlri.specs.FirstFault as faults
 use Rattle.mvpn_nlri.specs.FirstFault.{Is, RdThen, AsThen, FlowFault, OriginatorFault, Then, KeyFault, FieldsFault}
 use Rattle.mvpn_nlri.specs.Reading.{Read, octets_within, turned, both, rd_at, flow_at, originator_at, key_at, inter_at, selective_at, own_route, intra_of, leaf_of, active_of, shared_of, source_of, intra_at, leaf_at, active_at, join_at, other_at, fields_at}
@@ -23,10 +24,10 @@ use Rattle.mvpn_nlri.proofs.KeyLemmas.{IsInter, IsSelective, inter_format, selec
 
 -- ---- the fields of each type, as pairs
 
-intra_format : Format (both rd_at originator_at) (λ x. x.0.0 ++ plain x.1) (λ x. IsRd x.0 × IsAddr x.1) Ends (RdThen OriginatorFault)
+intra_format : Format (both rd_at originator_at) (λ x. x.0.0 ++ addr_octets x.1) (λ x. IsRd x.0 × IsAddr x.1) Ends (RdThen OriginatorFault)
 intra_format = both_format rd_format originator_format
 
-leaf_format : (afi : Afi) → Format (both (key_at afi) originator_at) (λ x. key x.0 ++ plain x.1) (λ x. IsKey afi x.0 × IsAddr x.1) Ends (Then key (IsKey afi) (KeyFault afi) OriginatorFault)
+leaf_format : (afi : Afi) → Format (both (key_at afi) originator_at) (λ x. key x.0 ++ addr_octets x.1) (λ x. IsKey afi x.0 × IsAddr x.1) Ends (Then key (IsKey afi) (KeyFault afi) OriginatorFault)
 leaf_format afi = both_format (key_format afi) originator_format
 
 active_format : (afi : Afi) → Format (both rd_at (flow_at afi)) (λ x. x.0.0 ++ (sized x.1.0 ++ sized x.1.1)) (λ x. IsRd x.0 × (IsSource afi x.1.0 × IsGroup afi x.1.1)) Ends (RdThen (FlowFault afi))
@@ -159,11 +160,11 @@ other_again : (n : ℕ) (octets : List ℕ) (b d : Bounded) → Passes b octets 
 unfolding other_at
 other_again n octets b d p end = turned_again (λ xs. Other n xs) (octets_within b.within) b octets d (octets_again b.within b octets d p (omega (arith, p.within, end)))
 
-intra_again : (x : Rd × Addr) (b d : Bounded) → Passes b (x.0.0 ++ plain x.1) d → IsRd x.0 × IsAddr x.1 → Ends d → intra_at b ≡ Ok (intra_of x, d)
+intra_again : (x : Rd × Addr) (b d : Bounded) → Passes b (x.0.0 ++ addr_octets x.1) d → IsRd x.0 × IsAddr x.1 → Ends d → intra_at b ≡ Ok (intra_of x, d)
 unfolding intra_at
 intra_again x b d p h end = turned_again intra_of (both rd_at originator_at) b x d (intra_format.again b x d p h end)
 
-leaf_again : (afi : Afi) (x : LeafKey × Addr) (b d : Bounded) → Passes b (key x.0 ++ plain x.1) d → IsKey afi x.0 × IsAddr x.1 → Ends d → leaf_at afi b ≡ Ok (leaf_of x, d)
+leaf_again : (afi : Afi) (x : LeafKey × Addr) (b d : Bounded) → Passes b (key x.0 ++ addr_octets x.1) d → IsKey afi x.0 × IsAddr x.1 → Ends d → leaf_at afi b ≡ Ok (leaf_of x, d)
 unfolding leaf_at
 leaf_again afi x b d p h end = turned_again leaf_of (both (key_at afi) originator_at) b x d ((leaf_format afi).again b x d p h end)
 

@@ -2,6 +2,7 @@
 use Rattle.std.proofs.Common.{◌≡◌, ℕ, suc, ◌+◌, ◌<◌, ◌≤◌, List, [], ◌∷◌, ◌++◌, length, take, drop, Option, Some, None, refl, ap, ◌∙◌, append_assoc, arith}
 use Rattle.std.specs.Int.{w32, to_be_bytes}
 use Rattle.std.proofs.lemmas.List.{take-append-le, take-take, drop_at, length-append, length-take-le}
+use Rattle.mv_base.specs.Address.{addr_octets, IsAddr}
 use Rattle.mv_base.specs.declared.addr.Addr.{Addr}
 use Rattle.mv_base.specs.declared.addr.Addr.TheVariants.{V4, V6}
 use Rattle.mv_base.specs.Writing.{put_at}
@@ -12,7 +13,7 @@ use Rattle.mvpn_nlri.specs.declared.route.LeafKey.{LeafKey}
 use Rattle.mvpn_nlri.specs.declared.route.LeafKey.TheVariants as keys
 use Rattle.mvpn_nlri.specs.declared.route.Route.{Route}
 use Rattle.mvpn_nlri.specs.declared.route.Route.TheVariants.{Intra, Inter, Selective, Leaf, Active, SharedJoin, SourceJoin, Other}
-use Rattle.mvpn_nlri.specs.Spelling.{IsAddr, IsSource, IsGroup, IsAnyOr, IsKey, IsRoute, plain, sized, any_or_sized, key_fields, key, fields}
+use Rattle.mvpn_nlri.specs.Spelling.{IsSource, IsGroup, IsAnyOr, IsKey, IsRoute, sized, any_or_sized, key_fields, fields}
 
 -- ---- writing
 
@@ -46,7 +47,7 @@ puts_before old body p m n room =
 
 -- ---- sizes
 
-plain_room : (addr : Addr) → IsAddr addr → length (plain addr) ≤ 16
+plain_room : (addr : Addr) → IsAddr addr → length (addr_octets addr) ≤ 16
 plain_room (V4 octets) h = omega (arith, h)
 plain_room (V6 octets) h = omega (arith, h)
 
@@ -70,15 +71,15 @@ four_room a b c d e f g h = omega (arith, e, f, g, h, length-append a (b ++ (c +
 pub key_room : (afi : Afi) (k : LeafKey) → IsKey afi k → length (key_fields k) ≤ 58
 key_room afi (keys.Inter rd source_as) h = omega (arith, h.0, length-append rd.0 (to_be_bytes w32 source_as))
 key_room afi (keys.Selective rd source group originator) h =
-    four_room rd.0 (any_or_sized source) (any_or_sized group) (plain originator) h.0 (source_room afi source h.1.0) (group_room afi group h.1.1.0) (plain_room originator h.1.1.1)
+    four_room rd.0 (any_or_sized source) (any_or_sized group) (addr_octets originator) h.0 (source_room afi source h.1.0) (group_room afi group h.1.1.0) (plain_room originator h.1.1.1)
 
 -- The fields of a route that is spelled have fewer than 256 octets.
 pub fields_room : (afi : Afi) (r : Route) → IsRoute afi r → length (fields r) < 256
-fields_room afi (Intra rd originator) h = omega (arith, h.0, plain_room originator h.1, length-append rd.0 (plain originator))
+fields_room afi (Intra rd originator) h = omega (arith, h.0, plain_room originator h.1, length-append rd.0 (addr_octets originator))
 fields_room afi (Inter rd source_as) h = omega (arith, h.0, length-append rd.0 (to_be_bytes w32 source_as))
 fields_room afi (Selective rd source group originator) h =
-    omega (arith, four_room rd.0 (any_or_sized source) (any_or_sized group) (plain originator) h.0 (source_room afi source h.1.0) (group_room afi group h.1.1.0) (plain_room originator h.1.1.1))
-fields_room afi (Leaf k originator) h = omega (arith, key_room afi k h.0, plain_room originator h.1, length-append (key_fields k) (plain originator))
+    omega (arith, four_room rd.0 (any_or_sized source) (any_or_sized group) (addr_octets originator) h.0 (source_room afi source h.1.0) (group_room afi group h.1.1.0) (plain_room originator h.1.1.1))
+fields_room afi (Leaf k originator) h = omega (arith, key_room afi k h.0, plain_room originator h.1, length-append (key_fields k) (addr_octets originator))
 fields_room afi (Active rd source group) h =
     omega (arith, h.0, sized_room afi source h.1.0, sized_room afi group h.1.1.0, length-append rd.0 (sized source ++ sized group), length-append (sized source) (sized group))
 fields_room afi (SharedJoin rd source_as source group) h =

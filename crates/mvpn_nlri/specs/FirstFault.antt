@@ -2,6 +2,7 @@
 -- A field is tried against the length that encloses it, then against the input, and then by its own condition.
 use Rattle.std.specs.Prelude.{◌≡◌, ◌≢◌, ℕ, ◌<◌, ◌≤◌, ◌⊎◌, List, [], ◌∷◌, length, take}
 use Rattle.std.specs.Int.{w32, to_be_bytes}
+use Rattle.mv_base.specs.Address.{addr_octets}
 use Rattle.mv_base.specs.declared.addr.Addr.{Addr}
 use Rattle.mv_base.specs.declared.rd.Rd.{Rd}
 use Rattle.mvpn_nlri.specs.declared.fault.RouteFault.{RouteFault}
@@ -12,7 +13,7 @@ use Rattle.mvpn_nlri.specs.declared.route.Afi.TheVariants.{Ipv4, Ipv6}
 use Rattle.mvpn_nlri.specs.declared.address.Role.{Role}
 use Rattle.mvpn_nlri.specs.declared.address.Role.TheVariants.{Source, Group}
 use Rattle.mvpn_nlri.specs.Bounds.{Bounded, Passes, bounded}
-use Rattle.mvpn_nlri.specs.Spelling.{IsRd, IsAs, IsSource, IsMulticast, IsGroup, IsAnyOr, IsOther, IsKey, plain, sized, any_or_sized, key}
+use Rattle.mvpn_nlri.specs.Spelling.{IsRd, IsAs, IsSource, IsMulticast, IsGroup, IsAnyOr, IsOther, IsKey, sized, any_or_sized, key}
 
 -- the fault is this one
 abbrev pub Is : RouteFault → ℕ → RouteReason → Type 0
@@ -55,7 +56,7 @@ pub data AnyOrFault (afi : Afi) (role : Role) (b : Bounded) (f : RouteFault) : T
   len_lacks : Lacks 1 b f → AnyOrFault afi role b f
   len_wrong : (octet : ℕ) (d : Bounded) → Passes b (octet ∷ []) d → octet ≢ 0 → octet ≢ bits afi → Is f b.place (wrong_len role) → AnyOrFault afi role b f
   addr_lacks : (d : Bounded) → Passes b (bits afi ∷ []) d → Lacks (addr_len afi) d f → AnyOrFault afi role b f
-  not_multicast : (addr : Addr) (d e : Bounded) → role ≡ Group → Passes b (bits afi ∷ []) d → IsSource afi addr → Passes d (plain addr) e → ¬ (IsMulticast addr) → Is f d.place GroupNotMulticast → AnyOrFault afi role b f
+  not_multicast : (addr : Addr) (d e : Bounded) → role ≡ Group → Passes b (bits afi ∷ []) d → IsSource afi addr → Passes d (addr_octets addr) e → ¬ (IsMulticast addr) → Is f d.place GroupNotMulticast → AnyOrFault afi role b f
 
 -- a source or group where no wildcard may stand
 pub data AddrFault (afi : Afi) (role : Role) (b : Bounded) (f : RouteFault) : Type 0 where

@@ -1,6 +1,7 @@
--- MCAST-VPN routes (RFC 6514 section 4, with the wildcards of RFC 6625 section 3), and the one spelling of each.
+-- MCAST-VPN routes (RFC 6514 section 4, with the wildcards of RFC 6625 section 2), and the one spelling of each.
 use Rattle.std.specs.Prelude.{◌≡◌, ℕ, ◌<◌, ◌≤◌, ◌^◌, ◌⊎◌, List, [], ◌∷◌, ◌++◌, length, slice_index, Option, Some, None}
 use Rattle.std.specs.Int.{w32, to_be_bytes}
+use Rattle.mv_base.specs.Address.{addr_octets, IsAddr}
 use Rattle.mv_base.specs.declared.addr.Addr.{Addr}
 use Rattle.mv_base.specs.declared.addr.Addr.TheVariants.{V4, V6}
 use Rattle.mv_base.specs.declared.rd.Rd.{Rd}
@@ -20,11 +21,6 @@ IsRd rd = length rd.0 ≡ 8
 -- a Source AS has 4 octets
 abbrev pub IsAs : ℕ → Type 0
 IsAs source_as = source_as < 2 ^ 32
-
--- an address has the octets of its family
-abbrev pub IsAddr : Addr → Type 0
-IsAddr (V4 octets) = length octets ≡ 4
-IsAddr (V6 octets) = length octets ≡ 16
 
 -- a source is of the family that the AFI tells
 abbrev pub IsSource : Afi → Addr → Type 0
@@ -49,17 +45,12 @@ IsAnyOr Is (Some addr) = Is addr
 
 -- ---- fields
 
--- an address in the order of the wire
-abbrev pub plain : Addr → List ℕ
-plain (V4 octets) = octets
-plain (V6 octets) = octets
-
 -- an address behind its length in bits
 abbrev pub sized : Addr → List ℕ
 sized (V4 octets) = 32 ∷ octets
 sized (V6 octets) = 128 ∷ octets
 
--- the wildcard is a length of 0 alone (RFC 6625 section 3)
+-- the wildcard is a length of 0 alone (RFC 6625 section 2)
 abbrev pub any_or_sized : Option Addr → List ℕ
 any_or_sized None = 0 ∷ []
 any_or_sized (Some addr) = sized addr
@@ -72,7 +63,7 @@ key_kind (keys.Selective rd source group originator) = 3
 
 abbrev pub key_fields : LeafKey → List ℕ
 key_fields (keys.Inter rd source_as) = rd.0 ++ to_be_bytes w32 source_as
-key_fields (keys.Selective rd source group originator) = rd.0 ++ (any_or_sized source ++ (any_or_sized group ++ plain originator))
+key_fields (keys.Selective rd source group originator) = rd.0 ++ (any_or_sized source ++ (any_or_sized group ++ addr_octets originator))
 
 -- type, length of the rest, fields
 abbrev pub key : LeafKey → List ℕ
@@ -100,10 +91,10 @@ kind (Other number octets) = number
 
 -- the fields of a route end to end (RFC 6514 sections 4.1 to 4.6)
 abbrev pub fields : Route → List ℕ
-fields (Intra rd originator) = rd.0 ++ plain originator
+fields (Intra rd originator) = rd.0 ++ addr_octets originator
 fields (Inter rd source_as) = rd.0 ++ to_be_bytes w32 source_as
-fields (Selective rd source group originator) = rd.0 ++ (any_or_sized source ++ (any_or_sized group ++ plain originator))
-fields (Leaf k originator) = key k ++ plain originator
+fields (Selective rd source group originator) = rd.0 ++ (any_or_sized source ++ (any_or_sized group ++ addr_octets originator))
+fields (Leaf k originator) = key k ++ addr_octets originator
 fields (Active rd source group) = rd.0 ++ (sized source ++ sized group)
 fields (SharedJoin rd source_as source group) = rd.0 ++ (to_be_bytes w32 source_as ++ (sized source ++ sized group))
 fields (SourceJoin rd source_as source group) = rd.0 ++ (to_be_bytes w32 source_as ++ (sized source ++ sized group))

@@ -1,4 +1,4 @@
-//! MCAST-VPN routes (RFC 6514 section 4, with the wildcards of RFC 6625 section 3), as octets and as values.
+//! MCAST-VPN routes (RFC 6514 section 4, with the wildcards of RFC 6625 section 2), as octets and as values.
 #![tactic(auto)]
 
 mod address;

@@ -45,7 +45,7 @@ pub enum Route {
         rd: Rd,
         source_as: u32,
     },
-    /// Type 3, S-PMSI A-D (section 4.3), where `None` is the wildcard (RFC 6625 section 3).
+    /// Type 3, S-PMSI A-D (section 4.3), where `None` is the wildcard (RFC 6625 section 2).
     Selective {
         rd: Rd,
         source: Option<Addr>,

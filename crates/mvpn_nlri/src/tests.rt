@@ -29,10 +29,25 @@ fn rewrite(afi: Afi, bytes: &[u8], out: &mut [u8]) -> Option<usize>
     }
 }
 
+/// Whether the octets are read as the route, and are what is written of it.
+fn are_spelled(afi: Afi, bytes: &[u8], route: Route) -> bool {
+    let mut out = [0xff; 257];
+    let is_read = decode(afi, bytes) == Ok((route, bytes.len()));
+    let is_written = rewrite(afi, bytes, &mut out) == Some(bytes.len());
+    is_read && is_written && out.starts_with(bytes)
+}
+
+/// The place and the reason of the first fault.
+fn fault_of(bytes: &[u8]) -> Option<(u32, RouteReason)> {
+    match decode(Afi::Ipv4, bytes) {
+        Ok(_) => None,
+        Err(fault) => Some((fault.place, fault.reason)),
+    }
+}
+
 #[test]
-fn reads_and_writes(rt: HostRuntime) -> Result<(), Fail> {
-    let raw = Raw::of(&[0xaa, 0xbb]).ok_or("two octets fit")?;
-    let cases: [(Afi, &[u8], Route); 9] = [
+fn pmsi_routes(rt: HostRuntime) {
+    let cases: [(Afi, &[u8], Route); 3] = [
         (
             Afi::Ipv4,
             b"\x01\x0c\0\0\xfd\xe8\0\0\0\x01\xc0\0\x02\x01",
@@ -59,6 +74,15 @@ fn reads_and_writes(rt: HostRuntime) -> Result<(), Fail> {
                 originator: FIRST,
             },
         ),
+    ];
+    for (afi, bytes, route) in cases.iter() {
+        assert!(rt; are_spelled(*afi, bytes, *route));
+    }
+}
+
+#[test]
+fn leaf_routes(rt: HostRuntime) {
+    let cases: [(Afi, &[u8], Route); 2] = [
         (
             Afi::Ipv4,
             b"\x04\x1c\x03\x16\0\0\xfd\xe8\0\0\0\x01\x20\x0a\x01\0\x09\x20\xe8\x01\x01\x01\xc0\0\x02\x01\xc0\0\x02\x02",
@@ -83,6 +107,15 @@ fn reads_and_writes(rt: HostRuntime) -> Result<(), Fail> {
                 originator: SECOND,
             },
         ),
+    ];
+    for (afi, bytes, route) in cases.iter() {
+        assert!(rt; are_spelled(*afi, bytes, *route));
+    }
+}
+
+#[test]
+fn source_and_join_routes(rt: HostRuntime) {
+    let cases: [(Afi, &[u8], Route); 3] = [
         (
             Afi::Ipv4,
             b"\x05\x12\0\0\xfd\xe8\0\0\0\x01\x20\x0a\x01\0\x09\x20\xe8\x01\x01\x01",
@@ -112,20 +145,22 @@ fn reads_and_writes(rt: HostRuntime) -> Result<(), Fail> {
                 group: GROUP,
             },
         ),
-        (Afi::Ipv4, b"\x09\x02\xaa\xbb", Route::Other(9, raw)),
     ];
     for (afi, bytes, route) in cases.iter() {
-        let mut out = [0xff; 257];
-        assert!(rt; decode(*afi, bytes) == Ok((*route, bytes.len())));
-        assert!(rt; rewrite(*afi, bytes, &mut out) == Some(bytes.len()));
-        assert!(rt; out.starts_with(bytes));
+        assert!(rt; are_spelled(*afi, bytes, *route));
     }
+}
+
+#[test]
+fn other_routes(rt: HostRuntime) -> Result<(), Fail> {
+    let raw = Raw::of(&[0xaa, 0xbb]).ok_or("two octets fit")?;
+    assert!(rt; are_spelled(Afi::Ipv4, b"\x09\x02\xaa\xbb", Route::Other(9, raw)));
     Ok(())
 }
 
 #[test]
-fn faults(rt: HostRuntime) {
-    let cases: [(&[u8], u32, RouteReason); 17] = [
+fn faults_of_lengths(rt: HostRuntime) {
+    let cases: [(&[u8], u32, RouteReason); 8] = [
         (b"", 0, RouteReason::Short),
         (b"\x01", 1, RouteReason::Short),
         (b"\x01\0", 2, RouteReason::LengthTooSmall),
@@ -133,11 +168,6 @@ fn faults(rt: HostRuntime) {
             b"\x01\x0c\0\0\xfd\xe8\0\0\0\x01\xc0\0\x02",
             10,
             RouteReason::Short,
-        ),
-        (
-            b"\x01\x0d\0\0\xfd\xe8\0\0\0\x01\xc0\0\x02\x01\0",
-            10,
-            RouteReason::OriginatorLength,
         ),
         (
             b"\x02\x0d\0\0\xfd\xe8\0\0\0\x01\0\0\xfd\xe8\0",
@@ -148,6 +178,26 @@ fn faults(rt: HostRuntime) {
             b"\x02\x0d\0\0\xfd\xe8\0\0\0\x01\0\0\xfd\xe8",
             14,
             RouteReason::LengthTooLarge,
+        ),
+        (
+            b"\x05\x0b\0\0\xfd\xe8\0\0\0\x01\x20",
+            11,
+            RouteReason::LengthTooSmall,
+        ),
+        (b"\x08\x03\xaa\xbb", 2, RouteReason::Short),
+    ];
+    for (bytes, place, reason) in cases.iter() {
+        assert!(rt; fault_of(bytes) == Some((*place, *reason)));
+    }
+}
+
+#[test]
+fn faults_of_addresses(rt: HostRuntime) {
+    let cases: [(&[u8], u32, RouteReason); 5] = [
+        (
+            b"\x01\x0d\0\0\xfd\xe8\0\0\0\x01\xc0\0\x02\x01\0",
+            10,
+            RouteReason::OriginatorLength,
         ),
         (
             b"\x03\x16\0\0\xfd\xe8\0\0\0\x01\x18\x0a\x01\0\x09\x20\xe8\x01\x01\x01\xc0\0\x02\x01",
@@ -169,11 +219,15 @@ fn faults(rt: HostRuntime) {
             10,
             RouteReason::Wildcard,
         ),
-        (
-            b"\x05\x0b\0\0\xfd\xe8\0\0\0\x01\x20",
-            11,
-            RouteReason::LengthTooSmall,
-        ),
+    ];
+    for (bytes, place, reason) in cases.iter() {
+        assert!(rt; fault_of(bytes) == Some((*place, *reason)));
+    }
+}
+
+#[test]
+fn faults_of_keys(rt: HostRuntime) {
+    let cases: [(&[u8], u32, RouteReason); 4] = [
         (b"\x04\x1c\x05\x16", 2, RouteReason::KeyType),
         (b"\x04\x04\x03\x16\0\0", 3, RouteReason::LengthTooSmall),
         (
@@ -186,15 +240,8 @@ fn faults(rt: HostRuntime) {
             16,
             RouteReason::OriginatorLength,
         ),
-        (b"\x08\x03\xaa\xbb", 2, RouteReason::Short),
     ];
     for (bytes, place, reason) in cases.iter() {
-        assert!(rt;
-            decode(Afi::Ipv4, bytes).err()
-                == Some(RouteFault {
-                    place: *place,
-                    reason: *reason
-                })
-        );
+        assert!(rt; fault_of(bytes) == Some((*place, *reason)));
     }
 }

@@ -2,23 +2,20 @@
 ghost use Rattle.std.specs.Prelude.{◌≡◌, ◌≤◌, ◌<◌, ◌+◌, ◌++◌, length};
 ghost use Rattle.std.specs.Int.{w32, to_be_bytes};
 ghost use Rattle.mv_base.specs.Writing.{put_at};
-ghost use Rattle.mvpn_nlri.specs.Spelling.{Spells, written, plain, sized, any_or_sized, key_kind, key_fields, key, kind, fields};
+ghost use Rattle.mv_base.specs.Address.{addr_octets};
+ghost use Rattle.mvpn_nlri.specs.Spelling.{Spells, written, sized, any_or_sized, key_kind, key_fields, key, kind, fields};
 
 use crate::fault::RouteFault;
 use crate::reading::decode;
 use crate::route::{Afi, LeafKey, Route};
 use mv_base::{Addr, Rd, put};
 
-#[tactic(auto, using(mv_base::proofs::Fields::puts))]
 fn put_plain(out: &mut [u8], place: usize, addr: &Addr) -> usize
-    requires { place + length (plain addr.now) ≤ length out.old }
-    ensures place { result ≡ place + length (plain addr.now) }
-    ensures octets { out.new ≡ put_at out.old place (plain addr.now) }
+    requires { place + length (addr_octets addr.now) ≤ length out.old }
+    ensures place { result ≡ place + length (addr_octets addr.now) }
+    ensures octets { out.new ≡ put_at out.old place (addr_octets addr.now) }
 {
-    match addr {
-        Addr::V4(octets) => put(out, place, octets),
-        Addr::V6(octets) => put(out, place, octets),
-    }
+    put(out, place, addr.octets())
 }
 
 /// Writes a source or group behind its length in bits.
@@ -84,9 +81,9 @@ fn put_selective(
     group: &Option<Addr>,
     originator: &Addr,
 ) -> usize
-    requires { place + length (rd.now.0 ++ (any_or_sized source.now ++ (any_or_sized group.now ++ plain originator.now))) ≤ length out.old }
-    ensures place { result ≡ place + length (rd.now.0 ++ (any_or_sized source.now ++ (any_or_sized group.now ++ plain originator.now))) }
-    ensures octets { out.new ≡ put_at out.old place (rd.now.0 ++ (any_or_sized source.now ++ (any_or_sized group.now ++ plain originator.now))) }
+    requires { place + length (rd.now.0 ++ (any_or_sized source.now ++ (any_or_sized group.now ++ addr_octets originator.now))) ≤ length out.old }
+    ensures place { result ≡ place + length (rd.now.0 ++ (any_or_sized source.now ++ (any_or_sized group.now ++ addr_octets originator.now))) }
+    ensures octets { out.new ≡ put_at out.old place (rd.now.0 ++ (any_or_sized source.now ++ (any_or_sized group.now ++ addr_octets originator.now))) }
 {
     let place = put(out, place, &rd.0);
     let place = put_any_or_sized(out, place, source);
@@ -155,10 +152,10 @@ fn put_key(out: &mut [u8], place: usize, leaf_key: &LeafKey) -> usize
 /// Writes the fields of a Leaf A-D route.
 #[tactic(auto, using(crate::proofs::WritingLemmas::puts_two))]
 fn put_leaf(out: &mut [u8], place: usize, leaf_key: &LeafKey, originator: &Addr) -> usize
-    requires few { length (key leaf_key.now ++ plain originator.now) < 256 }
-    requires room { place + length (key leaf_key.now ++ plain originator.now) ≤ length out.old }
-    ensures place { result ≡ place + length (key leaf_key.now ++ plain originator.now) }
-    ensures octets { out.new ≡ put_at out.old place (key leaf_key.now ++ plain originator.now) }
+    requires few { length (key leaf_key.now ++ addr_octets originator.now) < 256 }
+    requires room { place + length (key leaf_key.now ++ addr_octets originator.now) ≤ length out.old }
+    ensures place { result ≡ place + length (key leaf_key.now ++ addr_octets originator.now) }
+    ensures octets { out.new ≡ put_at out.old place (key leaf_key.now ++ addr_octets originator.now) }
 {
     let place = put_key(out, place, leaf_key);
     put_plain(out, place, originator)

@@ -1,9 +1,8 @@
 -- PMSI Tunnel attributes (RFC 6514 section 5), and what spells each: some bits may be anything.
 use Rattle.std.specs.Prelude.{◌≡◌, ◌≢◌, ℕ, ◌+◌, ◌*◌, ◌<◌, ◌≤◌, ◌^◌, Bool, List, [], ◌∷◌, ◌++◌, length, Option, Some, None, bit_and, ◌==◌, ⊤, if◌then◌else◌}
+use Rattle.mv_base.specs.Address.{addr_octets, IsAddr}
 use Rattle.mv_base.specs.Cursor.{three}
-use Rattle.mv_base.specs.Address.{addr_octets}
 use Rattle.mldp_fec.specs.declared.fec.FecKind.TheVariants.{P2mp}
-use Rattle.mldp_fec.specs.Spelling.{IsAddr}
 use Rattle.mldp_fec.specs.Spelling as fec
 use Rattle.pmsi_attr.specs.declared.pmsi.Tunnel.{Tunnel}
 use Rattle.pmsi_attr.specs.declared.pmsi.Tunnel.TheVariants as tunnels

@@ -1,4 +1,7 @@
 //! PMSI Tunnel attributes.
+ghost use Rattle.std.specs.Prelude.{◌≡◌};
+ghost use Rattle.pmsi_attr.specs.Spelling.{type_octet};
+
 use mldp_fec::Fec;
 use mv_base::{Addr, Inline};
 
@@ -16,6 +19,20 @@ pub enum Tunnel {
     Ingress(Addr),
     /// Any other type, 1, 3, 4, 5 or 7, and its identifier.
     Other(u8, Ident),
+}
+
+impl Tunnel {
+    /// The number of the tunnel's type (RFC 6514 section 5).
+    pub fn kind(&self) -> u8
+        ensures { result ≡ type_octet self.now }
+    {
+        match self {
+            Tunnel::None => 0,
+            Tunnel::Mldp(_) => 2,
+            Tunnel::Ingress(_) => 6,
+            Tunnel::Other(kind, _) => *kind,
+        }
+    }
 }
 
 /// The value of a PMSI Tunnel attribute.

@@ -1,23 +1,12 @@
 //! Writing a PMSI Tunnel attribute.
 ghost use Rattle.std.specs.Prelude.{◌≡◌, ◌≤◌, ◌*◌, length};
 ghost use Rattle.mv_base.specs.Writing.{put_at};
-ghost use Rattle.pmsi_attr.specs.Spelling.{Spells, IsTunnel, IsLabel, written, written_header, type_octet, identifier, label_bits};
+ghost use Rattle.pmsi_attr.specs.Spelling.{Spells, IsTunnel, IsLabel, written, written_header, identifier, label_bits};
 
 use crate::fault::PmsiFault;
 use crate::pmsi::{Pmsi, Tunnel};
 use crate::reading::{LEAF_INFO, decode};
 use mv_base::put;
-
-fn type_of(tunnel: &Tunnel) -> u8
-    ensures { result ≡ type_octet tunnel.now }
-{
-    match tunnel {
-        Tunnel::None => 0,
-        Tunnel::Mldp(_) => 2,
-        Tunnel::Ingress(_) => 6,
-        Tunnel::Other(kind, _) => *kind,
-    }
-}
 
 /// The label in the high 20 bits of a number of 24 bits.
 fn number_of(label: Option<u32>) -> u32
@@ -37,7 +26,7 @@ fn header_of(pmsi: &Pmsi) -> [u8; 5]
 {
     let [_, high, middle, low] = number_of(pmsi.label).to_be_bytes();
     let flags = if pmsi.leaf_info { LEAF_INFO } else { 0 };
-    [flags, type_of(&pmsi.tunnel), high, middle, low]
+    [flags, pmsi.tunnel.kind(), high, middle, low]
 }
 
 /// Writes the tunnel identifier to the front, and answers how many octets it has.

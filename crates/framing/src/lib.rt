@@ -1,3 +1,11 @@
-//! Elements laid end to end, whatever their format: what it means that octets are whole ones, and where the first
-//! stands that is not. There is no code, only definitions and laws.
+//! Octets that are units laid end to end, whatever their format: what it means that octets are whole units and where
+//! the first fault stands, and a stream of them that comes in pieces.
 #![tactic(auto)]
+
+mod cutting;
+mod fault;
+mod inbound;
+
+pub use cutting::Cutting;
+pub use fault::FeedFault;
+pub use inbound::Inbound;

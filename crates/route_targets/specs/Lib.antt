@@ -1,2 +1,3 @@
 pub mod Targets
 pub mod Padding
+pub mod Communities

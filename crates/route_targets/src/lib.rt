@@ -2,7 +2,9 @@
 #![tactic(auto)]
 
 mod communities;
+mod reading;
 mod targets;
 
 pub use communities::{ExtComm, Target};
+pub use reading::{source_as, target, vrf_import};
 pub use targets::{TARGET_LIMIT, Targets, TargetsFault, same, same_members, shares};

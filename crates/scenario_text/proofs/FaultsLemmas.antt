@@ -4,11 +4,11 @@ use Rattle.std.specs.Prelude.{Result, Ok, Err}
 use Rattle.std.specs.Str.Lines.{lines}
 use Rattle.std.proofs.lemmas.Bool.Decides.{nat_tests}
 use Rattle.scenario_defs.specs.declared.event.Script.{Script}
-use Rattle.scenario_text.specs.declared.fault.TextFault.{TextFault}
-use Rattle.scenario_text.specs.declared.fault.Reason.TheVariants as reasons
+use Rattle.line_words.specs.declared.fault.TextFault.{TextFault}
+use Rattle.line_words.specs.declared.fault.Reason.TheVariants as reasons
+use Rattle.line_words.specs.Forms.{◌>>=◌}
 use Rattle.scenario_text.specs.declared.line.Line.{Line}
 use Rattle.scenario_text.specs.Drafted.{Drafted}
-use Rattle.scenario_text.specs.Forms.{◌>>=◌}
 use Rattle.scenario_text.specs.Grammar.{line_of, added, empty_draft, script_at, script_of, script_from}
 use Rattle.scenario_text.specs.Faults.{Says, SaysScript, FirstFault, IsFaultyAt}
 

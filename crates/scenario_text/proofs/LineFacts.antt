@@ -20,13 +20,16 @@ use Rattle.scenario_defs.specs.declared.scenario.Vrf.{Vrf}
 use Rattle.scenario_defs.specs.declared.scenario.Iface.{Iface}
 use Rattle.scenario_defs.specs.declared.scenario.Scenario.{Scenario}
 use Rattle.scenario_defs.specs.Rules.{IsSource, IsGroup, IsEventOf}
-use Rattle.scenario_text.specs.declared.fault.TextFault.{TextFault}
-use Rattle.scenario_text.specs.declared.fault.Reason.{Reason}
-use Rattle.scenario_text.specs.declared.fault.Reason.TheVariants as reasons
+use Rattle.line_words.specs.declared.fault.TextFault.{TextFault}
+use Rattle.line_words.specs.declared.fault.Reason.{Reason}
+use Rattle.line_words.specs.declared.fault.Reason.TheVariants as reasons
+use Rattle.line_words.specs.declared.words.Row.{Row}
+use Rattle.line_words.specs.Words.{Placed, placed, words_of}
+use Rattle.line_words.specs.Forms.{◌>>=◌, or_fault, is_name, addr_at, prefix_at, rule_at, assigned_of, source_at, group_at, targets_at, payload_at, is_unicast, is_group}
+use Rattle.line_words.proofs.WordsLemmas.{total, total-slice_split}
 use Rattle.scenario_text.specs.declared.draft.Thing.{Thing}
 use Rattle.scenario_text.specs.declared.line.Line.{Line}
 use Rattle.scenario_text.specs.declared.line.Line.TheVariants as says
-use Rattle.scenario_text.specs.declared.words.Row.{Row}
 use Rattle.scenario_text.specs.declared.vrf_lines.VrfHead.{VrfHead}
 use Rattle.scenario_text.specs.declared.vrf_lines.VrfTail.{VrfTail}
 use Rattle.scenario_text.specs.declared.scenario_lines.ScenarioWord.{ScenarioWord}
@@ -34,12 +37,10 @@ use Rattle.scenario_text.specs.declared.scenario_lines.ScenarioWord.TheVariants 
 use Rattle.scenario_text.specs.declared.event_lines.EventWord.{EventWord}
 use Rattle.scenario_text.specs.declared.event_lines.EventWord.TheVariants as event_kinds
 use Rattle.scenario_text.specs.Drafted.{Drafted}
-use Rattle.scenario_text.specs.Words.{Placed, placed, words_of}
-use Rattle.scenario_text.specs.Forms.{◌>>=◌, or_fault, is_name, new_name, addr_at, node_addr_at, prefix_at, vrf_number_at, rd_at, rule_at, assigned_of, node_of, vrf_of, site_of, iface_of, named, edge_named, vrf_named, site_named, iface_named, edge_at, vrf_at, site_at, iface_at, source_at, group_at, targets_at, payload_at, is_unicast, is_group}
+use Rattle.scenario_text.specs.Naming.{new_name, node_addr_at, vrf_number_at, rd_at, node_of, vrf_of, site_of, iface_of, named, edge_named, vrf_named, site_named, iface_named, edge_at, vrf_at, site_at, iface_at}
 use Rattle.scenario_text.specs.ScenarioGrammar.{edge_words, edge_counted, edge_line, vrf_head, vrf_tail, vrf_rules, vrf_words, vrf_counted, vrf_line, site_words, site_counted, site_line, iface_rules, iface_parts, iface_words, iface_counted, iface_line, events_line, scenario_word, scenario_words, scenario_line, overlaps, is_vpn_at, is_mixed, is_taken}
 use Rattle.scenario_text.specs.EventGrammar.{join_words, join_line, send_head, send_words, send_line, bare_line, event_word, event_words, event_line}
 use Rattle.scenario_text.specs.Grammar.{line_of, words_line, row_of, IsFree, IsNew}
-use Rattle.scenario_text.proofs.WordsLemmas.{total, total-slice_split}
 
 -- Each value without fault has the property.
 pub record Meets {A : Type 0} (P : A → Type 0) (r : Result A TextFault) : Type 0 where

@@ -3,17 +3,18 @@ use Rattle.std.specs.Prelude.{ℕ, ◌||◌, Bool, false, nat_eq, nat_le, List, 
 use Rattle.std.specs.Cmp.Lexicographic.{pointwise}
 use Rattle.scenario_defs.specs.declared.event.Event.TheVariants as events
 use Rattle.scenario_defs.specs.declared.event.JoinEntry.TheVariants as entries
-use Rattle.scenario_text.specs.declared.fault.Reason.TheVariants as reasons
-use Rattle.scenario_text.specs.declared.fault.TextFault.{TextFault}
+use Rattle.line_words.specs.declared.fault.Reason.TheVariants as reasons
+use Rattle.line_words.specs.declared.fault.TextFault.{TextFault}
+use Rattle.line_words.specs.declared.words.Row.{Row}
+use Rattle.line_words.specs.Words.{Placed}
+use Rattle.line_words.specs.Forms.{fault, ◌>>=◌, source_at, group_at, payload_at}
 use Rattle.scenario_text.specs.declared.line.Line.{Line}
 use Rattle.scenario_text.specs.declared.line.Line.TheVariants as says
-use Rattle.scenario_text.specs.declared.words.Row.{Row}
 use Rattle.scenario_text.specs.declared.event_lines.EventWord.{EventWord}
 use Rattle.scenario_text.specs.declared.event_lines.EventWord.TheVariants as word_kinds
 use Rattle.scenario_text.specs.declared.event_lines.SendHead.{SendHead}
 use Rattle.scenario_text.specs.Drafted.{Drafted}
-use Rattle.scenario_text.specs.Words.{Placed}
-use Rattle.scenario_text.specs.Forms.{fault, ◌>>=◌, iface_at, site_at, source_at, group_at, payload_at}
+use Rattle.scenario_text.specs.Naming.{iface_at, site_at}
 
 -- whether no line of events of clocks, sessions and losses that begins with the word is built yet
 abbrev pub is_unbuilt_clock : List ℕ → Bool

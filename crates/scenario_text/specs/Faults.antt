@@ -2,8 +2,8 @@
 use Rattle.std.specs.Prelude.{◌≡◌, ℕ, ◌+◌, ◌<◌, ◌≤◌, true, false, List, [], ◌∷◌, ◌++◌, length, Ok, Err}
 use Rattle.std.specs.Str.Lines.{lines}
 use Rattle.scenario_defs.specs.declared.event.Script.{Script}
-use Rattle.scenario_text.specs.declared.fault.TextFault.{TextFault}
-use Rattle.scenario_text.specs.declared.fault.Reason.TheVariants as reasons
+use Rattle.line_words.specs.declared.fault.TextFault.{TextFault}
+use Rattle.line_words.specs.declared.fault.Reason.TheVariants as reasons
 use Rattle.scenario_text.specs.declared.line.Line.{Line}
 use Rattle.scenario_text.specs.Drafted.{Drafted}
 use Rattle.scenario_text.specs.Grammar.{line_of, added, empty_draft, script_at, script_of}

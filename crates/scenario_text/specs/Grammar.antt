@@ -5,15 +5,15 @@ use Rattle.std.specs.Map.{lookup}
 use Rattle.std.specs.Str.Lines.{lines}
 use Rattle.std.specs.Cmp.Lexicographic.{pointwise}
 use Rattle.scenario_defs.specs.declared.event.Script.{Script}
+use Rattle.line_words.specs.declared.fault.Reason.TheVariants as reasons
+use Rattle.line_words.specs.declared.fault.TextFault.{TextFault}
+use Rattle.line_words.specs.declared.words.Row.{Row}
+use Rattle.line_words.specs.Words.{Placed, words_of}
+use Rattle.line_words.specs.Forms.{fault, ◌>>=◌}
 use Rattle.scenario_text.specs.declared.draft.Thing.TheVariants as things
-use Rattle.scenario_text.specs.declared.fault.Reason.TheVariants as reasons
-use Rattle.scenario_text.specs.declared.fault.TextFault.{TextFault}
 use Rattle.scenario_text.specs.declared.line.Line.{Line}
 use Rattle.scenario_text.specs.declared.line.Line.TheVariants as says
-use Rattle.scenario_text.specs.declared.words.Row.{Row}
 use Rattle.scenario_text.specs.Drafted.{Drafted}
-use Rattle.scenario_text.specs.Words.{Placed, words_of}
-use Rattle.scenario_text.specs.Forms.{fault, ◌>>=◌}
 use Rattle.scenario_text.specs.ScenarioGrammar.{scenario_line}
 use Rattle.scenario_text.specs.EventGrammar.{event_line}
 

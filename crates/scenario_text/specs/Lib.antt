@@ -1,8 +1,5 @@
-pub mod Words
 pub mod Drafted
-pub mod Answers
-pub mod FaultText
-pub mod Forms
+pub mod Naming
 pub mod ScenarioGrammar
 pub mod EventGrammar
 pub mod Grammar

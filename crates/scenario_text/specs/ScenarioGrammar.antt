@@ -14,18 +14,19 @@ use Rattle.scenario_defs.specs.declared.scenario.Vrf.{Vrf}
 use Rattle.scenario_defs.specs.declared.scenario.Iface.{Iface}
 use Rattle.scenario_defs.specs.declared.scenario.Scenario.{Scenario}
 use Rattle.scenario_defs.specs.Vpn.{same_vpn}
-use Rattle.scenario_text.specs.declared.fault.Reason.TheVariants as reasons
-use Rattle.scenario_text.specs.declared.fault.TextFault.{TextFault}
+use Rattle.line_words.specs.declared.fault.Reason.TheVariants as reasons
+use Rattle.line_words.specs.declared.fault.TextFault.{TextFault}
+use Rattle.line_words.specs.declared.words.Row.{Row}
+use Rattle.line_words.specs.Words.{Placed}
+use Rattle.line_words.specs.Forms.{fault, ◌>>=◌, addr_at, targets_at, rule_at, prefix_at}
 use Rattle.scenario_text.specs.declared.line.Line.{Line}
 use Rattle.scenario_text.specs.declared.line.Line.TheVariants as says
-use Rattle.scenario_text.specs.declared.words.Row.{Row}
 use Rattle.scenario_text.specs.declared.scenario_lines.ScenarioWord.{ScenarioWord}
 use Rattle.scenario_text.specs.declared.scenario_lines.ScenarioWord.TheVariants as word_kinds
 use Rattle.scenario_text.specs.declared.vrf_lines.VrfHead.{VrfHead}
 use Rattle.scenario_text.specs.declared.vrf_lines.VrfTail.{VrfTail}
 use Rattle.scenario_text.specs.Drafted.{Drafted}
-use Rattle.scenario_text.specs.Words.{Placed}
-use Rattle.scenario_text.specs.Forms.{fault, ◌>>=◌, new_name, edge_at, vrf_at, site_at, addr_at, node_addr_at, vrf_number_at, rd_at, targets_at, rule_at, prefix_at}
+use Rattle.scenario_text.specs.Naming.{new_name, edge_at, vrf_at, site_at, node_addr_at, vrf_number_at, rd_at}
 
 -- whether no line that begins with the word is built yet
 abbrev pub is_unbuilt : List ℕ → Bool

@@ -2,13 +2,14 @@
 ghost use Rattle.std.specs.Prelude.{◌≡◌, ◌++◌, ◌∷◌, [], length, nat_eq, OnOk, None};
 ghost use Rattle.std.specs.Map.{lookup};
 ghost use Rattle.std.specs.Cmp.Lexicographic.{pointwise};
-ghost use Rattle.scenario_text.specs.Forms.{named, node_of, vrf_of, site_of, iface_of};
+ghost use Rattle.scenario_text.specs.Naming.{named, node_of, vrf_of, site_of, iface_of};
 ghost use Rattle.scenario_text.specs.Grammar.{added, empty_draft, IsNew};
 
-use crate::forms::is_name;
-use crate::{Events, Line, Name, Scenario, Script, Site, Timed};
+use crate::line::Line;
 use indexmap::IndexMap;
+use line_words::is_name;
 use mv_base::{IfaceId, NoMemory, NodeId, Seq, SiteId, VrfId};
+use scenario_defs::{Events, Name, Scenario, Script, Site, Timed};
 use std::alloc::Global;
 use std::marker::Model;
 

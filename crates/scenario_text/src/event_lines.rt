@@ -1,15 +1,17 @@
 //! The lines of events.
 ghost use Rattle.std.specs.Prelude.{◌≡◌, map};
-ghost use Rattle.scenario_text.specs.Answers.{Gives};
-ghost use Rattle.scenario_text.specs.Words.{placed_word};
+ghost use Rattle.line_words.specs.Answers.{Gives};
+ghost use Rattle.line_words.specs.Words.{placed_word};
 ghost use Rattle.scenario_text.specs.EventGrammar.{is_unbuilt_clock, is_unbuilt_flow, is_unbuilt_join, event_word, join_words, join_line, send_head, send_words, send_line, bare_line, event_words, event_line};
 
 use crate::draft::Draft;
-use crate::fault::fault;
-use crate::forms::{group_at, iface_at, payload_at, site_at, source_at};
-use crate::words::{Row, Word};
-use crate::{Event, JoinEntry, Line, ReadFault, Reason, TextFault};
+use crate::line::Line;
+use crate::naming::{iface_at, site_at};
+use line_words::{
+    ReadFault, Reason, Row, TextFault, Word, fault_at, group_at, payload_at, source_at,
+};
 use mv_base::{Addr, SiteId};
+use scenario_defs::{Event, JoinEntry};
 use std::alloc::Global;
 
 const EVENT_LIMIT: usize = 200_000;
@@ -78,7 +80,7 @@ fn event_word(row: Row, first: &Word, rest: &[Word]) -> Result<EventWord, TextFa
 {
     if first.text == b"join".as_slice() {
         if is_unbuilt_join(rest) {
-            Err(fault(row.number, first.column, Reason::Later))
+            Err(fault_at(row.number, first.column, Reason::Later))
         } else {
             Ok(EventWord::Join)
         }
@@ -89,11 +91,11 @@ fn event_word(row: Row, first: &Word, rest: &[Word]) -> Result<EventWord, TextFa
     } else if first.text == b"state".as_slice() {
         Ok(EventWord::State)
     } else if is_unbuilt_clock(first.text) {
-        Err(fault(row.number, first.column, Reason::Later))
+        Err(fault_at(row.number, first.column, Reason::Later))
     } else if is_unbuilt_flow(first.text) {
-        Err(fault(row.number, first.column, Reason::Later))
+        Err(fault_at(row.number, first.column, Reason::Later))
     } else {
-        Err(fault(row.number, first.column, Reason::Word))
+        Err(fault_at(row.number, first.column, Reason::Word))
     }
 }
 
@@ -124,8 +126,8 @@ fn join_line(draft: &Draft, row: Row, words: &[Word]) -> Result<Line, TextFault>
 {
     match words {
         [iface, source, group] => join_words(draft, row, iface, source, group),
-        [_, _, _, extra, ..] => Err(fault(row.number, extra.column, Reason::Count)),
-        _ => Err(fault(row.number, row.after, Reason::Count)),
+        [_, _, _, extra, ..] => Err(fault_at(row.number, extra.column, Reason::Count)),
+        _ => Err(fault_at(row.number, row.after, Reason::Count)),
     }
 }
 
@@ -181,12 +183,12 @@ fn send_line(alloc: Global, draft: &Draft, row: Row, words: &[Word]) -> Result<L
         [site, source, group, payload] => {
             send_words(alloc, draft, row, site, source, group, payload)
         }
-        [_, _, _, _, extra, ..] => Err(ReadFault::Text(fault(
+        [_, _, _, _, extra, ..] => Err(ReadFault::Text(fault_at(
             row.number,
             extra.column,
             Reason::Count,
         ))),
-        _ => Err(ReadFault::Text(fault(row.number, row.after, Reason::Count))),
+        _ => Err(ReadFault::Text(fault_at(row.number, row.after, Reason::Count))),
     }
 }
 
@@ -196,7 +198,7 @@ fn bare_line(row: Row, said: Line, words: &[Word]) -> Result<Line, TextFault>
 {
     match words {
         [] => Ok(said),
-        [extra, ..] => Err(fault(row.number, extra.column, Reason::Count)),
+        [extra, ..] => Err(fault_at(row.number, extra.column, Reason::Count)),
     }
 }
 
@@ -253,7 +255,7 @@ pub fn event_line(
 {
     let kind = event_word(row, first, rest)?;
     if draft.event_count() >= EVENT_LIMIT {
-        return Err(ReadFault::Text(fault(row.number, first.column, Reason::Limit)));
+        return Err(ReadFault::Text(fault_at(row.number, first.column, Reason::Limit)));
     }
     event_words(alloc, draft, row, kind, rest)
 }

@@ -1,6 +1,6 @@
 //! What one line says.
-use crate::{Event, Iface, Name, Node, Vrf};
 use mv_base::{IfaceId, NodeId, Prefix, SiteId, VrfId};
+use scenario_defs::{Event, Iface, Name, Node, Vrf};
 
 /// What one line says. A thing that is declared has its number.
 #[derive(Debug, Drop)]

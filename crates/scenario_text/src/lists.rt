@@ -3,10 +3,9 @@ ghost use Rattle.std.specs.Prelude.{◌≡◌};
 ghost use Rattle.std.specs.List.{list_any};
 ghost use Rattle.scenario_text.specs.ScenarioGrammar.{overlaps, is_vpn_at, prefixes_of, same_prefix, share_prefix, is_mixed, is_taken};
 
-use crate::{Iface, Scenario, Vrf};
 use mv_base::{NodeId, Prefix, SiteId};
 use route_targets::Targets;
-use scenario_defs::same_vpn;
+use scenario_defs::{Iface, Scenario, Vrf, same_vpn};
 
 fn overlaps(targets: &Targets, vrf: &Vrf) -> bool
     ensures { result ≡ overlaps targets.now vrf.now }

@@ -2,21 +2,19 @@
 ghost use Rattle.std.specs.Prelude.{◌≡◌, ◌==◌, ◌≤◌, length, map, position, IfOk};
 ghost use Rattle.std.specs.List.{list_all, list_any};
 ghost use Rattle.scenario_defs.specs.Rules.{ScriptRules};
-ghost use Rattle.scenario_text.specs.Answers.{Gives};
-ghost use Rattle.scenario_text.specs.Words.{placed_word};
+ghost use Rattle.line_words.specs.Answers.{Gives};
+ghost use Rattle.line_words.specs.Words.{placed_word};
 ghost use Rattle.scenario_text.specs.Grammar.{is_outside, is_blank, row_of, words_line, line_of, script_of};
 
 use crate::draft::Draft;
 use crate::event_lines::event_line;
-use crate::fault::fault;
+use crate::line::Line;
 use crate::scenario_lines::scenario_line;
-use crate::words::{Row, Word, split_line, words};
-use crate::{Line, ReadFault, Reason, Script};
+use line_words::{ReadFault, Reason, Row, TEXT_LIMIT, Word, fault_at, split_line, words_of};
+use scenario_defs::Script;
 use std::alloc::Global;
 
 const LINE_LIMIT: usize = 4096;
-
-const INPUT_LIMIT: usize = 16_777_216;
 
 fn is_outside(b: u8) -> bool
     ensures { result ≡ is_outside b }
@@ -98,12 +96,12 @@ fn line_of(alloc: Global, draft: &Draft, number: u32, octets: &[u8]) -> Result<L
         return Ok(Line::Blank);
     }
     if octets.len() > LINE_LIMIT {
-        return Err(ReadFault::Text(fault(number, LINE_LIMIT as u32 + 1, Reason::Line)));
+        return Err(ReadFault::Text(fault_at(number, LINE_LIMIT as u32 + 1, Reason::Line)));
     }
     if let Some(place) = first_outside(octets) {
-        return Err(ReadFault::Text(fault(number, place as u32 + 1, Reason::Byte)));
+        return Err(ReadFault::Text(fault_at(number, place as u32 + 1, Reason::Byte)));
     }
-    let words = words(alloc, octets)?;
+    let words = words_of(alloc, octets)?;
     words_line(alloc, draft, row_of(number, octets), &words)
 }
 
@@ -112,8 +110,8 @@ pub fn read(alloc: Global, text: &[u8]) -> Result<Script, ReadFault>
     ensures value { Gives result (script_of text.now) }
     ensures rules { IfOk result ScriptRules }
 {
-    if text.len() > INPUT_LIMIT {
-        return Err(ReadFault::Text(fault(1, 1, Reason::Long)));
+    if text.len() > TEXT_LIMIT {
+        return Err(ReadFault::Text(fault_at(1, 1, Reason::Long)));
     }
     let mut draft = Draft::new(alloc);
     let mut number = 1;
@@ -126,7 +124,7 @@ pub fn read(alloc: Global, text: &[u8]) -> Result<Script, ReadFault>
         rest = behind;
     }
     if !draft.begun() {
-        return Err(ReadFault::Text(fault(number, 1, Reason::Events)));
+        return Err(ReadFault::Text(fault_at(number, 1, Reason::Events)));
     }
     Ok(draft.into_script(number))
 }

@@ -1,16 +1,16 @@
 //! The lines of a scenario.
 ghost use Rattle.std.specs.Prelude.{◌≡◌, map};
-ghost use Rattle.scenario_text.specs.Words.{placed_word};
+ghost use Rattle.line_words.specs.Words.{placed_word};
 ghost use Rattle.scenario_text.specs.ScenarioGrammar.{is_unbuilt, scenario_word, edge_words, edge_counted, edge_line, site_words, site_counted, site_line, iface_rules, iface_parts, iface_words, iface_counted, iface_line, events_line, scenario_words, scenario_line};
 
 use crate::draft::Draft;
-use crate::fault::fault;
-use crate::forms::{addr_at, new_name, node_addr_at, prefix_at, site_at, vrf_at};
+use crate::line::Line;
 use crate::lists::{is_any_mixed, is_any_taken};
+use crate::naming::{new_name, node_addr_at, site_at, vrf_at};
 use crate::vrf_lines::vrf_line;
-use crate::words::{Row, Word};
-use crate::{Iface, Line, Node, Reason, TextFault};
+use line_words::{Reason, Row, TextFault, Word, addr_at, fault_at, prefix_at};
 use mv_base::{IfaceId, NodeId, SiteId};
+use scenario_defs::{Iface, Node};
 
 const EDGE_LIMIT: usize = 32;
 
@@ -47,13 +47,13 @@ fn scenario_word(row: Row, first: &Word) -> Result<ScenarioWord, TextFault>
         Ok(ScenarioWord::Edge)
     } else if first.text == b"vrf".as_slice() {
         if row.comma || row.point {
-            Err(fault(row.number, first.column, Reason::Later))
+            Err(fault_at(row.number, first.column, Reason::Later))
         } else {
             Ok(ScenarioWord::Vrf)
         }
     } else if first.text == b"site".as_slice() {
         if row.comma {
-            Err(fault(row.number, first.column, Reason::Later))
+            Err(fault_at(row.number, first.column, Reason::Later))
         } else {
             Ok(ScenarioWord::Site)
         }
@@ -62,9 +62,9 @@ fn scenario_word(row: Row, first: &Word) -> Result<ScenarioWord, TextFault>
     } else if first.text == b"events".as_slice() {
         Ok(ScenarioWord::Events)
     } else if is_unbuilt(first.text) {
-        Err(fault(row.number, first.column, Reason::Later))
+        Err(fault_at(row.number, first.column, Reason::Later))
     } else {
-        Err(fault(row.number, first.column, Reason::Word))
+        Err(fault_at(row.number, first.column, Reason::Word))
     }
 }
 
@@ -96,8 +96,8 @@ fn edge_counted(draft: &Draft, row: Row, id: NodeId, words: &[Word]) -> Result<L
 {
     match words {
         [name, addr] => edge_words(draft, row, id, name, addr),
-        [_, _, extra, ..] => Err(fault(row.number, extra.column, Reason::Count)),
-        _ => Err(fault(row.number, row.after, Reason::Count)),
+        [_, _, extra, ..] => Err(fault_at(row.number, extra.column, Reason::Count)),
+        _ => Err(fault_at(row.number, row.after, Reason::Count)),
     }
 }
 
@@ -107,7 +107,7 @@ fn edge_line(draft: &Draft, row: Row, first: &Word, rest: &[Word]) -> Result<Lin
 {
     let number = draft.scenario().nodes.len();
     if number >= EDGE_LIMIT {
-        return Err(fault(row.number, first.column, Reason::Limit));
+        return Err(fault_at(row.number, first.column, Reason::Limit));
     }
     edge_counted(draft, row, NodeId(number as u16), rest)
 }
@@ -133,8 +133,8 @@ fn site_counted(draft: &Draft, row: Row, id: SiteId, words: &[Word]) -> Result<L
 {
     match words {
         [name, prefix] => site_words(draft, row, id, name, prefix),
-        [_, _, extra, ..] => Err(fault(row.number, extra.column, Reason::Count)),
-        _ => Err(fault(row.number, row.after, Reason::Count)),
+        [_, _, extra, ..] => Err(fault_at(row.number, extra.column, Reason::Count)),
+        _ => Err(fault_at(row.number, row.after, Reason::Count)),
     }
 }
 
@@ -144,7 +144,7 @@ fn site_line(draft: &Draft, row: Row, first: &Word, rest: &[Word]) -> Result<Lin
 {
     let number = draft.scenario().sites.len();
     if number >= SITE_LIMIT {
-        return Err(fault(row.number, first.column, Reason::Limit));
+        return Err(fault_at(row.number, first.column, Reason::Limit));
     }
     site_counted(draft, row, SiteId(number as u16), rest)
 }
@@ -161,10 +161,10 @@ fn iface_rules(
 {
     let scenario = draft.scenario();
     if is_any_mixed(scenario, &iface, scenario.ifaces.as_slice()) {
-        return Err(fault(row.number, site.column, Reason::Mixed));
+        return Err(fault_at(row.number, site.column, Reason::Mixed));
     }
     if is_any_taken(scenario, &iface, scenario.ifaces.as_slice()) {
-        return Err(fault(row.number, site.column, Reason::Taken));
+        return Err(fault_at(row.number, site.column, Reason::Taken));
     }
     Ok(Line::Iface { id, iface })
 }
@@ -214,8 +214,8 @@ fn iface_counted(draft: &Draft, row: Row, id: IfaceId, words: &[Word]) -> Result
 {
     match words {
         [name, vrf, site, addr] => iface_words(draft, row, id, name, vrf, site, addr),
-        [_, _, _, _, extra, ..] => Err(fault(row.number, extra.column, Reason::Count)),
-        _ => Err(fault(row.number, row.after, Reason::Count)),
+        [_, _, _, _, extra, ..] => Err(fault_at(row.number, extra.column, Reason::Count)),
+        _ => Err(fault_at(row.number, row.after, Reason::Count)),
     }
 }
 
@@ -225,7 +225,7 @@ fn iface_line(draft: &Draft, row: Row, first: &Word, rest: &[Word]) -> Result<Li
 {
     let number = draft.scenario().ifaces.len();
     if number >= IFACE_LIMIT {
-        return Err(fault(row.number, first.column, Reason::Limit));
+        return Err(fault_at(row.number, first.column, Reason::Limit));
     }
     iface_counted(draft, row, IfaceId(number as u16), rest)
 }
@@ -237,11 +237,11 @@ fn events_line(draft: &Draft, row: Row, words: &[Word]) -> Result<Line, TextFaul
     match words {
         [] => {
             if draft.scenario().nodes.len() > 1 {
-                return Err(fault(row.number, 1, Reason::Apart));
+                return Err(fault_at(row.number, 1, Reason::Apart));
             }
             Ok(Line::Events)
         }
-        [extra, ..] => Err(fault(row.number, extra.column, Reason::Count)),
+        [extra, ..] => Err(fault_at(row.number, extra.column, Reason::Count)),
     }
 }
 

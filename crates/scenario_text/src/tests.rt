@@ -1,6 +1,8 @@
 //! Texts with their faults, and a text that is read and written of.
-use crate::{ReadFault, Reason, Refusal, ReportLine, TextFault, read, write_line};
+use crate::{ReadFault, Reason, TextFault, read};
 use mv_base::{Bytes, IfaceId};
+use report_text::write_line;
+use scenario_defs::{Refusal, ReportLine};
 use std::alloc::Global;
 use std::test::Fail;
 

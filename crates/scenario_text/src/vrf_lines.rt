@@ -1,16 +1,16 @@
 //! The lines of VRFs.
 ghost use Rattle.std.specs.Prelude.{◌≡◌, map};
-ghost use Rattle.scenario_text.specs.Words.{placed_word};
+ghost use Rattle.line_words.specs.Words.{placed_word};
 ghost use Rattle.scenario_text.specs.ScenarioGrammar.{vrf_head, vrf_tail, vrf_rules, vrf_words, vrf_counted, vrf_line};
 
 use crate::draft::Draft;
-use crate::fault::fault;
-use crate::forms::{edge_at, new_name, rd_at, rule_at, targets_at, vrf_number_at};
+use crate::line::Line;
 use crate::lists::{is_overlap, is_vpn_taken};
-use crate::words::{Row, Word};
-use crate::{Line, Name, Reason, TextFault, Vrf};
+use crate::naming::{edge_at, new_name, rd_at, vrf_number_at};
+use line_words::{Reason, Row, TextFault, Word, fault_at, rule_at, targets_at};
 use mv_base::{NodeId, Rd, Rule, VrfId};
 use route_targets::Targets;
+use scenario_defs::{Name, Vrf};
 
 const VRF_LIMIT: usize = 256;
 
@@ -76,10 +76,10 @@ fn vrf_rules(
 {
     let vrfs = draft.scenario().vrfs.as_slice();
     if is_overlap(&tail.targets, vrfs) {
-        return Err(fault(row.number, targets.column, Reason::Overlap));
+        return Err(fault_at(row.number, targets.column, Reason::Overlap));
     }
     if is_vpn_taken(head.edge, &tail.targets, vrfs) {
-        return Err(fault(row.number, targets.column, Reason::Vpn));
+        return Err(fault_at(row.number, targets.column, Reason::Vpn));
     }
     Ok(Line::Vrf {
         id,
@@ -121,8 +121,8 @@ fn vrf_counted(draft: &Draft, row: Row, id: VrfId, words: &[Word]) -> Result<Lin
         [name, edge, number, rd, targets, rule] => {
             vrf_words(draft, row, id, name, edge, number, rd, targets, rule)
         }
-        [_, _, _, _, _, _, extra, ..] => Err(fault(row.number, extra.column, Reason::Count)),
-        _ => Err(fault(row.number, row.after, Reason::Count)),
+        [_, _, _, _, _, _, extra, ..] => Err(fault_at(row.number, extra.column, Reason::Count)),
+        _ => Err(fault_at(row.number, row.after, Reason::Count)),
     }
 }
 
@@ -133,7 +133,7 @@ pub fn vrf_line(draft: &Draft, row: Row, first: &Word, rest: &[Word]) -> Result<
 {
     let number = draft.scenario().vrfs.len();
     if number >= VRF_LIMIT {
-        return Err(fault(row.number, first.column, Reason::Limit));
+        return Err(fault_at(row.number, first.column, Reason::Limit));
     }
     vrf_counted(draft, row, VrfId(number as u16), rest)
 }

@@ -1,7 +1,7 @@
 use Rattle.std.proofs.Common.{rules, ◌==◌}
 use Rattle.std.proofs.lemmas.Iterator.Consumers.{map_from_collect}
 use Rattle.std.proofs.lemmas.Iterator.Splits.{YieldsList-from_slice_split}
-use Rattle.scenario_text.proofs.words.parts_of.Goals as goal
+use Rattle.line_words.proofs.words.parts_of.Goals as goal
 
 pub returns : goal.returns
 returns c =

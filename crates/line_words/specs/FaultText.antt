@@ -1,9 +1,9 @@
 -- The text of a fault.
 use Rattle.std.specs.Prelude.{ℕ, List, ◌++◌, codes}
 use Rattle.std.specs.Fmt.{decimal}
-use Rattle.scenario_text.specs.declared.fault.Reason.{Reason}
-use Rattle.scenario_text.specs.declared.fault.Reason.TheVariants as reasons
-use Rattle.scenario_text.specs.declared.fault.TextFault.{TextFault}
+use Rattle.line_words.specs.declared.fault.Reason.{Reason}
+use Rattle.line_words.specs.declared.fault.Reason.TheVariants as reasons
+use Rattle.line_words.specs.declared.fault.TextFault.{TextFault}
 
 -- the word of a reason
 abbrev pub reason_word : Reason → List ℕ

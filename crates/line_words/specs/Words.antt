@@ -1,7 +1,7 @@
 -- The words of a line: the parts between spaces that are not empty, each with the column that it begins at.
 use Rattle.std.specs.Prelude.{ℕ, ◌+◌, ◌==◌, List, [], ◌∷◌, length, if◌then◌else◌}
 use Rattle.std.specs.List.{slice_split}
-use Rattle.scenario_text.specs.declared.words.Word.{Word}
+use Rattle.line_words.specs.declared.words.Word.{Word}
 
 -- some octets, and the column that they begin at
 pub record Placed : Type 0 where

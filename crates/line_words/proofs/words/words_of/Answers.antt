@@ -1,6 +1,6 @@
 use Rattle.std.proofs.Common.{◌≡◌, ◌+◌, ℕ, List, [], Bor, map, arith, ap, ◌∙◌, length}
-use Rattle.scenario_text.proofs.WordsLemmas.{total, total-slice_split, column_fits, part_fits}
-use Rattle.scenario_text.proofs.words.words.Goals as goal
+use Rattle.line_words.proofs.WordsLemmas.{total, total-slice_split, column_fits, part_fits}
+use Rattle.line_words.proofs.words.words_of.Goals as goal
 
 pub overflow_cast-column : goal.overflow_cast-column
 overflow_cast-column c =

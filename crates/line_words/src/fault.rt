@@ -1,6 +1,6 @@
 //! What is wrong with a text.
 ghost use Rattle.std.specs.Prelude.{◌≡◌};
-ghost use Rattle.scenario_text.specs.FaultText.{reason_word};
+ghost use Rattle.line_words.specs.FaultText.{reason_word};
 
 use std::alloc::{AllocError, AllocFailed};
 use thiserror::Error;
@@ -37,6 +37,9 @@ pub enum Reason {
     Events,
     Long,
 }
+
+/// The most octets of a text. A longer one has the fault `Long`, at line 1 and column 1.
+pub const TEXT_LIMIT: usize = 16_777_216;
 
 /// The word that tells a reason.
 pub fn reason_word(reason: Reason) -> &'static [u8]
@@ -81,7 +84,8 @@ pub struct TextFault {
     pub reason: Reason,
 }
 
-pub(crate) fn fault(line: u32, column: u32, reason: Reason) -> TextFault
+/// The fault of that reason at a line and a column, which count from 1.
+pub fn fault_at(line: u32, column: u32, reason: Reason) -> TextFault
     ensures { result ≡ record { line = line; column = column; reason = reason } }
 {
     TextFault {
@@ -102,7 +106,7 @@ pub enum ReadFault {
 
 impl From<TextFault> for ReadFault {
     ghost use Rattle.std.specs.Prelude.{◌≡◌};
-    ghost use Rattle.scenario_text.specs.declared.fault.ReadFault.TheVariants.{Text};
+    ghost use Rattle.line_words.specs.declared.fault.ReadFault.TheVariants.{Text};
 
     ghost from_gives = { λ fault e. e ≡ Text fault };
 
@@ -113,7 +117,7 @@ impl From<TextFault> for ReadFault {
 
 impl From<mv_base::NoMemory> for ReadFault {
     ghost use Rattle.std.specs.Prelude.{◌≡◌};
-    ghost use Rattle.scenario_text.specs.declared.fault.ReadFault.TheVariants.{NoMemory};
+    ghost use Rattle.line_words.specs.declared.fault.ReadFault.TheVariants.{NoMemory};
 
     ghost from_gives = { λ _ e. e ≡ NoMemory };
 
@@ -124,7 +128,7 @@ impl From<mv_base::NoMemory> for ReadFault {
 
 impl From<AllocError> for ReadFault {
     ghost use Rattle.std.specs.Prelude.{◌≡◌};
-    ghost use Rattle.scenario_text.specs.declared.fault.ReadFault.TheVariants.{NoMemory};
+    ghost use Rattle.line_words.specs.declared.fault.ReadFault.TheVariants.{NoMemory};
 
     ghost from_gives = { λ _ e. e ≡ NoMemory };
 
@@ -135,7 +139,7 @@ impl From<AllocError> for ReadFault {
 
 impl<T: Drop> From<AllocFailed<T>> for ReadFault {
     ghost use Rattle.std.specs.Prelude.{◌≡◌};
-    ghost use Rattle.scenario_text.specs.declared.fault.ReadFault.TheVariants.{NoMemory};
+    ghost use Rattle.line_words.specs.declared.fault.ReadFault.TheVariants.{NoMemory};
 
     ghost from_gives = { λ _ e. e ≡ NoMemory };
 

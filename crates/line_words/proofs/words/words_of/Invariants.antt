@@ -1,7 +1,7 @@
 use Rattle.std.proofs.Common.{◌≡◌, ◌+◌, ◌++◌, ◌≤◌, map, drop}
-use Rattle.scenario_text.specs.Words.{placed, placed_word}
-use Rattle.scenario_text.proofs.WordsLemmas.{total}
-use Rattle.scenario_text.proofs.words.words.Given as goal
+use Rattle.line_words.specs.Words.{placed, placed_word}
+use Rattle.line_words.proofs.WordsLemmas.{total}
+use Rattle.line_words.proofs.words.words_of.Given as goal
 
 abbrev pub invariant-loop-part : goal.invariant-loop-part
 invariant-loop-part l = record {

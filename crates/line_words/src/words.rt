@@ -2,7 +2,7 @@
 ghost use Rattle.std.specs.Prelude.{◌≡◌, ◌+◌, ◌<◌, ◌==◌, ◌≤◌, ◌∷◌, length, map, position, IfOk};
 ghost use Rattle.std.specs.List.{slice_split};
 ghost use Rattle.std.specs.Str.Lines.{lines, strip_carriage_return};
-ghost use Rattle.scenario_text.specs.Words.{words_of, placed_word};
+ghost use Rattle.line_words.specs.Words.{words_of, placed_word};
 
 use std::alloc::{AllocError, Global};
 
@@ -62,7 +62,7 @@ fn parts_of(alloc: Global, octets: &[u8]) -> Result<Vec<&[u8]>, AllocError>
 
 /// The words of a line, with their columns.
 #[tactic(auto, unfolding(crate::specs::Words::words_of))]
-pub fn words<'a>(alloc: Global, line: &'a [u8]) -> Result<Vec<Word<'a>>, AllocError>
+pub fn words_of<'a>(alloc: Global, line: &'a [u8]) -> Result<Vec<Word<'a>>, AllocError>
     requires { length line.now ≤ 4096 }
     ensures { IfOk result (λ v. map placed_word v.items ≡ words_of line.now) }
 {

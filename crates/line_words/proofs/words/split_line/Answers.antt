@@ -1,7 +1,7 @@
 use Rattle.std.proofs.Common.{◌+◌, ◌∙◌, sym}
 use Rattle.std.proofs.lemmas.List.{take_rest}
-use Rattle.scenario_text.proofs.WordsLemmas.{lines-first, lines-whole}
-use Rattle.scenario_text.proofs.words.split_line.Goals as goal
+use Rattle.line_words.proofs.WordsLemmas.{lines-first, lines-whole}
+use Rattle.line_words.proofs.words.split_line.Goals as goal
 
 pub returns-in-Some-clause-line : goal.returns-in-Some-clause-line
 returns-in-Some-clause-line c =

@@ -4,8 +4,8 @@ ghost use Rattle.std.specs.Fmt.{decimal};
 ghost use Rattle.scenario_defs.specs.Text.{line_text, IsLineOf, refusal_text, fault_word, kind_word, hex_text, iface_name, node_name, ends_text};
 
 use crate::pieces::{fault_word, kind_word, put_ends, put_hex, put_iface, put_node, put_number};
-use crate::{Kind, Refusal, ReportLine, Scenario};
 use mv_base::{Bytes, IfaceId, NoMemory, NodeId};
+use scenario_defs::{Kind, Refusal, ReportLine, Scenario};
 
 fn put_bytes_refusal(out: &mut Bytes, place: u32, word: &[u8]) -> Result<(), NoMemory>
     ensures { OnOk result (out.new ≡ out.old ++ codes "bytes " ++ decimal place ++ codes " " ++ word.now) }

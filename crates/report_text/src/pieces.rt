@@ -3,9 +3,9 @@ ghost use Rattle.std.specs.Prelude.{◌≡◌, ◌++◌, ◌<◌, length, OnOk, 
 ghost use Rattle.std.specs.Fmt.{decimal};
 ghost use Rattle.scenario_defs.specs.Text.{hex_text, iface_name, node_name, fault_word, kind_word, ends_text};
 
-use crate::{FaultWord, Kind, Scenario};
 use itoa::Buffer;
 use mv_base::{Bytes, IfaceId, NoMemory, NodeId};
+use scenario_defs::{FaultWord, Kind, Scenario};
 
 /// Appends a number in decimal.
 pub fn put_number(out: &mut Bytes, number: u64) -> Result<(), NoMemory>

@@ -1,8 +1,8 @@
 -- What a function that reads answers: what reading gives, unless memory ran out.
 use Rattle.std.specs.Prelude.{◌≡◌, Result, Ok, Err}
-use Rattle.scenario_text.specs.declared.fault.TextFault.{TextFault}
-use Rattle.scenario_text.specs.declared.fault.ReadFault.{ReadFault}
-use Rattle.scenario_text.specs.declared.fault.ReadFault.TheVariants.{Text, NoMemory}
+use Rattle.line_words.specs.declared.fault.TextFault.{TextFault}
+use Rattle.line_words.specs.declared.fault.ReadFault.{ReadFault}
+use Rattle.line_words.specs.declared.fault.ReadFault.TheVariants.{Text, NoMemory}
 
 -- The failure is that of reading, or says that memory ran out.
 abbrev pub Fails : {Y : Type 0} → ReadFault → Result Y TextFault → Type 0

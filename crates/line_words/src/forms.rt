@@ -1,0 +1,222 @@
+//! The forms of the words: what a word writes, or the fault at it.
+ghost use Rattle.std.specs.Prelude.{◌≡◌};
+ghost use Rattle.std.specs.List.{list_all};
+ghost use Rattle.line_words.specs.Answers.{Gives};
+ghost use Rattle.line_words.specs.Words.{placed_word};
+ghost use Rattle.line_words.specs.Forms.{is_letter, is_name_octet as name_octet, is_name, addr_of, is_unicast, is_group, addr_at, source_at, group_at, vrf_number_of, assigned_of, targets_at, rule_at, prefix_if, assigned_octets, prefix_of, prefix_at, payload_at, or_fault};
+
+use crate::fault::fault_at;
+use crate::{ReadFault, Reason, Row, TextFault, Word};
+use hex::FromHexError;
+use mv_base::{Addr, Bytes, Prefix, Rule, cut_at, read_number};
+use route_targets::{ExtComm, Target, Targets};
+use scenario_defs::NAME_LIMIT;
+use std::alloc::Global;
+
+fn is_letter(b: u8) -> bool
+    ensures { result ≡ is_letter b }
+{
+    matches!(b, b'A'..=b'Z' | b'a'..=b'z')
+}
+
+fn is_name_octet(b: u8) -> bool
+    ensures { result ≡ name_octet b }
+{
+    matches!(b, b'A'..=b'Z' | b'a'..=b'z' | b'0'..=b'9' | b'_' | b'-')
+}
+
+fn are_name_octets(text: &[u8]) -> bool
+    ensures { result ≡ list_all name_octet text.now }
+{
+    text.iter().all(|b| is_name_octet(*b))
+}
+
+/// Whether a text has the form of a name: 1 to 16 letters, digits, underscores and hyphens, a letter first.
+pub fn is_name(text: &[u8]) -> bool
+    ensures { result ≡ is_name text.now }
+{
+    let allowed = are_name_octets(text);
+    !text.is_empty() && text.len() <= NAME_LIMIT && is_letter(text[0]) && allowed
+}
+
+/// The value, or the fault of that reason at the word.
+pub fn or_fault<T: Drop>(
+    value: Option<T>,
+    row: Row,
+    word: &Word,
+    reason: Reason,
+) -> Result<T, TextFault>
+    ensures { result ≡ or_fault value row (placed_word word.now) reason }
+{
+    match value {
+        Some(value) => Ok(value),
+        None => Err(fault_at(row.number, word.column, reason)),
+    }
+}
+
+/// Whether the address is of IPv4 and its first octet is 1 to 223.
+pub fn is_unicast(addr: Addr) -> bool
+    ensures { result ≡ is_unicast addr }
+{
+    match addr {
+        Addr::V4(octets) => octets[0] >= 1 && octets[0] <= 223,
+        Addr::V6(_) => false,
+    }
+}
+
+fn is_group(addr: Addr) -> bool
+    ensures { result ≡ is_group addr }
+{
+    match addr {
+        Addr::V4(octets) => {
+            let local = octets[0] == 224 && octets[1] == 0 && octets[2] == 0;
+            octets[0] >= 224 && octets[0] <= 239 && !local
+        }
+        Addr::V6(_) => false,
+    }
+}
+
+/// The IPv4 address that a word writes in dotted form, or `Address`.
+#[tactic(auto, unfolding(crate::specs::Forms::addr_at))]
+pub fn addr_at(row: Row, word: &Word) -> Result<Addr, TextFault>
+    ensures { result ≡ addr_at row (placed_word word.now) }
+{
+    or_fault(Addr::read_dotted(word.text), row, word, Reason::Address)
+}
+
+/// The address of a source that a word writes: `Address` where it writes none, `Source` where it is not unicast.
+#[tactic(auto, unfolding(crate::specs::Forms::source_at))]
+pub fn source_at(row: Row, word: &Word) -> Result<Addr, TextFault>
+    ensures { result ≡ source_at row (placed_word word.now) }
+{
+    let addr = addr_at(row, word)?;
+    if !is_unicast(addr) {
+        return Err(fault_at(row.number, word.column, Reason::Source));
+    }
+    Ok(addr)
+}
+
+/// The address of a group that a word writes: `Address` where it writes none, `Group` where its first octet is not 224 to
+/// 239, or it is one of 224.0.0.0/24, whose groups are not forwarded (RFC 5771 section 4).
+#[tactic(auto, unfolding(crate::specs::Forms::group_at))]
+pub fn group_at(row: Row, word: &Word) -> Result<Addr, TextFault>
+    ensures { result ≡ group_at row (placed_word word.now) }
+{
+    let addr = addr_at(row, word)?;
+    if !is_group(addr) {
+        return Err(fault_at(row.number, word.column, Reason::Group));
+    }
+    Ok(addr)
+}
+
+/// The number of a VRF that a text writes: 1 to 4,095.
+#[tactic(auto, unfolding(crate::specs::Forms::vrf_number_of))]
+pub fn vrf_number_of(text: &[u8]) -> Option<u16>
+    ensures { result ≡ vrf_number_of text.now }
+{
+    let number = read_number(text)?;
+    if number >= 1 && number <= 4095 {
+        Some(number as u16)
+    } else {
+        None
+    }
+}
+
+/// The octets of `N:M`, where N is below 2^16 and M below 2^32: a 0, the kind, N in two octets and M in four. Kind 0 is a
+/// route distinguisher of type 0 (RFC 4364 section 4.2), and kind 2 a Route Target of a two-octet AS (RFC 4360 section 4).
+#[tactic(auto, unfolding(crate::specs::Forms::assigned_of))]
+pub fn assigned_of(kind: u8, text: &[u8]) -> Option<[u8; 8]>
+    ensures { result ≡ assigned_of kind text.now }
+{
+    let (front, rest) = cut_at(text, b':')?;
+    let n = read_number(front)?;
+    let m = read_number(rest)?;
+    if n <= 65535 && m <= 4294967295 {
+        Some(assigned_octets(kind, n as u16, m as u32))
+    } else {
+        None
+    }
+}
+
+fn assigned_octets(kind: u8, n: u16, m: u32) -> [u8; 8]
+    ensures { result ≡ assigned_octets kind n m }
+{
+    [
+        0,
+        kind,
+        (n / 256) as u8,
+        (n % 256) as u8,
+        (m / 16777216) as u8,
+        (m / 65536 % 256) as u8,
+        (m / 256 % 256) as u8,
+        (m % 256) as u8,
+    ]
+}
+
+/// The one Route Target that a word writes as `N:M`, or `Targets`.
+#[tactic(auto, unfolding(crate::specs::Forms::targets_at))]
+pub fn targets_at(row: Row, word: &Word) -> Result<Targets, TextFault>
+    ensures { result ≡ targets_at row (placed_word word.now) }
+{
+    let octets = or_fault(assigned_of(2, word.text), row, word, Reason::Targets)?;
+    match Targets::of(&[Target(ExtComm(octets))]) {
+        Ok(targets) => Ok(targets),
+        Err(_) => unreachable!(),
+    }
+}
+
+/// The rule for upstream hops that a word names, or `Choice`.
+#[tactic(auto, unfolding(crate::specs::Forms::rule_at))]
+pub fn rule_at(row: Row, word: &Word) -> Result<Rule, TextFault>
+    ensures { result ≡ rule_at row (placed_word word.now) }
+{
+    if word.text == b"highest".as_slice() {
+        Ok(Rule::Highest)
+    } else if word.text == b"nearest".as_slice() {
+        Ok(Rule::Nearest)
+    } else {
+        Err(fault_at(row.number, word.column, Reason::Choice))
+    }
+}
+
+fn prefix_if(addr: Addr, bits: u64) -> Option<Prefix>
+    ensures { result ≡ prefix_if addr bits }
+{
+    match addr {
+        Addr::V4(_) if bits <= 32 => Prefix::of(addr, bits as u8),
+        _ => None,
+    }
+}
+
+#[tactic(auto, unfolding(crate::specs::Forms::prefix_of))]
+fn prefix_of(text: &[u8]) -> Option<Prefix>
+    ensures { result ≡ prefix_of text.now }
+{
+    let (front, rest) = cut_at(text, b'/')?;
+    let addr = Addr::read_dotted(front)?;
+    let bits = read_number(rest)?;
+    prefix_if(addr, bits)
+}
+
+/// The prefix that a word writes as `ADDR/N`, with no bit set behind the first N, or `Prefix`.
+#[tactic(auto, unfolding(crate::specs::Forms::prefix_at))]
+pub fn prefix_at(row: Row, word: &Word) -> Result<Prefix, TextFault>
+    ensures { result ≡ prefix_at row (placed_word word.now) }
+{
+    or_fault(prefix_of(word.text), row, word, Reason::Prefix)
+}
+
+/// The octets that a word writes in hexadecimal digits, two each, or none as `-`; else `Hex`, or want of memory.
+#[tactic(auto, unfolding(crate::specs::Forms::payload_at))]
+pub fn payload_at(alloc: Global, row: Row, word: &Word) -> Result<Bytes, ReadFault>
+    ensures { Gives result (payload_at row (placed_word word.now)) }
+{
+    if word.text == b"-".as_slice() {
+        return Ok(Bytes::new(alloc));
+    }
+    match hex::decode(alloc, word.text) {
+        Ok(octets) => Ok(Bytes::from_vec(octets)),
+        Err(FromHexError::OutOfMemory) => Err(ReadFault::NoMemory),
+        Err(_) => Err(ReadFault::Text(fault_at(row.number, word.column, Reason::Hex))),
+    }
+}

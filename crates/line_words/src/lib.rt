@@ -1,0 +1,13 @@
+//! What a line of text is made of: its words, what each of them writes, and the faults of a text.
+#![tactic(auto)]
+
+mod fault;
+mod forms;
+mod words;
+
+pub use fault::{ReadFault, Reason, TEXT_LIMIT, TextFault, fault_at, reason_word};
+pub use forms::{
+    addr_at, assigned_of, group_at, is_name, is_unicast, or_fault, payload_at, prefix_at, rule_at,
+    source_at, targets_at, vrf_number_of,
+};
+pub use words::{Row, Word, split_line, words_of};

@@ -1,0 +1,11 @@
+pub mod Tells
+pub mod Fronts
+pub mod Heads
+pub mod Values
+pub mod Tlvs
+pub mod Bodies
+pub mod Messages
+pub mod Pdus
+pub mod Mappings
+pub mod Lengths
+pub mod Writings

@@ -1,0 +1,20 @@
+-- What a reader of one PDU answered.
+use Rattle.std.specs.Prelude.{ℕ, ◌<◌, ◌≤◌, Option, Some, None}
+use Rattle.framing.specs.Cut.{Front}
+use Rattle.framing.specs.Cut.Front.{more, whole, bad}
+use Rattle.mldp_msgs.specs.declared.fault.LdpFault.{LdpFault}
+use Rattle.mldp_msgs.specs.declared.message.LabelMessage.{LabelMessage}
+use Rattle.mldp_msgs.specs.declared.pdu.Front as pdu
+use Rattle.mldp_msgs.specs.declared.pdu.Front.TheVariants.{More, Whole, Bad}
+
+-- what stands at the front
+abbrev pub front_of : pdu.Front → Front LabelMessage LdpFault
+front_of More = more
+front_of (Whole n messages) = whole n messages.items
+front_of (Bad offset fault) = bad offset fault
+
+-- a PDU is among so many octets, and a fault too
+abbrev pub IsRoom : pdu.Front → ℕ → Type 0
+IsRoom More len = Unit {0}
+IsRoom (Whole n messages) len = (0 < n) × (n ≤ len)
+IsRoom (Bad offset fault) len = offset ≤ len

@@ -1,0 +1,25 @@
+-- The labels that a session leaves mapped (RFC 5036 sections 3.5.7 and 3.5.10).
+use Rattle.std.specs.Prelude.{◌≡◌, ◌↔◌, ◌⊎◌, ℕ, Bool, IsTrue, List, ◌∷◌, ◌++◌, Contains}
+use Rattle.framing.specs.Units.{Splits}
+use Rattle.mldp_fec.specs.declared.fec.Fec.{Fec}
+use Rattle.mldp_msgs.specs.declared.message.LabelMessage.{LabelMessage}
+use Rattle.mldp_msgs.specs.declared.message.LabelMessage.TheVariants as messages
+use Rattle.mldp_msgs.specs.Spelling.{SpellsPdu}
+
+-- the last message that maps the label to the FEC, or withdraws it, maps it
+pub record IsMapped (ms : List LabelMessage) (f : Fec) (l : ℕ) : Type 0 where
+  pub before : List LabelMessage
+  pub after : List LabelMessage
+  pub parts : ms ≡ before ++ messages.Mapping f l ∷ after
+  pub kept : ¬ Contains after (messages.Withdraw f l)
+
+-- the octets of a session leave the label mapped to the FEC
+abbrev pub HasLabel : List ℕ → Fec → ℕ → Type 0
+HasLabel octets f l = (ms : List LabelMessage) × (rest : List ℕ) × Splits SpellsPdu octets ms rest × IsMapped ms f l
+
+-- whether the label is mapped behind one more message, by whether it was before
+abbrev pub MappedBy : LabelMessage → Fec → ℕ → Bool → Bool → Type 0
+MappedBy (messages.Mapping g k) f l before after = IsTrue after ↔ (IsTrue before ⊎ ((g ≡ f) × (k ≡ l)))
+MappedBy (messages.Withdraw g k) f l before after = IsTrue after ↔ (IsTrue before × (¬ ((g ≡ f) × (k ≡ l))))
+MappedBy (messages.Release g k) f l before after = after ≡ before
+MappedBy (messages.Ignored kind) f l before after = after ≡ before

@@ -1,0 +1,11 @@
+pub mod VpnLemmas
+pub mod KeyLemmas
+pub mod NlriLemmas
+pub mod FamilyLemmas
+pub mod HopLemmas
+pub mod ReachLemmas
+pub mod ValueLemmas
+pub mod FoundLemmas
+pub mod AttributeLemmas
+pub mod UpdateLemmas
+pub mod PrefixLemmas

@@ -1,0 +1,43 @@
+//! What UPDATE messages say.
+use crate::key::{Key, Keys};
+use mv_base::{Addr, Seq};
+use pmsi_attr::Pmsi;
+use route_targets::ExtComm;
+
+/// Extended communities in the order of the wire (RFC 4360).
+pub type Comms = Seq<ExtComm>;
+
+/// A route that is announced, with what its path attributes say of it.
+#[derive(Debug, Drop)]
+pub struct Advert {
+    pub key: Key,
+    pub next_hop: Addr,
+    pub comms: Comms,
+    /// The value of the PMSI Tunnel attribute (RFC 6514 section 5), where there is one.
+    pub pmsi: Option<Pmsi>,
+}
+
+/// Adverts in the order of the wire.
+pub type Adverts = Seq<Advert>;
+
+/// What an UPDATE message announces and withdraws, of the address families that are read.
+#[derive(Debug, Drop)]
+pub struct Update {
+    pub reach: Adverts,
+    pub unreach: Keys,
+}
+
+/// A message of a stream.
+#[derive(Debug, Drop)]
+pub enum Message {
+    Update(Update),
+    /// A message that is passed over unread, by its type: 1 OPEN, 3 NOTIFICATION, 4 KEEPALIVE, 5 ROUTE-REFRESH.
+    Other(u8),
+}
+
+/// One change that an UPDATE message makes.
+#[derive(Debug, Drop)]
+pub enum Change {
+    Reach(Advert),
+    Unreach(Key),
+}

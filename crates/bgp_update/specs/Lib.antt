@@ -1,0 +1,6 @@
+pub mod Spelling
+pub mod FirstFault
+pub mod Reading
+pub mod Answers
+pub mod Written
+pub mod Table

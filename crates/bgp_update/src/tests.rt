@@ -1,0 +1,174 @@
+//! Messages and faults that were spelled by hand.
+ghost use Rattle.std.specs.Prelude.{IfOk};
+ghost use Rattle.bgp_attributes.specs.Spelling.{AreComms};
+ghost use Rattle.bgp_update.specs.Written.{IsWritable, IsWritableKey};
+
+use super::*;
+use mv_base::{Addr, Rd, Seq};
+use mvpn_nlri::{Afi, Route};
+use route_targets::ExtComm;
+use std::alloc::{AllocError, Global};
+use std::test::*;
+
+/// A source tree join with one community, as an edge announces it.
+const ADVERT: [u8; 84] = [
+    0xff, 0xff, 0xff, 0xff, 0xff, 0xff, 0xff, 0xff, 0xff, 0xff, 0xff, 0xff, 0xff, 0xff, 0xff, 0xff,
+    0x00, 0x54, 0x02, 0x00, 0x00, 0x00, 0x3d, 0x40, 0x01, 0x01, 0x00, 0x40, 0x02, 0x00, 0x40, 0x05,
+    0x04, 0x00, 0x00, 0x00, 0x64, 0x80, 0x0e, 0x21, 0x00, 0x01, 0x05, 0x04, 0xc0, 0x00, 0x02, 0x02,
+    0x00, 0x07, 0x16, 0x00, 0x00, 0xfd, 0xe8, 0x00, 0x00, 0x00, 0x01, 0x00, 0x00, 0xfd, 0xe8, 0x20,
+    0x0a, 0x01, 0x00, 0x09, 0x20, 0xe8, 0x01, 0x01, 0x01, 0xc0, 0x10, 0x08, 0x01, 0x02, 0xc0, 0x00,
+    0x02, 0x01, 0x00, 0x01,
+];
+
+const KEEPALIVE: [u8; 19] = [
+    0xff, 0xff, 0xff, 0xff, 0xff, 0xff, 0xff, 0xff, 0xff, 0xff, 0xff, 0xff, 0xff, 0xff, 0xff, 0xff,
+    0x00, 0x13, 0x04,
+];
+
+const RD: Rd = Rd([0, 0, 0xfd, 0xe8, 0, 0, 0, 1]);
+
+const JOIN: Route = Route::SourceJoin {
+    rd: RD,
+    source_as: 65000,
+    source: Addr::V4([10, 1, 0, 9]),
+    group: Addr::V4([232, 1, 1, 1]),
+};
+
+const COMM: ExtComm = ExtComm([1, 2, 0xc0, 0, 2, 1, 0, 1]);
+
+fn join() -> Key
+    ensures { IsWritableKey result }
+{
+    Key::Mcast(Afi::Ipv4, JOIN)
+}
+
+/// The change that announces the join with these communities.
+fn announcement(comms: Comms) -> Change
+    requires { AreComms comms }
+    ensures { IsWritable result }
+{
+    Change::Reach(Advert {
+        key: join(),
+        next_hop: Addr::V4([192, 0, 2, 2]),
+        comms,
+        pmsi: None,
+    })
+}
+
+/// 510 communities.
+fn many(alloc: Global) -> Result<Comms, AllocError>
+    ensures { IfOk result (λ comms. AreComms comms) }
+{
+    Ok(Seq::from_vec(Vec::from_array(alloc, [COMM; 510])?))
+}
+
+/// Whether the message announces the join alone, with one community.
+fn announces(message: Option<Message>) -> bool {
+    match message {
+        Some(Message::Update(update)) => match update.reach.as_slice() {
+            [advert] => {
+                advert.key == join()
+                    && advert.next_hop == Addr::V4([192, 0, 2, 2])
+                    && advert.comms.as_slice() == [COMM].as_slice()
+                    && advert.pmsi.is_none()
+                    && update.unreach.is_empty()
+            }
+            _ => false,
+        },
+        _ => false,
+    }
+}
+
+fn is_keepalive(message: Option<Message>) -> bool {
+    match message {
+        Some(Message::Other(kind)) => kind == 4,
+        _ => false,
+    }
+}
+
+#[test]
+fn in_pieces(rt: HostRuntime) -> Result<(), Fail> {
+    let mut octets = Vec::new(rt.alloc());
+    octets.extend_from_slice(&ADVERT)?;
+    octets.extend_from_slice(&KEEPALIVE)?;
+    for size in [1, 7, 103] {
+        let mut stream = Stream::of(rt.alloc());
+        for piece in octets.chunks(size) {
+            assert_eq!(rt; stream.feed(piece), Ok(()));
+        }
+        assert!(rt; announces(stream.next()));
+        assert!(rt; is_keepalive(stream.next()));
+        assert!(rt; stream.next().is_none());
+        assert_eq!(rt; stream.unfinished(), None);
+    }
+    Ok(())
+}
+
+#[test]
+fn held_back(rt: HostRuntime) -> Result<(), Fail> {
+    let mut stream = Stream::of(rt.alloc());
+    assert_eq!(rt; stream.feed(&KEEPALIVE), Ok(()));
+    assert_eq!(rt; stream.feed(&ADVERT[..83]), Ok(()));
+    assert_eq!(rt; stream.unfinished(), Some(19));
+    assert!(rt; is_keepalive(stream.next()));
+    assert!(rt; stream.next().is_none());
+    Ok(())
+}
+
+#[test]
+fn faults(rt: HostRuntime) -> Result<(), Fail> {
+    let cases: [(&[u8], u64, StreamFault); 6] = [
+        (b"\0\x12\x02", 16, StreamFault::MessageLength),
+        (b"\0\x13\x06", 18, StreamFault::MessageType),
+        (b"\0\x13\x02", 16, StreamFault::MessageLength),
+        (b"\0\x17\x02\0\x05\0\0", 19, StreamFault::AttributeList),
+        (b"\0\x17\x02\0\0\0\x01", 21, StreamFault::AttributeList),
+        (
+            b"\0\x21\x02\0\0\0\x0a\xc0\x10\x07\0\0\0\0\0\0\0",
+            23,
+            StreamFault::AttributeLength,
+        ),
+    ];
+    for (behind, place, fault) in cases.iter() {
+        let mut stream = Stream::of(rt.alloc());
+        assert_eq!(rt; stream.feed(&[0xff; 16]), Ok(()));
+        let first = FeedFault::First {
+            place: *place,
+            fault: *fault,
+        };
+        assert_eq!(rt; stream.feed(behind), Err(first));
+    }
+    Ok(())
+}
+
+#[test]
+fn failed(rt: HostRuntime) -> Result<(), Fail> {
+    let mut stream = Stream::of(rt.alloc());
+    assert_eq!(rt; stream.feed(&KEEPALIVE), Ok(()));
+    let first = FeedFault::First {
+        place: 19,
+        fault: StreamFault::Marker,
+    };
+    assert_eq!(rt; stream.feed(&[0; 19]), Err(first));
+    assert_eq!(rt; stream.feed(&KEEPALIVE), Err(FeedFault::Failed));
+    assert!(rt; is_keepalive(stream.next()));
+    assert!(rt; stream.next().is_none());
+    Ok(())
+}
+
+#[test]
+fn writes(rt: HostRuntime) -> Result<(), Fail> {
+    let mut comms = Seq::new(rt.alloc());
+    comms.push(COMM)?;
+    let octets = encode(rt.alloc(), &announcement(comms))?;
+    assert_eq!(rt; octets.as_slice(), ADVERT.as_slice());
+    Ok(())
+}
+
+#[test]
+fn too_long(rt: HostRuntime) -> Result<(), Fail> {
+    let change = announcement(many(rt.alloc())?);
+    let fault = encode(rt.alloc(), &change).err();
+    assert_eq!(rt; fault, Some(EncodeFault::TooLong));
+    Ok(())
+}

@@ -1,5 +1,7 @@
 -- The formats of `decode` are apart: octets are whole, or have a fault.
-use Rattle.std.proofs.Common.{◌≡◌, ℕ, ◌+◌, List, ◌++◌, length, refl, sym, ◌∙◌}
+use Rattle.std.proofs.Common.{◌≡◌, ℕ, zero, suc, ◌+◌, ◌<◌, ◌≤◌, Bool, true, false, List, ◌∷◌, ◌++◌, length, take, Result, arith, refl, sym, ◌∙◌}
+use Rattle.std.specs.Prelude.{IfOk}
+use Rattle.std.proofs.lemmas.Result.{IfOk-weaker}
 use Rattle.mv_base.specs.Cursor.{start}
 use Rattle.mv_base.specs.Octets.{IsOctets}
 use Rattle.mv_base.proofs.Fields.{ok_or_err}
@@ -21,8 +23,17 @@ use Rattle.mvpn_nlri.specs.Spelling as routes
 use Rattle.mvpn_nlri.specs.FirstFault as route_faults
 use Rattle.mvpn_nlri.specs.Reading.{route_at}
 use Rattle.mvpn_nlri.proofs.CallLemmas as route_calls
-use Rattle.decode_text.specs.Formats.{of_fecs, of_routes}
-use Rattle.decode_text.proofs.TellLemmas.{IsApart}
+use Rattle.mldp_msgs.specs.Reading.{pdu_front}
+use Rattle.mldp_msgs.proofs.Pdus.{pdu_format}
+use Rattle.bgp_update.specs.Reading.{message_front}
+use Rattle.bgp_update.proofs.Messages.{message_format}
+use Rattle.decode_text.specs.declared.format.Format.{Format}
+use Rattle.decode_text.specs.declared.format.Format.TheVariants as formats
+use Rattle.decode_text.specs.declared.telling.Told.{Told}
+use Rattle.decode_text.specs.Formats.{of_fecs, of_routes, of_bgp, of_ldp, IsWhole, HasFault, Tells}
+use Rattle.decode_text.specs.Values.{Stands}
+use Rattle.decode_text.proofs.TellLemmas.{IsApart, whole_told, fault_told}
+use Rattle.decode_text.proofs.SessionLemmas.{units_told, stop_told}
 
 fec_or_fault : (octets after : List ℕ) (fec : Fec) (fault : FecFault) → IsOctets octets → fecs.Spells fec (fecs.written fec) → octets ≡ fecs.written fec ++ after → fec_faults.FirstFault (start octets) fault → ⊥
 fec_or_fault octets after fec fault fits is parts first =
@@ -47,5 +58,55 @@ routes_apart = record {
   not_both = route_or_fault;
 }
 
-pub pmsi_or_fault : (octets : List ℕ) (pmsi : Pmsi) (fault : PmsiFault) → IsOctets octets → pmsis.Spells pmsi octets → pmsi_faults.FirstFault octets fault → ⊥
+pmsi_or_fault : (octets : List ℕ) (pmsi : Pmsi) (fault : PmsiFault) → IsOctets octets → pmsis.Spells pmsi octets → pmsi_faults.FirstFault octets fault → ⊥
 pmsi_or_fault octets pmsi fault fits spells first = ok_or_err pmsi fault (sym (pmsi_again pmsi octets spells) ∙ fails_pmsi octets fault fits first)
+
+-- Octets that are whole have no line of a fault.
+whole_format : (format : Format) (refused : Bool) (octets told : List ℕ) → IsOctets octets → IsWhole format octets → Tells format refused octets told → refused ≡ false
+whole_format formats.Fec refused octets told fits whole tells = whole_told of_fecs fecs_apart refused octets told fits tells whole.0 whole.1
+whole_format formats.Nlri refused octets told fits whole tells = whole_told of_routes routes_apart refused octets told fits tells whole.0 whole.1
+whole_format formats.Bgp refused octets told fits whole tells = units_told message_front of_bgp 4096 message_format refused octets told whole.0 fits whole.1 tells
+whole_format formats.Ldp refused octets told fits whole tells = units_told pdu_front of_ldp 4100 pdu_format refused octets told whole.0 fits whole.1 tells
+whole_format formats.Pmsi false octets told fits whole tells = refl
+whole_format formats.Pmsi true octets told fits whole tells = absurd (pmsi_or_fault octets whole.0 tells.0 fits whole.1 tells.1)
+
+-- Octets with a first fault have its line.
+fault_format : (format : Format) (refused : Bool) (octets told : List ℕ) → IsOctets octets → HasFault format octets → Tells format refused octets told → refused ≡ true
+fault_format formats.Fec refused octets told fits has tells = fault_told of_fecs fecs_apart refused octets told fits tells has.0 has.1 has.2
+fault_format formats.Nlri refused octets told fits has tells = fault_told of_routes routes_apart refused octets told fits tells has.0 has.1 has.2
+fault_format formats.Bgp refused octets told fits has tells = stop_told message_front of_bgp 4096 message_format refused octets told has.0 has.1 has.2 fits has.3 tells
+fault_format formats.Ldp refused octets told fits has tells = stop_told pdu_front of_ldp 4100 pdu_format refused octets told has.0 has.1 has.2 fits has.3 tells
+fault_format formats.Pmsi true octets told fits has tells = refl
+fault_format formats.Pmsi false octets told fits has tells = absurd (pmsi_or_fault octets tells.0 has.0 fits tells.1 has.1)
+
+-- ---- what is read stands at the front
+
+not_none : (len b : ℕ) (octets text : List ℕ) → take len octets ≡ b ∷ text → 0 < len
+not_none zero b octets text e = absurd cc
+not_none (suc len) b octets text e = omega arith
+
+pub fec_stands : (octets : List ℕ) (fec : Fec) (len : ℕ) → fecs.Spells fec (take len octets) × (len ≤ length octets) → Stands of_fecs octets fec len
+fec_stands octets fec len h = record {
+  is = record { root = h.0.root; fits = h.0.fits; shape = h.0.shape; octets = refl };
+  some = not_none len (fecs.kind_octet fec.kind) octets (fecs.root fec.root ++ fecs.opaque fec.opaque) h.0.octets;
+  within = h.1;
+  text = h.0.octets;
+}
+
+pub route_stands : (octets : List ℕ) (route : Route) (len : ℕ) → routes.Spells Ipv4 route (take len octets) × (len ≤ length octets) → Stands of_routes octets route len
+route_stands octets route len h = record {
+  is = h.0.route;
+  some = not_none len (routes.kind route) octets (length (routes.fields route) ∷ routes.fields route) h.0.octets;
+  within = h.1;
+  text = h.0.octets;
+}
+
+-- ---- what is told, or memory is wanting
+
+pub whole_tells : {E : Type 0} (format : Format) (octets : List ℕ) (told : Result Told E) → IsOctets octets → IsWhole format octets → IfOk told (λ t. Tells format t.refused octets t.text) → IfOk told (λ t. t.refused ≡ false)
+whole_tells format octets told fits whole tells =
+    IfOk-weaker told (λ t. Tells format t.refused octets t.text) (λ t. t.refused ≡ false) (λ t h. whole_format format t.refused octets t.text fits whole h) tells
+
+pub fault_tells : {E : Type 0} (format : Format) (octets : List ℕ) (told : Result Told E) → IsOctets octets → HasFault format octets → IfOk told (λ t. Tells format t.refused octets t.text) → IfOk told (λ t. t.refused ≡ true)
+fault_tells format octets told fits fault tells =
+    IfOk-weaker told (λ t. Tells format t.refused octets t.text) (λ t. t.refused ≡ true) (λ t h. fault_format format t.refused octets t.text fits fault h) tells

@@ -1,19 +1,17 @@
 -- How the octets behind the last LF are counted.
-use Rattle.std.proofs.Common.{◌≡◌, ℕ, ◌+◌, ◌<◌, ◌≤◌, List, length, drop, sym, ap, arith}
-use Rattle.std.proofs.lemmas.List.{at_drop_more, drop_all}
-use Rattle.std.specs.Prelude.{slice_index}
-use Rattle.decode_text.specs.HexText.{behind_lf, one_further}
+use Rattle.std.proofs.Common.{◌≡◌, ℕ, ◌-◌, ◌≤◌, Bool, not, ltb, cond, List, length, reverse, Some, None, unwrap_or, sym, ◌∙◌, arith}
+use Rattle.std.specs.List.{after_last, suffix_len, position, position_or_len}
+use Rattle.std.proofs.lemmas.List.{length-drop, length-reverse}
+use Rattle.std.proofs.lemmas.List.Sums.{suffix_len-le-length}
+use Rattle.decode_text.specs.HexText.{is_lf}
 
--- The count goes on with the next octet.
-pub counted_on : (passed : ℕ) (octets : List ℕ) (i : ℕ) → i < length octets → behind_lf (one_further passed (slice_index octets i)) (drop (i + 1) octets) ≡ behind_lf passed (drop i octets)
-unfolding behind_lf
-counted_on passed octets i lt = sym (at_drop_more (λ (xs : List ℕ). behind_lf passed xs) octets i 0 lt)
+behind : (p : ℕ → Bool) (xs : List ℕ) → length (after_last p xs) ≡ position_or_len p (reverse xs)
+behind p xs = omega (arith, length-drop (length xs - suffix_len (λ x. not (p x)) xs) xs, suffix_len-le-length (λ x. not (p x)) xs)
 
--- Behind all octets the count stands.
-pub counted_all : (passed : ℕ) (octets : List ℕ) (i : ℕ) → length octets ≤ i → behind_lf passed (drop i octets) ≡ passed
-unfolding behind_lf
-counted_all passed octets i ends = ap (λ (xs : List ℕ). behind_lf passed xs) (drop_all i octets ends)
+found : (place len other : ℕ) → place ≤ len → other ≡ len → unwrap_or (cond (ltb place len) (Some place) None) other ≡ place
+found place len other h e = grind arith
 
--- The count grows by one at most.
-pub further_within : (passed b : ℕ) → one_further passed b ≤ passed + 1
-further_within passed b = grind (arith)
+-- The octets behind the last LF are as many as those before it from the end on, or all.
+pub octets_behind_lf : (xs : List ℕ) → unwrap_or (position is_lf (reverse xs)) (length xs) ≡ length (after_last is_lf xs)
+octets_behind_lf xs =
+    found (position_or_len is_lf (reverse xs)) (length (reverse xs)) (length xs) (omega (arith, suffix_len-le-length (λ x. not (is_lf x)) xs, length-reverse xs)) (sym (length-reverse xs)) ∙ sym (behind is_lf xs)

@@ -1,3 +1,6 @@
 pub mod HexLemmas
+pub mod HexLaws
 pub mod TellLemmas
 pub mod FormatLemmas
+pub mod SessionLemmas
+pub mod MessageLemmas

@@ -1,12 +1,12 @@
 -- Values that are told one after another.
-use Rattle.std.proofs.Common.{◌≡◌, ℕ, ◌+◌, ◌<◌, ◌≤◌, List, [], ◌∷◌, ◌++◌, length, take, drop, refl, sym, ap, subst, ◌∙◌, append_assoc, arith}
+use Rattle.std.proofs.Common.{◌≡◌, ℕ, ◌+◌, ◌<◌, ◌≤◌, List, [], ◌∷◌, ◌++◌, length, drop, Bool, true, false, refl, sym, ap, subst, ◌∙◌, append_assoc, arith}
 use Rattle.std.specs.List.{flat_map, AllByRecursion}
 use Rattle.std.proofs.lemmas.List.{append-nil, append_cancel_left, drop_at, drop-drop, drop_all, length-append, length-drop, length-take-le, take-append-drop}
 use Rattle.std.proofs.lemmas.List.Concat.{flat_map-cons}
 use Rattle.std.proofs.lemmas.Grind.{flat_map-append}
 use Rattle.mv_base.specs.Octets.{IsOctets}
 use Rattle.mv_base.proofs.Fields.{octets_behind}
-use Rattle.decode_text.specs.Values.{Telling, Whole, Stop, TellsWhole, TellsStop}
+use Rattle.decode_text.specs.Values.{Telling, Stands, Whole, Stop, TellsWhole, TellsStop, TellsEach}
 
 -- No text of a value begins another's, and no value stands where octets have a first fault.
 pub record IsApart {T F : Type 0} (t : Telling T F) : Type 0 where
@@ -36,19 +36,18 @@ one_more f xs x =
 
 -- A value that stands behind what is passed is passed too.
 pub one_passed : {T F : Type 0} (t : Telling T F) (octets told : List ℕ) (place : ℕ) (value : T) (len : ℕ) → Passed t octets told place
-    → t.Is value → take len (drop place octets) ≡ t.text value → len ≤ length (drop place octets)
-    → Passed t octets (told ++ t.line value) (place + len)
-one_passed t octets told place value len p is stands fits =
+    → Stands t (drop place octets) value len → Passed t octets (told ++ t.line value) (place + len)
+one_passed t octets told place value len p s =
     let rest = drop place octets in
     let behind : drop len rest ≡ drop (place + len) octets = drop-drop len place octets in
-    let parts : rest ≡ t.text value ++ drop (place + len) octets = sym (take-append-drop len rest) ∙ ap (λ (xs : List ℕ). xs ++ drop len rest) stands ∙ ap (λ (xs : List ℕ). t.text value ++ xs) behind in
+    let parts : rest ≡ t.text value ++ drop (place + len) octets = sym (take-append-drop len rest) ∙ ap (λ (xs : List ℕ). xs ++ drop len rest) s.text ∙ ap (λ (xs : List ℕ). t.text value ++ xs) behind in
     let whole : octets ≡ flat_map t.text (p.values ++ value ∷ []) ++ drop (place + len) octets =
     p.front ∙ ap (λ (xs : List ℕ). flat_map t.text p.values ++ xs) parts ∙ sym (append_assoc (flat_map t.text p.values) (t.text value) (drop (place + len) octets)) ∙ ap (λ (xs : List ℕ). xs ++ drop (place + len) octets) (sym (one_more t.text p.values value)) in
     let size : length (flat_map t.text (p.values ++ value ∷ [])) ≡ length (flat_map t.text p.values) + length (t.text value) = ap (λ (xs : List ℕ). length xs) (one_more t.text p.values value) ∙ length-append (flat_map t.text p.values) (t.text value) in
-    let len_is : length (t.text value) ≡ len = ap (λ (xs : List ℕ). length xs) (sym stands) ∙ length-take-le len rest fits in
+    let len_is : length (t.text value) ≡ len = ap (λ (xs : List ℕ). length xs) (sym s.text) ∙ length-take-le len rest s.within in
     record {
       values = p.values ++ value ∷ [];
-      spelled = all_further t.Is p.values value p.spelled is;
+      spelled = all_further t.Is p.values value p.spelled s.is;
       front = whole;
       passed = omega (arith, size, len_is, p.passed);
       lines = ap (λ (xs : List ℕ). xs ++ t.line value) p.lines ∙ sym (one_more t.line p.values value);
@@ -87,3 +86,13 @@ apart t laws octets (v ∷ vs) (w ∷ ws) fault fits are stop =
     let behind : drop (length (t.text v)) octets ≡ flat_map t.text vs = ap (λ (xs : List ℕ). drop (length (t.text v)) xs) left ∙ drop_at (t.text v) (flat_map t.text vs) (length (t.text v)) refl in
     let rest_fits : IsOctets (flat_map t.text vs) = subst IsOctets behind (octets_behind (length (t.text v)) octets fits) in
     apart t laws (flat_map t.text vs) vs ws fault rest_fits (record { spelled = are.spelled.1; whole = refl }) (record { spelled = stop.spelled.1; rest = stop.rest; whole = rest; more = stop.more; first = stop.first })
+
+-- Octets that are values end to end have no line of a fault.
+pub whole_told : {T F : Type 0} (t : Telling T F) → IsApart t → (refused : Bool) (octets told : List ℕ) → IsOctets octets → TellsEach t refused octets told → (values : List T) → Whole t octets values → refused ≡ false
+whole_told t laws false octets told fits tells values are = refl
+whole_told t laws true octets told fits tells values are = absurd (apart t laws octets values tells.values tells.fault fits are tells.stop)
+
+-- Octets with a first fault have its line.
+pub fault_told : {T F : Type 0} (t : Telling T F) → IsApart t → (refused : Bool) (octets told : List ℕ) → IsOctets octets → TellsEach t refused octets told → (values : List T) (fault : F) → Stop t octets values fault → refused ≡ true
+fault_told t laws true octets told fits tells values fault stop = refl
+fault_told t laws false octets told fits tells values fault stop = absurd (apart t laws octets tells.values values fault fits tells.whole stop)

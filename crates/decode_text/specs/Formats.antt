@@ -14,10 +14,20 @@ use Rattle.mvpn_nlri.specs.declared.route.Route.{Route}
 use Rattle.mvpn_nlri.specs.declared.route.Afi.TheVariants.{Ipv4}
 use Rattle.mvpn_nlri.specs.FirstFault as route_faults
 use Rattle.mvpn_nlri.specs.Spelling as routes
+use Rattle.bgp_attributes.specs.declared.fault.StreamFault.{StreamFault}
+use Rattle.bgp_attributes.specs.declared.update.Message.{Message}
+use Rattle.bgp_update.specs.FirstFault.{MessageFault}
+use Rattle.bgp_update.specs.Spelling.{SpellsMessage}
+use Rattle.mldp_msgs.specs.declared.fault.LdpFault.{LdpFault}
+use Rattle.mldp_msgs.specs.declared.message.LabelMessage.{LabelMessage}
+use Rattle.mldp_msgs.specs.FirstFault.{PduFault}
+use Rattle.mldp_msgs.specs.Spelling.{SpellsPdu}
+use Rattle.value_text.specs.MessageText.{message_lines, bgp_word, label_message_line, ldp_word}
 use Rattle.decode_text.specs.declared.format.Format.{Format}
 use Rattle.decode_text.specs.declared.format.Format.TheVariants as formats
-use Rattle.decode_text.specs.ValueText.{fec_line, fec_word, pmsi_line, pmsi_word, route_line, route_word, refused_line}
-use Rattle.decode_text.specs.Values.{Telling, Whole, Stop, TellsWhole, TellsStop}
+use Rattle.value_text.specs.ValueText.{fec_line, fec_word, pmsi_line, pmsi_word, route_line, route_word, refused_line}
+use Rattle.decode_text.specs.Values.{Telling, Whole, Stop, TellsEach}
+use Rattle.decode_text.specs.Sessions.{Session, AreUnits, StopsAt, TellsSession}
 
 -- FEC elements
 abbrev pub of_fecs : Telling Fec FecFault
@@ -39,31 +49,39 @@ of_routes = record {
   refusal = λ behind fault. refused_line (behind + fault.place) (route_word fault.reason);
 }
 
--- The octets are whole: FEC elements or routes end to end, or one tunnel attribute.
+-- messages of BGP
+abbrev pub of_bgp : Session Message StreamFault
+of_bgp = record { Spells = SpellsMessage; Faulty = MessageFault; lines = message_lines; word = bgp_word }
+
+-- PDUs of LDP, with their label messages
+abbrev pub of_ldp : Session LabelMessage LdpFault
+of_ldp = record { Spells = SpellsPdu; Faulty = PduFault; lines = label_message_line; word = ldp_word }
+
+-- The octets are whole: FEC elements or routes end to end, one tunnel attribute, or messages or PDUs end to end.
 abbrev pub IsWhole : Format → List ℕ → Type 0
 IsWhole formats.Fec octets = (values : List Fec) × Whole of_fecs octets values
 IsWhole formats.Pmsi octets = (pmsi : Pmsi) × pmsis.Spells pmsi octets
 IsWhole formats.Nlri octets = (values : List Route) × Whole of_routes octets values
+IsWhole formats.Bgp octets = (messages : List Message) × AreUnits of_bgp octets messages
+IsWhole formats.Ldp octets = (messages : List LabelMessage) × AreUnits of_ldp octets messages
 
--- The octets have a first fault, behind the values before it.
+-- The octets have a first fault, behind the values before it; those of a session may also end inside a message or PDU.
 abbrev pub HasFault : Format → List ℕ → Type 0
 HasFault formats.Fec octets = (values : List Fec) × (fault : FecFault) × Stop of_fecs octets values fault
 HasFault formats.Pmsi octets = (fault : PmsiFault) × pmsi_faults.FirstFault octets fault
 HasFault formats.Nlri octets = (values : List Route) × (fault : RouteFault) × Stop of_routes octets values fault
+HasFault formats.Bgp octets = (messages : List Message) × (place : ℕ) × (word : List ℕ) × StopsAt of_bgp octets messages place word
+HasFault formats.Ldp octets = (messages : List LabelMessage) × (place : ℕ) × (word : List ℕ) × StopsAt of_ldp octets messages place word
 
--- The text tells the whole octets.
-abbrev pub TellsValues : Format → List ℕ → List ℕ → Type 0
-TellsValues formats.Fec octets told = TellsWhole of_fecs octets told
-TellsValues formats.Pmsi octets told = (pmsi : Pmsi) × pmsis.Spells pmsi octets × (told ≡ pmsi_line pmsi)
-TellsValues formats.Nlri octets told = TellsWhole of_routes octets told
-
--- The text tells the values before the first fault, and the fault.
-abbrev pub TellsFault : Format → List ℕ → List ℕ → Type 0
-TellsFault formats.Fec octets told = TellsStop of_fecs octets told
-TellsFault formats.Pmsi octets told = (fault : PmsiFault) × pmsi_faults.FirstFault octets fault × (told ≡ refused_line fault.place (pmsi_word fault.reason))
-TellsFault formats.Nlri octets told = TellsStop of_routes octets told
+-- what a text tells of octets as one tunnel attribute, by whether a fault was met
+abbrev pub TellsPmsi : Bool → List ℕ → List ℕ → Type 0
+TellsPmsi false octets told = (pmsi : Pmsi) × pmsis.Spells pmsi octets × (told ≡ pmsi_line pmsi)
+TellsPmsi true octets told = (fault : PmsiFault) × pmsi_faults.FirstFault octets fault × (told ≡ refused_line fault.place (pmsi_word fault.reason))
 
 -- what a text tells of octets, by whether a fault was met
 abbrev pub Tells : Format → Bool → List ℕ → List ℕ → Type 0
-Tells format false octets told = TellsValues format octets told
-Tells format true octets told = TellsFault format octets told
+Tells formats.Fec refused octets told = TellsEach of_fecs refused octets told
+Tells formats.Pmsi refused octets told = TellsPmsi refused octets told
+Tells formats.Nlri refused octets told = TellsEach of_routes refused octets told
+Tells formats.Bgp refused octets told = TellsSession of_bgp refused octets told
+Tells formats.Ldp refused octets told = TellsSession of_ldp refused octets told

@@ -1,4 +1,5 @@
 pub mod HexText
-pub mod ValueText
+pub mod HexLaws
 pub mod Values
+pub mod Sessions
 pub mod Formats

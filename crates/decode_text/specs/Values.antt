@@ -1,5 +1,5 @@
 -- Octets that are values end to end, or values and then a fault; and the lines of both.
-use Rattle.std.specs.Prelude.{◌≡◌, ℕ, ◌<◌, List, ◌++◌, length}
+use Rattle.std.specs.Prelude.{◌≡◌, ℕ, ◌<◌, ◌≤◌, Bool, true, false, List, ◌++◌, length, take}
 use Rattle.std.specs.List.{flat_map, AllByRecursion}
 
 -- How values of a format are spelled and told: the octets and the condition of each, the first fault of octets, the
@@ -10,6 +10,13 @@ pub record Telling (T F : Type 0) : Type 1 where
   pub First : List ℕ → F → Type 0
   pub line : T → List ℕ
   pub refusal : ℕ → F → List ℕ
+
+-- The value is spelled at the front of the octets, by so many of them.
+pub record Stands {T F : Type 0} (t : Telling T F) (octets : List ℕ) (value : T) (len : ℕ) : Type 0 where
+  pub is : t.Is value
+  pub some : 0 < len
+  pub within : len ≤ length octets
+  pub text : take len octets ≡ t.text value
 
 -- The octets are those values, end to end.
 pub record Whole {T F : Type 0} (t : Telling T F) (octets : List ℕ) (values : List T) : Type 0 where
@@ -36,3 +43,8 @@ pub record TellsStop {T F : Type 0} (t : Telling T F) (octets told : List ℕ) :
   pub fault : F
   pub stop : Stop t octets values fault
   pub lines : told ≡ flat_map t.line values ++ t.refusal (length (flat_map t.text values)) fault
+
+-- what a text tells of octets, by whether a fault was met
+abbrev pub TellsEach : {T F : Type 0} → Telling T F → Bool → List ℕ → List ℕ → Type 0
+TellsEach t false octets told = TellsWhole t octets told
+TellsEach t true octets told = TellsStop t octets told

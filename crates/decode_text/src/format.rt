@@ -9,4 +9,8 @@ pub enum Format {
     Pmsi,
     /// MCAST-VPN routes of AFI 1, end to end (RFC 6514 section 4).
     Nlri,
+    /// Messages of a BGP session, end to end (RFC 4271 section 4).
+    Bgp,
+    /// PDUs of an LDP session, end to end (RFC 5036 section 3.1).
+    Ldp,
 }

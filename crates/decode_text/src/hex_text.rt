@@ -1,18 +1,15 @@
 //! Octets in hexadecimal text.
-ghost use Rattle.std.specs.Prelude.{◌≡◌, ◌≤◌, ◌<◌, ◌+◌, ◌^◌, ◌==◌, length, position, IfOk};
-ghost use Rattle.std.specs.List.{count_by, filter};
+ghost use Rattle.std.specs.Prelude.{◌≡◌, ◌≤◌, ◌<◌, ◌+◌, ◌^◌, ◌==◌, length, position, reverse, IfOk};
+ghost use Rattle.std.specs.List.{count_by, filter, after_last};
 ghost use Rattle.hex.specs.Hex.{is_hex_digit};
-ghost use Rattle.scenario_text.specs.Answers.{Gives};
-ghost use Rattle.scenario_text.specs.declared.fault.Reason.TheVariants as reasons;
-ghost use Rattle.decode_text.specs.HexText.{is_white, is_other, behind_lf, one_further, fault_behind, octets_of, octets_of_digits};
+ghost use Rattle.line_words.specs.Answers.{Gives};
+ghost use Rattle.line_words.specs.declared.fault.Reason.TheVariants as reasons;
+ghost use Rattle.decode_text.specs.HexText.{is_white, is_other, is_lf, fault_behind, octets_of, octets_of_digits};
 
 use hex::FromHexError;
+use line_words::{ReadFault, Reason, TEXT_LIMIT, TextFault};
 use mv_base::{Bytes, NoMemory};
-use scenario_text::{ReadFault, Reason, TextFault};
 use std::alloc::Global;
-
-/// The most octets of a text.
-const TEXT_LIMIT: usize = 16_777_216;
 
 fn is_hex_digit(b: u8) -> bool
     ensures { result ≡ is_hex_digit b }
@@ -39,28 +36,24 @@ fn first_other(text: &[u8]) -> Option<usize>
 }
 
 fn count_lines(front: &[u8]) -> usize
-    ensures value { result ≡ count_by (λ b. b == 10) front.now }
+    ensures value { result ≡ count_by is_lf front.now }
 {
     front.iter().filter(|b| **b == b'\n').count()
 }
 
-fn one_further(passed: usize, b: u8) -> usize
-    requires { passed + 1 < 2 ^ 64 }
-    ensures { result ≡ one_further passed b }
+/// The place of the last LF, counted from the end.
+fn last_lf(front: &[u8]) -> Option<usize>
+    ensures { result ≡ position is_lf (reverse front.now) }
 {
-    if b == b'\n' { 0 } else { passed + 1 }
+    front.iter().rev().position(|b| *b == b'\n')
 }
 
 /// How many octets stand behind the last LF.
-fn behind_lf(front: &[u8]) -> usize
-    ensures value { result ≡ behind_lf 0 front.now }
-    ensures within { result ≤ length front.now }
+#[tactic(auto, using(crate::proofs::HexLemmas::octets_behind_lf))]
+fn count_behind_lf(front: &[u8]) -> usize
+    ensures { result ≡ length (after_last is_lf front.now) }
 {
-    let mut passed = 0;
-    for b in front {
-        passed = one_further(passed, *b);
-    }
-    passed
+    last_lf(front).unwrap_or(front.len())
 }
 
 /// The fault behind the front of a text.
@@ -70,7 +63,7 @@ fn fault_behind(front: &[u8]) -> TextFault
 {
     TextFault {
         line: count_lines(front) as u32 + 1,
-        column: behind_lf(front) as u32 + 1,
+        column: count_behind_lf(front) as u32 + 1,
         reason: Reason::Hex,
     }
 }

@@ -1,6 +1,6 @@
 //! Texts of octets with their lines.
 use super::*;
-use scenario_text::{ReadFault, Reason, TextFault};
+use line_words::{ReadFault, Reason, TextFault};
 use std::test::*;
 
 #[test]

@@ -1,12 +1,12 @@
 //! FEC elements, and their lines.
 ghost use Rattle.std.specs.Prelude.{◌≡◌, ◌++◌, ◌+◌, ◌<◌, ◌^◌, OnOk};
-ghost use Rattle.decode_text.specs.ValueText.{kind_text, fec_text, fec_line, fec_word, refused_line};
+ghost use Rattle.value_text.specs.ValueText.{kind_text, fec_text, fec_line, fec_word, refused_line};
 
 use crate::addr_text::put_addr;
 use crate::refused::put_refused;
 use mldp_fec::{Fec, FecFault, FecKind, FecReason};
 use mv_base::{Bytes, NoMemory};
-use scenario_text::put_hex;
+use report_text::put_hex;
 
 fn kind_word(kind: FecKind) -> &'static [u8]
     ensures { result.now ≡ kind_text kind }
@@ -53,7 +53,7 @@ pub fn put_fec_line(out: &mut Bytes, fec: &Fec) -> Result<(), NoMemory>
 
 /// Appends the line of a fault of a FEC element that was met behind so many octets.
 pub fn put_fec_fault(out: &mut Bytes, behind: usize, fault: &FecFault) -> Result<(), NoMemory>
-    requires { behind + fault.now.place < 2 ^ 64 }
+    requires { behind < 2 ^ 63 }
     ensures { OnOk result (out.new ≡ out.old ++ refused_line (behind + fault.now.place) (fec_word fault.now.reason)) }
 {
     put_refused(out, behind + fault.place as usize, fec_word(fault.reason))

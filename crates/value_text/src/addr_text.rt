@@ -1,17 +1,17 @@
 //! Addresses as text.
 ghost use Rattle.std.specs.Prelude.{◌≡◌, ◌++◌, ◌+◌, ◌≤◌, length, OnOk};
-ghost use Rattle.decode_text.specs.ValueText.{group_text, groups_text, addr_text};
+ghost use Rattle.value_text.specs.ValueText.{group_text, groups_text, addr_text};
 
+use crate::digits::put_digits;
 use mv_base::{Addr, Bytes, NoMemory};
-use scenario_text::put_number;
+use report_text::put_number;
 
 /// Appends two octets in four hexadecimal digits.
 fn put_group(out: &mut Bytes, octets: &[u8], place: usize) -> Result<(), NoMemory>
     requires { place + 2 ≤ length octets.now }
     ensures { OnOk result (out.new ≡ out.old ++ group_text octets.now place) }
 {
-    let text = hex::encode(out.alloc(), &octets[place..place + 2])?;
-    out.extend(text.as_bytes())
+    put_digits(out, &octets[place..place + 2])
 }
 
 /// Appends four groups.

@@ -1,9 +1,9 @@
 //! The line of a fault.
 ghost use Rattle.std.specs.Prelude.{◌≡◌, ◌++◌, OnOk};
-ghost use Rattle.decode_text.specs.ValueText.{refused_line};
+ghost use Rattle.value_text.specs.ValueText.{refused_line};
 
 use mv_base::{Bytes, NoMemory};
-use scenario_text::put_number;
+use report_text::put_number;
 
 /// Appends the line that tells a fault and its place.
 pub fn put_refused(out: &mut Bytes, place: usize, word: &[u8]) -> Result<(), NoMemory>

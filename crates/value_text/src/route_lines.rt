@@ -1,20 +1,20 @@
 //! MCAST-VPN routes, and their lines.
 ghost use Rattle.std.specs.Prelude.{◌≡◌, ◌++◌, ◌+◌, ◌<◌, ◌^◌, OnOk};
 ghost use Rattle.hex.specs.Hex.{encode_lower};
-ghost use Rattle.decode_text.specs.ValueText.{any_text, intra_text, active_text, inter_text, selective_text, flow_text, join_text, key_text, route_text, route_line, route_word, refused_line};
+ghost use Rattle.value_text.specs.ValueText.{any_text, intra_text, active_text, inter_text, selective_text, flow_text, join_text, key_text, route_text, route_line, route_word, refused_line};
 
 use crate::addr_text::put_addr;
+use crate::digits::put_digits;
 use crate::refused::put_refused;
 use mv_base::{Addr, Bytes, NoMemory, Rd};
 use mvpn_nlri::{LeafKey, Route, RouteFault, RouteReason};
-use scenario_text::{put_hex, put_number};
+use report_text::{put_hex, put_number};
 
-fn put_rd(out: &mut Bytes, rd: &Rd) -> Result<(), NoMemory>
+/// Appends a route distinguisher.
+pub fn put_rd(out: &mut Bytes, rd: &Rd) -> Result<(), NoMemory>
     ensures { OnOk result (out.new ≡ out.old ++ encode_lower rd.now.0) }
 {
-    let octets: &[u8] = &rd.0;
-    let text = hex::encode(out.alloc(), octets)?;
-    out.extend(text.as_bytes())
+    put_digits(out, &rd.0)
 }
 
 fn put_any(out: &mut Bytes, addr: &Option<Addr>) -> Result<(), NoMemory>
@@ -111,7 +111,7 @@ fn put_key(out: &mut Bytes, key: &LeafKey) -> Result<(), NoMemory>
 }
 
 /// Appends a route.
-fn put_route(out: &mut Bytes, route: &Route) -> Result<(), NoMemory>
+pub fn put_route(out: &mut Bytes, route: &Route) -> Result<(), NoMemory>
     ensures { OnOk result (out.new ≡ out.old ++ route_text route.now) }
 {
     match route {
@@ -165,7 +165,8 @@ pub fn put_route_line(out: &mut Bytes, route: &Route) -> Result<(), NoMemory>
     out.extend(b"\n")
 }
 
-fn route_word(reason: RouteReason) -> &'static [u8]
+/// The word of a fault of a route.
+pub fn route_word(reason: RouteReason) -> &'static [u8]
     ensures { result.now ≡ route_word reason }
 {
     match reason {
@@ -183,7 +184,7 @@ fn route_word(reason: RouteReason) -> &'static [u8]
 
 /// Appends the line of a fault of a route that was met behind so many octets.
 pub fn put_route_fault(out: &mut Bytes, behind: usize, fault: &RouteFault) -> Result<(), NoMemory>
-    requires { behind + fault.now.place < 2 ^ 64 }
+    requires { behind < 2 ^ 63 }
     ensures { OnOk result (out.new ≡ out.old ++ refused_line (behind + fault.now.place) (route_word fault.now.reason)) }
 {
     put_refused(out, behind + fault.place as usize, route_word(fault.reason))

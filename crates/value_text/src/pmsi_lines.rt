@@ -1,30 +1,18 @@
 //! PMSI Tunnel attributes, and their lines.
 ghost use Rattle.std.specs.Prelude.{◌≡◌, ◌++◌, OnOk};
-ghost use Rattle.decode_text.specs.ValueText.{flag_text, label_text, tunnel_text, pmsi_line, pmsi_word, refused_line};
-ghost use Rattle.pmsi_attr.specs.Spelling.{type_octet};
+ghost use Rattle.value_text.specs.ValueText.{flag_text, label_text, tunnel_text, pmsi_line, pmsi_word, refused_line};
 
 use crate::addr_text::put_addr;
 use crate::fec_lines::{fec_word, put_fec};
 use crate::refused::put_refused;
 use mv_base::{Bytes, NoMemory};
 use pmsi_attr::{Pmsi, PmsiFault, PmsiReason, Tunnel};
-use scenario_text::{put_hex, put_number};
+use report_text::{put_hex, put_number};
 
 fn flag_word(flag: bool) -> &'static [u8]
     ensures { result.now ≡ flag_text flag }
 {
     if flag { b"1" } else { b"0" }
-}
-
-fn type_of(tunnel: &Tunnel) -> u8
-    ensures { result ≡ type_octet tunnel.now }
-{
-    match tunnel {
-        Tunnel::None => 0,
-        Tunnel::Mldp(_) => 2,
-        Tunnel::Ingress(_) => 6,
-        Tunnel::Other(kind, _) => *kind,
-    }
 }
 
 fn put_label(out: &mut Bytes, label: Option<u32>) -> Result<(), NoMemory>
@@ -54,7 +42,7 @@ pub fn put_pmsi_line(out: &mut Bytes, pmsi: &Pmsi) -> Result<(), NoMemory>
     out.extend(b"pmsi ")?;
     out.extend(flag_word(pmsi.leaf_info))?;
     out.extend(b" ")?;
-    put_number(out, u64::from(type_of(&pmsi.tunnel)))?;
+    put_number(out, u64::from(pmsi.tunnel.kind()))?;
     out.extend(b" ")?;
     put_label(out, pmsi.label)?;
     out.extend(b" ")?;
@@ -62,7 +50,8 @@ pub fn put_pmsi_line(out: &mut Bytes, pmsi: &Pmsi) -> Result<(), NoMemory>
     out.extend(b"\n")
 }
 
-fn put_pmsi_word(out: &mut Bytes, reason: PmsiReason) -> Result<(), NoMemory>
+/// Appends the word of a fault of a tunnel attribute.
+pub fn put_pmsi_word(out: &mut Bytes, reason: PmsiReason) -> Result<(), NoMemory>
     ensures { OnOk result (out.new ≡ out.old ++ pmsi_word reason) }
 {
     match reason {

@@ -1,0 +1,64 @@
+-- The messages of BGP and LDP that are spelled can be told.
+use Rattle.std.proofs.Common.{ℕ, List, [], ◌∷◌, ◌++◌, Option, Some, None, sym, subst}
+use Rattle.std.specs.List.{flat_map, AllByRecursion}
+use Rattle.framing.specs.Parts.{ArePartsAfter}
+use Rattle.route_targets.specs.declared.communities.ExtComm.{ExtComm}
+use Rattle.pmsi_attr.specs.declared.pmsi.Pmsi.{Pmsi}
+use Rattle.pmsi_attr.proofs.PmsiLemmas.{written_spells}
+use Rattle.bgp_attributes.specs.declared.key.Key.{Key}
+use Rattle.bgp_attributes.specs.declared.update.Advert.{Advert}
+use Rattle.bgp_attributes.specs.declared.update.Update.{Update}
+use Rattle.bgp_attributes.specs.declared.update.Message.{Message}
+use Rattle.bgp_attributes.specs.declared.update.Message.TheVariants as messages
+use Rattle.bgp_attributes.specs.declared.attribute.Attribute.{Attribute}
+use Rattle.bgp_attributes.specs.declared.attribute.Attribute.TheVariants.{Reach, Unreach, Communities, Tunnel, Passed}
+use Rattle.bgp_attributes.specs.Spelling.{SpellsAttribute, IsNew, Spells, pmsi_of, comms_of, adverts_in}
+use Rattle.bgp_update.specs.Spelling.{SpellsMessage, Means}
+use Rattle.mldp_msgs.specs.declared.message.LabelMessage.{LabelMessage}
+use Rattle.value_text.specs.MessageText.{HasOctets, IsTellable}
+
+-- the tunnel among attributes that are spelled has octets
+tunnel_has : (before : List Attribute) (octets : List ℕ) (attributes : List Attribute) (rest : List ℕ) → ArePartsAfter SpellsAttribute IsNew before octets attributes rest → HasOctets (pmsi_of attributes)
+tunnel_has before octets [] rest h = tt
+tunnel_has before octets (Tunnel pmsi ∷ attributes) rest (text, after, spells, is, parts, more) = written_spells pmsi spells.value spells.means
+tunnel_has before octets (Reach r ∷ attributes) rest (text, after, spells, is, parts, more) = tunnel_has (before ++ Reach r ∷ []) after attributes rest more
+tunnel_has before octets (Unreach ks ∷ attributes) rest (text, after, spells, is, parts, more) = tunnel_has (before ++ Unreach ks ∷ []) after attributes rest more
+tunnel_has before octets (Communities comms ∷ attributes) rest (text, after, spells, is, parts, more) = tunnel_has (before ++ Communities comms ∷ []) after attributes rest more
+tunnel_has before octets (Passed kind ∷ attributes) rest (text, after, spells, is, parts, more) = tunnel_has (before ++ Passed kind ∷ []) after attributes rest more
+
+all_append : {A : Type 0} (P : A → Type 0) (xs ys : List A) → AllByRecursion P xs → AllByRecursion P ys → AllByRecursion P (xs ++ ys)
+all_append P [] ys h k = k
+all_append P (x ∷ xs) ys h k = (h.0, all_append P xs ys h.1 k)
+
+keys_have : (next_hop : _) (comms : List ExtComm) (pmsi : Option Pmsi) (ks : List Key) → HasOctets pmsi → AllByRecursion (λ (a : Advert). HasOctets a.pmsi) (adverts_in comms pmsi (Reach (Some (record { next_hop = next_hop; keys = ks }))))
+keys_have next_hop comms pmsi [] h = tt
+keys_have next_hop comms pmsi (k ∷ ks) h = (h, keys_have next_hop comms pmsi ks h)
+
+adverts_have : (comms : List ExtComm) (pmsi : Option Pmsi) (a : Attribute) → HasOctets pmsi → AllByRecursion (λ (a : Advert). HasOctets a.pmsi) (adverts_in comms pmsi a)
+adverts_have comms pmsi (Reach (Some r)) h = keys_have r.next_hop comms pmsi r.keys h
+adverts_have comms pmsi (Reach None) h = tt
+adverts_have comms pmsi (Unreach ks) h = tt
+adverts_have comms pmsi (Communities cs) h = tt
+adverts_have comms pmsi (Tunnel p) h = tt
+adverts_have comms pmsi (Passed kind) h = tt
+
+all_have : (comms : List ExtComm) (pmsi : Option Pmsi) (attributes : List Attribute) → HasOctets pmsi → AllByRecursion (λ (a : Advert). HasOctets a.pmsi) (flat_map (adverts_in comms pmsi) attributes)
+all_have comms pmsi [] h = tt
+all_have comms pmsi (a ∷ attributes) h = all_append (λ (a : Advert). HasOctets a.pmsi) (adverts_in comms pmsi a) (flat_map (adverts_in comms pmsi) attributes) (adverts_have comms pmsi a h) (all_have comms pmsi attributes h)
+
+update_tellable : (u : Update) (octets : List ℕ) → Spells u octets → AllByRecursion (λ (a : Advert). HasOctets a.pmsi) u.reach
+update_tellable u octets (attributes, are, is) =
+    subst (λ (v : Update). AllByRecursion (λ (a : Advert). HasOctets a.pmsi) v.reach) (sym is) (all_have (comms_of attributes) (pmsi_of attributes) attributes (tunnel_has [] octets attributes [] are))
+
+message_tellable : (m : Message) (kind : ℕ) (body : List ℕ) → Means m kind body → IsTellable m
+message_tellable (messages.Update u) kind body h = update_tellable u h.1.list h.1.spelled
+message_tellable (messages.Other k) kind body h = tt
+
+-- Messages of BGP that are spelled can be told.
+pub bgp_tellable : (ms : List Message) (text : List ℕ) → SpellsMessage ms text → AllByRecursion IsTellable ms
+bgp_tellable ms text s = subst (AllByRecursion IsTellable) (sym s.one) (message_tellable s.message s.kind s.body s.means, tt)
+
+-- Label messages can be told.
+pub ldp_tellable : (ms : List LabelMessage) → AllByRecursion (λ (m : LabelMessage). Unit {0}) ms
+ldp_tellable [] = tt
+ldp_tellable (m ∷ ms) = (tt, ldp_tellable ms)

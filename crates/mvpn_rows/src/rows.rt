@@ -21,6 +21,9 @@ const OUT_1: &str = "out 1 Y1 4500001600000000401187cb0a010009e8010101aabb\n";
 
 const CALM: &str = "state 0 0 0 0 0\n";
 
+const OUT_1_AND_CALM: &str =
+    "out 1 Y1 4500001600000000401187cb0a010009e8010101aabb\nstate 0 0 0 0 0\n";
+
 fn octets_of(alloc: Global, parts: &[&str]) -> Result<Bytes, Fail> {
     let mut octets = Seq::new(alloc);
     for part in parts {
@@ -51,132 +54,114 @@ fn outcome(alloc: Global, words: &[&str], input: &[&str]) -> Result<(u8, Bytes),
     Ok((status, written))
 }
 
+/// Whether a run of the words over the input ends with that status and writes exactly that text.
+fn gives(
+    alloc: Global,
+    words: &[&str],
+    input: &[&str],
+    status: u8,
+    text: &str,
+) -> Result<bool, Fail> {
+    let (ended, written) = outcome(alloc, words, input)?;
+    Ok(ended == status && written.as_slice() == text.as_bytes())
+}
+
 #[test]
 fn scenarios_are_replayed(rt: HostRuntime) -> Result<(), Fail> {
-    let rows: [(&str, &str, &str, &str, &str); 5] = [
+    let rows: [(&str, &str, &str); 5] = [
         (
-            ONE_VPN,
             "",
             "join Y1 10.1.0.9 232.1.1.1\nsend X 10.1.0.9 232.1.1.1 aabb\ndrain\nstate\n",
-            OUT_1,
-            CALM,
+            OUT_1_AND_CALM,
         ),
         (
-            ONE_VPN,
             SECOND_VPN,
             "join Y1 10.1.0.9 232.1.1.1\njoin Q1 10.1.0.9 232.1.1.1\nsend X 10.1.0.9 232.1.1.1 aabb\nstate\n",
-            OUT_1,
-            CALM,
+            OUT_1_AND_CALM,
         ),
+        ("", "send Y 10.9.9.9 232.1.1.1 -\nstate\n", CALM),
         (
-            ONE_VPN,
-            "",
-            "send Y 10.9.9.9 232.1.1.1 -\nstate\n",
-            "",
-            CALM,
-        ),
-        (
-            ONE_VPN,
             "",
             "join Y1 10.1.0.9 232.1.1.1\nsend Y 10.1.0.9 232.1.1.1 aabb\nstate\n",
-            "",
             CALM,
         ),
         (
-            ONE_VPN,
             "\r\n# no event\r\n   \n",
             "join  Y1  10.1.0.9  232.1.1.1\r\n\nsend X 10.1.0.9 232.1.1.1 AABB",
             OUT_1,
-            "",
         ),
     ];
-    for (first, second, events, outs, state) in rows {
-        let (status, written) = outcome(
-            rt.alloc(),
-            &["replay"],
-            &[first, second, "events\n", events],
-        )?;
-        assert_eq!(rt; status, 0, "{events}");
-        let expected = octets_of(rt.alloc(), &[outs, state])?;
-        assert_eq!(rt; written.as_slice(), expected.as_slice(), "{events}");
+    for (more, events, report) in rows {
+        let input = [ONE_VPN, more, "events\n", events];
+        assert!(rt;
+            gives(rt.alloc(), &["replay"], &input, 0, report)?,
+            "{events}"
+        );
     }
     Ok(())
 }
 
 #[test]
-fn text_faults_are_told(rt: HostRuntime) -> Result<(), Fail> {
-    let rows: [(&str, &str, &str); 18] = [
-        ("", "", "fault 1:1 events\n"),
+fn faults_of_edges_and_their_vrfs_are_told(rt: HostRuntime) -> Result<(), Fail> {
+    let rows: [(&str, &str); 12] = [
+        ("", "fault 1:1 events\n"),
+        ("edge E1 224.0.2.1\n", "fault 1:9 address\n"),
+        ("edge 1E 192.0.2.1\n", "fault 1:6 name\n"),
+        ("edge E1\n", "fault 1:8 count\n"),
+        ("join Y1 10.1.0.9 232.1.1.1\n", "fault 1:1 word\n"),
+        ("edge\tE1 192.0.2.1\n", "fault 1:5 byte\n"),
         (
-            "edge E1 192.0.2.1\n",
-            "vrf V1 E1 4096 65000:1 65000:1 highest\n",
+            "edge E1 192.0.2.1\nvrf V1 E1 4096 65000:1 65000:1 highest\n",
             "fault 2:11 number\n",
         ),
         (
-            "edge E1 192.0.2.1\n",
-            "vrf V1 E1 1 65000:1 65000:1,65000:2 highest\n",
+            "edge E1 192.0.2.1\nvrf V1 E1 1 65000:1 65000:1,65000:2 highest\n",
             "fault 2:1 later\n",
         ),
+        ("edge E1 192.0.2.1\ncore C 192.0.2.9\n", "fault 2:1 later\n"),
         (
-            "edge E1 192.0.2.1\n",
-            "core C 192.0.2.9\n",
-            "fault 2:1 later\n",
-        ),
-        (
-            "edge E1 192.0.2.1\n",
-            "edge E2 192.0.2.2\nevents\n",
+            "edge E1 192.0.2.1\nedge E2 192.0.2.2\nevents\n",
             "fault 3:1 apart\n",
         ),
         (
-            "edge E1 192.0.2.1\n",
-            "edge E1 192.0.2.2\n",
+            "edge E1 192.0.2.1\nedge E1 192.0.2.2\n",
             "fault 2:6 again\n",
         ),
         (
-            "edge E1 192.0.2.1\n",
-            "edge E2 192.0.2.1\n",
+            "edge E1 192.0.2.1\nedge E2 192.0.2.1\n",
             "fault 2:9 again\n",
         ),
-        ("edge E1 224.0.2.1\n", "", "fault 1:9 address\n"),
-        ("edge 1E 192.0.2.1\n", "", "fault 1:6 name\n"),
-        ("edge E1\n", "", "fault 1:8 count\n"),
-        ("join Y1 10.1.0.9 232.1.1.1\n", "", "fault 1:1 word\n"),
-        ("edge\tE1 192.0.2.1\n", "", "fault 1:5 byte\n"),
+    ];
+    for (text, fault) in rows {
+        assert!(rt;
+            gives(rt.alloc(), &["replay"], &[text], 3, fault)?,
+            "{fault}"
+        );
+    }
+    Ok(())
+}
+
+#[test]
+fn faults_behind_a_vpn_are_told(rt: HostRuntime) -> Result<(), Fail> {
+    let rows: [(&str, &str); 6] = [
+        ("vrf V2 E1 2 65000:2 65000:1 highest\n", "fault 7:21 vpn\n"),
         (
-            ONE_VPN,
-            "vrf V2 E1 2 65000:2 65000:1 highest\n",
-            "fault 7:21 vpn\n",
-        ),
-        (
-            ONE_VPN,
             "site Z 10.1.0.0/16\niface Z1 V1 Z 10.1.0.2\n",
             "fault 8:13 taken\n",
         ),
         (
-            ONE_VPN,
             "vrf V2 E1 2 65000:2 65000:2 highest\niface X2 V2 X 10.1.0.2\n",
             "fault 8:13 mixed\n",
         ),
-        (
-            ONE_VPN,
-            "events\njoin Y1 * 225.1.1.1\n",
-            "fault 8:1 later\n",
-        ),
-        (
-            ONE_VPN,
-            "events\njoin Y1 10.1.0.9 224.0.0.5\n",
-            "fault 8:18 group\n",
-        ),
-        (
-            ONE_VPN,
-            "events\nsend X 10.1.0.9 232.1.1.1 a\n",
-            "fault 8:27 hex\n",
-        ),
+        ("events\njoin Y1 * 225.1.1.1\n", "fault 8:1 later\n"),
+        ("events\njoin Y1 10.1.0.9 224.0.0.5\n", "fault 8:18 group\n"),
+        ("events\nsend X 10.1.0.9 232.1.1.1 a\n", "fault 8:27 hex\n"),
     ];
-    for (first, second, fault) in rows {
-        let (status, written) = outcome(rt.alloc(), &["replay"], &[first, second])?;
-        assert_eq!(rt; status, 3, "{fault}");
-        assert_eq!(rt; written.as_slice(), fault.as_bytes(), "{fault}");
+    for (text, fault) in rows {
+        assert!(rt;
+            gives(rt.alloc(), &["replay"], &[ONE_VPN, text], 3, fault)?,
+            "{fault}"
+        );
     }
     Ok(())
 }
@@ -194,116 +179,159 @@ fn words_of_no_form_give_the_usage_line(rt: HostRuntime) -> Result<(), Fail> {
 
 #[test]
 fn octets_are_decoded(rt: HostRuntime) -> Result<(), Fail> {
-    let rows: [(&str, &str, u8, &str); 24] = [
+    let rows: [(&str, &str, &str); 5] = [
         (
             "nlri",
             "010C0000FDE800000001C0000201\n",
-            0,
             "intra 0000fde800000001 192.0.2.1\n",
         ),
         (
             "nlri",
-            "010C0000FDE800000001C00002",
-            1,
-            "refused 10 short\n",
-        ),
-        (
-            "nlri",
             "030E0000FDE8000000010000C0000201 010C0000FDE800000001C0000201",
-            0,
             "selective 0000fde800000001 * * 192.0.2.1\nintra 0000fde800000001 192.0.2.1\n",
         ),
         (
             "nlri",
-            "050A0000FDE8000000010000",
-            1,
-            "refused 10 wildcard\n",
-        ),
-        (
-            "nlri",
             "041C03160000FDE800000001200A01000920E8010101C0000201C0000202",
-            0,
             "leaf 192.0.2.2 selective 0000fde800000001 10.1.0.9 232.1.1.1 192.0.2.1\n",
-        ),
-        (
-            "nlri",
-            "041C05160000FDE800000001200A01000920E8010101C0000201C0000202",
-            1,
-            "refused 2 key-type\n",
-        ),
-        ("nlri", "01", 1, "refused 1 short\n"),
-        ("nlri", "0100", 1, "refused 2 length-too-small\n"),
-        (
-            "nlri",
-            "010D0000FDE800000001C000020100",
-            1,
-            "refused 10 originator-length\n",
-        ),
-        (
-            "nlri",
-            "020D0000FDE8000000010000FDE800",
-            1,
-            "refused 14 length-too-large\n",
-        ),
-        (
-            "nlri",
-            "03160000FDE800000001180A01000920E8010101C0000201",
-            1,
-            "refused 10 source-length\n",
-        ),
-        (
-            "nlri",
-            "05120000FDE800000001200A010009200A010101",
-            1,
-            "refused 16 group-not-multicast\n",
         ),
         (
             "pmsi",
             "000200000006000104C0000201000701000400100000",
-            0,
             "pmsi 0 2 - p2mp 192.0.2.1 01000400100000\n",
-        ),
-        (
-            "pmsi",
-            "000200000006000104C00002010007010004001000",
-            1,
-            "refused 15 fec.short\n",
-        ),
-        ("pmsi", "0008000000", 1, "refused 1 tunnel-type\n"),
-        ("pmsi", "000600000001", 1, "refused 5 identifier\n"),
-        ("pmsi", "0002000000", 1, "refused 5 fec.short\n"),
-        (
-            "pmsi",
-            "000200000007000104C0000201000701000400100000",
-            1,
-            "refused 5 identifier\n",
         ),
         (
             "fec",
             "06000104C0000201000701000400100000\n07 0001 04 C0000202 0000",
-            0,
             "p2mp 192.0.2.1 01000400100000\nup 192.0.2.2 -\n",
         ),
-        ("fec", "0600030400\n", 1, "refused 1 family\n"),
+    ];
+    for (format, octets, lines) in rows {
+        assert!(rt;
+            gives(rt.alloc(), &["decode", format], &[octets], 0, lines)?,
+            "{format} {octets}"
+        );
+    }
+    Ok(())
+}
+
+/// An UPDATE with one route, and a PDU with one mapping.
+const UPDATE: &str =
+    "ffffffffffffffffffffffffffffffff0054020000003d4001010040020040050400000064800e2100010504c00002020007160000fde8000000010000fde8200a01000920e8010101c010080102c00002010001";
+
+const MAPPING: &str =
+    "0001002bc0000202000004000021000000010100001106000104c0000201000701000400100000020000040000";
+
+#[test]
+fn messages_are_decoded(rt: HostRuntime) -> Result<(), Fail> {
+    let reach =
+        "update\nreach 192.0.2.2 0102c00002010001 - ipv4 source 0000fde800000001 65000 10.1.0.9 232.1.1.1\n";
+    let mapping = "mapping 16 p2mp 192.0.2.1 01000400100000\n";
+    let rows: [(&str, &[&str], u8, &str); 4] = [
+        ("bgp", &[UPDATE], 0, reach),
+        (
+            "bgp",
+            &["ffffffffffffffffffffffffffffffff001304 ff"],
+            1,
+            "keepalive\nrefused 19 short\n",
+        ),
+        ("ldp", &[MAPPING, "0010"], 0, mapping),
+        ("ldp", &[MAPPING, "000f"], 1, "refused 43 label\n"),
+    ];
+    for (format, octets, status, lines) in rows {
+        assert!(rt;
+            gives(rt.alloc(), &["decode", format], octets, status, lines)?,
+            "{format} {lines}"
+        );
+    }
+    Ok(())
+}
+
+#[test]
+fn octets_of_no_route_are_refused(rt: HostRuntime) -> Result<(), Fail> {
+    let rows: [(&str, &str); 9] = [
+        ("010C0000FDE800000001C00002", "refused 10 short\n"),
+        ("050A0000FDE8000000010000", "refused 10 wildcard\n"),
+        (
+            "041C05160000FDE800000001200A01000920E8010101C0000201C0000202",
+            "refused 2 key-type\n",
+        ),
+        ("01", "refused 1 short\n"),
+        ("0100", "refused 2 length-too-small\n"),
+        (
+            "010D0000FDE800000001C000020100",
+            "refused 10 originator-length\n",
+        ),
+        (
+            "020D0000FDE8000000010000FDE800",
+            "refused 14 length-too-large\n",
+        ),
+        (
+            "03160000FDE800000001180A01000920E8010101C0000201",
+            "refused 10 source-length\n",
+        ),
+        (
+            "05120000FDE800000001200A010009200A010101",
+            "refused 16 group-not-multicast\n",
+        ),
+    ];
+    for (octets, line) in rows {
+        assert!(rt;
+            gives(rt.alloc(), &["decode", "nlri"], &[octets], 1, line)?,
+            "{octets}"
+        );
+    }
+    Ok(())
+}
+
+#[test]
+fn octets_of_no_attribute_and_no_element_are_refused(rt: HostRuntime) -> Result<(), Fail> {
+    let rows: [(&str, &str, &str); 8] = [
+        (
+            "pmsi",
+            "000200000006000104C00002010007010004001000",
+            "refused 15 fec.short\n",
+        ),
+        ("pmsi", "0008000000", "refused 1 tunnel-type\n"),
+        ("pmsi", "000600000001", "refused 5 identifier\n"),
+        ("pmsi", "0002000000", "refused 5 fec.short\n"),
+        (
+            "pmsi",
+            "000200000007000104C0000201000701000400100000",
+            "refused 5 identifier\n",
+        ),
+        ("fec", "0600030400\n", "refused 1 family\n"),
         (
             "fec",
             "06000104C00002010041\n",
-            1,
             "refused 8 opaque-too-long\n",
         ),
         (
             "fec",
             "06000104C000020100020100\n",
-            1,
             "refused 10 opaque-shape\n",
         ),
-        ("fec", "0600 01x\n", 3, "fault 1:8 hex\n"),
-        ("fec", "060\n", 3, "fault 2:1 hex\n"),
     ];
-    for (format, input, status, lines) in rows {
-        let (ended, written) = outcome(rt.alloc(), &["decode", format], &[input])?;
-        assert_eq!(rt; ended, status, "{format} {input}");
-        assert_eq!(rt; written.as_slice(), lines.as_bytes(), "{format} {input}");
+    for (format, octets, line) in rows {
+        assert!(rt;
+            gives(rt.alloc(), &["decode", format], &[octets], 1, line)?,
+            "{format} {octets}"
+        );
+    }
+    Ok(())
+}
+
+#[test]
+fn faults_of_hexadecimal_text_are_told(rt: HostRuntime) -> Result<(), Fail> {
+    let rows: [(&str, &str); 2] = [
+        ("0600 01x\n", "fault 1:8 hex\n"),
+        ("060\n", "fault 2:1 hex\n"),
+    ];
+    for (text, fault) in rows {
+        assert!(rt;
+            gives(rt.alloc(), &["decode", "fec"], &[text], 3, fault)?,
+            "{text}"
+        );
     }
     Ok(())
 }

@@ -2,8 +2,8 @@
 use Rattle.std.proofs.Common.{◌≡◌, ◌≢◌, ℕ, ◌⊎◌, List, refl, inl, inr, sym, ap, ◌∙◌}
 use Rattle.std.specs.Prelude.{Option, None, Some, Result, Ok, Err, IfErr, Bool, true, false}
 use Rattle.mv_io.specs.Octets.{Appended, AppendedPart}
-use Rattle.scenario_text.specs.FaultText.{fault_text}
-use Rattle.scenario_text.specs.declared.fault.TextFault.{TextFault}
+use Rattle.line_words.specs.FaultText.{fault_text}
+use Rattle.line_words.specs.declared.fault.TextFault.{TextFault}
 use Rattle.decode_text.specs.HexText.{octets_of}
 use Rattle.decode_text.specs.declared.format.Format.{Format}
 use Rattle.mvpn_tool.specs.declared.stop.Stop.{Stop}

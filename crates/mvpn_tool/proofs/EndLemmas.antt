@@ -7,9 +7,9 @@ use Rattle.std.specs.Prelude.{Option, None, Some, Result, Ok, Err, IfErr, nat_lt
 use Rattle.mv_io.specs.Octets.{Appended, AppendedPart}
 use Rattle.scenario_defs.specs.declared.event.Script.{Script}
 use Rattle.scenario_defs.specs.Rules.{ScriptRules}
-use Rattle.scenario_text.specs.FaultText.{fault_text}
+use Rattle.line_words.specs.declared.fault.TextFault.{TextFault}
+use Rattle.line_words.specs.FaultText.{fault_text}
 use Rattle.scenario_text.specs.Grammar.{script_of}
-use Rattle.scenario_text.specs.declared.fault.TextFault.{TextFault}
 use Rattle.net_laws.proofs.SafeLemmas.{run_is_safe}
 use Rattle.net_laws.proofs.OnceLemmas.{run_is_once}
 use Rattle.mvpn_tool.specs.declared.stop.Stop.{Stop}

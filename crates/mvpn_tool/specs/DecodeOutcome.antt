@@ -1,8 +1,8 @@
 -- How the decoding of hexadecimal text may end: what it read, and what it wrote.
 use Rattle.std.specs.Prelude.{◌≡◌, ℕ, ◌⊎◌, ⊤, Bool, List, [], Option, Result, Ok, Err, MatchResult}
 use Rattle.mv_io.specs.Octets.{Appended, AppendedPart}
-use Rattle.scenario_text.specs.FaultText.{fault_text}
-use Rattle.scenario_text.specs.declared.fault.TextFault.{TextFault}
+use Rattle.line_words.specs.FaultText.{fault_text}
+use Rattle.line_words.specs.declared.fault.TextFault.{TextFault}
 use Rattle.decode_text.specs.HexText.{octets_of}
 use Rattle.decode_text.specs.Formats.{Tells}
 use Rattle.decode_text.specs.declared.format.Format.{Format}

@@ -5,9 +5,9 @@ use Rattle.mv_io.specs.Octets.{Appended, AppendedPart}
 use Rattle.scenario_defs.specs.declared.event.Timed.{Timed}
 use Rattle.scenario_defs.specs.declared.event.Script.{Script}
 use Rattle.scenario_defs.specs.Text.{line_text}
-use Rattle.scenario_text.specs.FaultText.{fault_text}
+use Rattle.line_words.specs.declared.fault.TextFault.{TextFault}
+use Rattle.line_words.specs.FaultText.{fault_text}
 use Rattle.scenario_text.specs.Grammar.{script_of}
-use Rattle.scenario_text.specs.declared.fault.TextFault.{TextFault}
 use Rattle.mvpn_model.specs.Report.{Entry, report_text}
 use Rattle.mvpn_model.specs.Safe.{Safe}
 use Rattle.mvpn_model.specs.Once.{Once}

@@ -21,6 +21,8 @@ fn format_of(word: &str) -> Option<Format>
         "nlri" => Some(Format::Nlri),
         "pmsi" => Some(Format::Pmsi),
         "fec" => Some(Format::Fec),
+        "bgp" => Some(Format::Bgp),
+        "ldp" => Some(Format::Ldp),
         _ => None,
     }
 }

@@ -10,8 +10,8 @@ use crate::input::read_all;
 use crate::replay::write_fault;
 use crate::stop::Stop;
 use decode_text::{Format, read_octets, tell};
+use line_words::ReadFault;
 use mv_io::{Sink, Source, write_all};
-use scenario_text::ReadFault;
 use std::alloc::Global;
 
 /// Writes the lines of the octets, and answers whether they end with a fault.

@@ -5,7 +5,7 @@ ghost use Rattle.mv_io.specs.Octets.{Appended, AppendedPart};
 ghost use Rattle.std.specs.List.{flat_map};
 ghost use Rattle.scenario_defs.specs.Text.{line_text, IsLineOf};
 ghost use Rattle.scenario_defs.specs.Rules.{IsEventOf, ScriptRules};
-ghost use Rattle.scenario_text.specs.FaultText.{fault_text};
+ghost use Rattle.line_words.specs.FaultText.{fault_text};
 ghost use Rattle.mvpn_tool.specs.Outcome.{EventReplayed, Replays, ReplayEnds, Takes, event_text};
 ghost use Rattle.mvpn_tool.specs.declared.stop.Stop.TheVariants as stops;
 

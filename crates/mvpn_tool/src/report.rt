@@ -2,11 +2,12 @@
 ghost use Rattle.std.specs.Prelude.{◌≡◌, ◌++◌, All, OnOk, IfOk};
 ghost use Rattle.std.specs.List.{flat_map};
 ghost use Rattle.scenario_defs.specs.Text.{line_text, IsLineOf};
-ghost use Rattle.scenario_text.specs.FaultText.{fault_text};
+ghost use Rattle.line_words.specs.FaultText.{fault_text};
 
+use line_words::{TextFault, reason_word};
 use mv_base::{Bytes, NoMemory};
+use report_text::write_line;
 use scenario_defs::{ReportLine, Scenario};
-use scenario_text::{TextFault, reason_word, write_line};
 use std::alloc::Global;
 
 /// Appends the text of the lines.

@@ -4,7 +4,7 @@ ghost use Rattle.decode_text.specs.declared.format.Format.{Format};
 ghost use Rattle.mv_io.specs.Causes.{Rose};
 ghost use Rattle.mv_io.specs.Octets.{Appended, AppendedPart};
 ghost use Rattle.scenario_defs.specs.declared.event.Script.{Script};
-ghost use Rattle.scenario_text.specs.declared.fault.TextFault.{TextFault};
+ghost use Rattle.line_words.specs.declared.fault.TextFault.{TextFault};
 ghost use Rattle.scenario_text.specs.Grammar.{script_of};
 ghost use Rattle.decode_text.specs.HexText.{octets_of};
 ghost use Rattle.decode_text.specs.Formats.{IsWhole, HasFault};

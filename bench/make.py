@@ -10,8 +10,10 @@
     late-fault  SIZE octets of comments, of which the last line is faulty
     decode      SIZE octets of hexadecimal text, which writes multipoint FEC elements end to end, one on each line
     decode-nlri SIZE octets of hexadecimal text, which writes MCAST-VPN routes of AFI 1 end to end, one on each line
+    decode-bgp  SIZE octets of hexadecimal text, which writes BGP messages end to end, one on each line
+    decode-ldp  SIZE octets of hexadecimal text, which writes LDP PDUs end to end, one on each line
 
-The first four are inputs of `replay`, `decode` is one of `decode fec`, and `decode-nlri` one of `decode nlri`. The input
+The first four are inputs of `replay`, `decode` is one of `decode fec`, and `decode-NAME` one of `decode NAME`. The input
 is within the limits: 16,777,216 octets, 200,000 events, 1,024 interfaces and entries, 4,096 octets a line.
 """
 
@@ -37,7 +39,7 @@ def small():
     yield 'site X 10.1.0.0/16\niface X1 V1 X 10.1.0.1\nevents\nstate\n'
 
 
-def wide():
+def thousand_ifaces():
     """One edge, one VRF, and 100 sites of 10 interfaces each."""
     yield 'edge E1 192.0.2.1\nvrf V1 E1 1 65000:1 65000:1 highest\n'
     for site in range(SITES):
@@ -65,7 +67,7 @@ def join(number):
 
 
 def joins(size):
-    yield from wide()
+    yield from thousand_ifaces()
     for number in range(min(EVENT_LIMIT, size // JOIN_LEN)):
         front, source, group = join(number).rsplit(' ', 2)
         pad = JOIN_LEN - 1 - len(front) - len(source) - len(group)
@@ -73,7 +75,7 @@ def joins(size):
 
 
 def events(size):
-    yield from wide()
+    yield from thousand_ifaces()
     for number in range(min(EVENT_LIMIT, size)):
         if number % 2 == 0:
             yield join(number // 2) + '\n'
@@ -121,6 +123,32 @@ def sized(kind, fields):
     return bytes([kind, len(fields)]) + fields
 
 
+def message(number):
+    """An UPDATE with one route, its communities and a tunnel."""
+    nlri = bytes([0, 1, 5, 4, 192, 0, 2, number % 254 + 1, 0]) + route(number)
+    communities = bytes([0, 2]) + (65000).to_bytes(2, 'big') + numbered(number)
+    tunnel = bytes([0, 2, 0, 0, 0]) + fec(3 * number)
+    attributes = bytes.fromhex('4001010040020040050400000064')
+    for flags, kind, value in ((0x80, 14, nlri), (0xc0, 16, communities), (0xc0, 22, tunnel)):
+        attributes += bytes([flags, kind, len(value)]) + value
+    body = bytes(2) + len(attributes).to_bytes(2, 'big') + attributes
+    return b'\xff' * 16 + (19 + len(body)).to_bytes(2, 'big') + b'\2' + body
+
+
+def pdu(number):
+    """A PDU with a mapping, a withdraw and a release."""
+    messages = b''
+    for kind in (0x400, 0x402, 0x403):
+        tlvs = wide(0x100, fec(number)) + wide(0x200, numbered(16 + number % 1_000_000))
+        messages += wide(kind, numbered(number) + tlvs)
+    return bytes([0, 1]) + (6 + len(messages)).to_bytes(2, 'big') + bytes([192, 0, 2, 1, 0, 0]) + messages
+
+
+def wide(kind, value):
+    """A type and a length of two octets each, and the value."""
+    return kind.to_bytes(2, 'big') + len(value).to_bytes(2, 'big') + value
+
+
 def hexadecimal(value_of, size):
     """The values in hexadecimal text, one on each line, and then spaces, so that the text has exactly that many
     octets."""
@@ -141,6 +169,8 @@ KINDS = {
     'late-fault': lambda size: [*comments(size - len('edgy\n')), 'edgy\n'],
     'decode': lambda size: hexadecimal(fec, size),
     'decode-nlri': lambda size: hexadecimal(route, size),
+    'decode-bgp': lambda size: hexadecimal(message, size),
+    'decode-ldp': lambda size: hexadecimal(pdu, size),
 }
 
 

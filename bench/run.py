@@ -22,6 +22,8 @@ INPUTS = [
     ('late-fault', ['replay'], 8_000_000, 3),
     ('decode', ['decode', 'fec'], 8_000_000, 0),
     ('decode-nlri', ['decode', 'nlri'], 8_000_000, 0),
+    ('decode-bgp', ['decode', 'bgp'], 8_000_000, 0),
+    ('decode-ldp', ['decode', 'ldp'], 8_000_000, 0),
 ]
 
 

@@ -3,7 +3,8 @@
 
 Field values are written here as MCAST-VPN routes of AFI 1 (RFC 6514 section 4; the wildcards of RFC 6625 section 2),
 PMSI Tunnel attributes (RFC 6514 section 5) and multipoint FEC elements (RFC 6388 sections 2.2 and 3.2), in messages
-of a pcap file. The fields that tshark tells of a message become the lines that the program is to write. The program,
+of a pcap file, and as whole messages of BGP (RFC 4271) and LDP (RFC 5036), in the layout that the writers of the
+program have. The fields that tshark tells of a message become the lines that the program is to write. The program,
 built without its proofs, gets the octets alone.
 
 tshark 4.0.17 does not tell all, so the cases keep within this:
@@ -12,6 +13,7 @@ tshark 4.0.17 does not tell all, so the cases keep within this:
 - The opaque value in a PMSI Tunnel attribute has one TLV, of type 1 or 255.
 - The two reserved octets in an identifier of RSVP-TE are not told: they are zero (RFC 4875 section 19.1.1).
 - FEC elements end to end have opaque values of 7 octets: behind another length the next element is not found.
+- Of an UPDATE at most one route is told, and its next hop is IPv4.
 - What the program refuses has no line of tshark's, so no case has a fault.
 
 Prints the cases that differ, and then 'N passed, M failed'. Without tshark nothing is compared, and nothing failed.
@@ -139,7 +141,98 @@ FECS = {
 FECS['three'] = FECS['p2mp'] + FECS['up'] + FECS['down']
 
 
-# ---- messages and packets
+# ---- messages, as the program's writers lay them out
+
+def attribute(flags, kind, value):
+    """A path attribute, with an extended length where it needs one (RFC 4271 section 4.3)."""
+    if len(value) > 255:
+        return bytes([flags | 0x10, kind]) + number(len(value), 2) + value
+    return bytes([flags, kind, len(value)]) + value
+
+
+def bgp(kind, body=b''):
+    return b'\xff' * 16 + number(19 + len(body), 2) + bytes([kind]) + body
+
+
+def update_of(*attributes):
+    octets = b''.join(attributes)
+    return bgp(2, number(0, 2) + number(len(octets), 2) + octets)
+
+
+def announce(family, next_hop, nlri, communities=(), tunnel_value=None):
+    """ORIGIN, AS_PATH, LOCAL_PREF, MP_REACH_NLRI, Extended Communities, and PMSI Tunnel where there is one."""
+    hop = (bytes(8) if family[2] == 128 else b'') + addr(next_hop)
+    attributes = [
+        attribute(0x40, 1, b'\0'),
+        attribute(0x40, 2, b''),
+        attribute(0x40, 5, number(100, 4)),
+        attribute(0x80, 14, family + bytes([len(hop)]) + hop + b'\0' + nlri),
+        attribute(0xc0, 16, b''.join(communities)),
+    ]
+    if tunnel_value is not None:
+        attributes.append(attribute(0xc0, 22, tunnel_value))
+    return update_of(*attributes)
+
+
+def withdraw(family, nlri):
+    return update_of(attribute(0x80, 15, family + nlri))
+
+
+def vpn_ipv4(label, rd, prefix, bits):
+    """A VPN-IPv4 route (RFC 4364 section 4.3.4)."""
+    return bytes([88 + bits]) + number(label, 3) + rd + addr(prefix)[:(bits + 7) // 8]
+
+
+def pdu(*messages):
+    octets = b''.join(messages)
+    return number(1, 2) + number(6 + len(octets), 2) + addr('192.0.2.2') + number(0, 2) + octets
+
+
+def ldp(kind, message_id, tlvs=b''):
+    return number(kind, 2) + number(4 + len(tlvs), 2) + number(message_id, 4) + tlvs
+
+
+def label_message(kind, message_id, element, label):
+    return ldp(kind, message_id, wide_tlv(0x100, element) + wide_tlv(0x200, number(label, 4)))
+
+
+def wide_tlv(kind, value):
+    return number(kind, 2) + number(len(value), 2) + value
+
+
+MCAST_IPV4, VPN_IPV4 = number(1, 2) + b'\5', number(1, 2) + b'\x80'
+TARGET, IMPORT, SOURCE_AS = (bytes.fromhex(c) for c in ('0002fde800000001', '010bc00002010001', '0009fde800000000'))
+
+BGPS = {
+    'open': bgp(1, b'\4' + number(65000, 2) + number(180, 2) + addr('192.0.2.1') + b'\0'),
+    'notification': bgp(3, b'\6\2'),
+    'keepalive': bgp(4),
+    'refresh': bgp(5, number(1, 2) + b'\0\5'),
+    'intra': announce(MCAST_IPV4, '192.0.2.1', ROUTES['intra'], [TARGET], PMSIS['mldp']),
+    'selective': announce(MCAST_IPV4, '192.0.2.1', ROUTES['selective-any-any'], [TARGET], PMSIS['mldp-leaf']),
+    'active': announce(MCAST_IPV4, '192.0.2.1', ROUTES['active'], [TARGET]),
+    'source': announce(MCAST_IPV4, '192.0.2.2', ROUTES['source'], [IMPORT]),
+    'no-communities': announce(MCAST_IPV4, '192.0.2.2', ROUTES['source']),
+    'many-communities': announce(MCAST_IPV4, '192.0.2.2', ROUTES['source'], [TARGET, IMPORT, SOURCE_AS] * 12),
+    'unicast': announce(VPN_IPV4, '192.0.2.1', vpn_ipv4(0x31, RD_0, '10.1.0.0', 16), [TARGET, IMPORT, SOURCE_AS]),
+    'unicast-20': announce(VPN_IPV4, '192.0.2.1', vpn_ipv4(0x31, RD_1, '10.1.16.0', 20), [TARGET]),
+    'unicast-32': announce(VPN_IPV4, '192.0.2.1', vpn_ipv4(0x31, RD_2, '10.1.2.3', 32), [TARGET]),
+    'withdraw-source': withdraw(MCAST_IPV4, ROUTES['source']),
+    'withdraw-unicast': withdraw(VPN_IPV4, vpn_ipv4(0x800000, RD_0, '10.1.0.0', 16)),
+}
+BGPS['all'] = b''.join(BGPS.values())
+
+LDPS = {
+    'mapping': pdu(label_message(0x400, 1, FECS['p2mp'], 16)),
+    'withdraw': pdu(label_message(0x402, 2, FECS['p2mp'], 1048575)),
+    'release': pdu(label_message(0x403, 4294967295, FECS['extended'], 300)),
+    'keepalive': pdu(ldp(0x201, 9)),
+    'two': pdu(label_message(0x400, 1, FECS['up'], 17), label_message(0x403, 2, FECS['down'], 18)),
+}
+LDPS['all'] = b''.join(LDPS.values())
+
+
+# ---- messages and packets of one value
 
 def update(flags, kind, value):
     """An UPDATE with one path attribute, which has an extended length (RFC 4271 section 4.3)."""
@@ -184,10 +277,23 @@ LABEL = 'bgp.update.path_attribute.mpls_label_value_20bits'
 LDP = 'ldp.msg.tlv.'
 ROUTE_WORDS = {1: 'intra', 2: 'inter', 3: 'selective', 5: 'active', 6: 'shared', 7: 'source'}
 FEC_WORDS = {6: 'p2mp', 7: 'up', 8: 'down'}
+REACH = 'bgp.update.path_attribute.mp_reach_nlri'
+UNREACH = 'bgp.update.path_attribute.mp_unreach_nlri'
+BGP_WORDS = {1: 'open', 3: 'notification', 4: 'keepalive', 5: 'refresh'}
+LDP_WORDS = {0x400: 'mapping', 0x402: 'withdraw', 0x403: 'release'}
 
 
 class Told(dict):
     """The fields of one value, by name. A field that tshark did not tell is a KeyError."""
+
+    def __init__(self):
+        super().__init__()
+        self.fields = []
+
+    def add(self, field):
+        """The first field of a name stands for it; `fields` has all of them."""
+        self.setdefault(field.get('name'), field)
+        self.fields.append(field)
 
     def number(self, name):
         return int(self[name].get('show'), 0)
@@ -246,6 +352,44 @@ def pmsi_line(told):
     return f'pmsi {leaf} {kind} {told.number(LABEL) or "-"} {identifier_text(kind, told)}'
 
 
+def communities_text(told):
+    """The octets of all communities, which tshark tells by type, sub-type and parts of the value."""
+    parts = re.compile(r'bgp\.ext_com\.(type|stype_\w+|value_\w+)$')
+    octets = ''.join(f.get('value') for f in told.fields if parts.match(f.get('name')))
+    return ','.join(octets[i:i + 16] for i in range(0, len(octets), 16)) or '-'
+
+
+def tunnel_octets(told):
+    """The octets of an attribute whose tunnel is an mLDP P2MP LSP."""
+    if PMSI + 'tunnel.type' not in told:
+        return '-'
+    return told.inside(PMSI + 'tunnel.flags', PMSI + 'tunnel.type') + told[LABEL].get('unmaskedvalue') + told.inside(PMSI + 'mldp.')
+
+
+def nlri_text(told, safi, prefix):
+    if told.number(safi) == 5:
+        return 'ipv4 ' + route_line(told)
+    return f'unicast {told.octets("bgp.rd")} {told.addr(prefix)}/{told.number("bgp.prefix_length") - 88}'
+
+
+def bgp_line(told):
+    kind = told.number('bgp.type')
+    if kind != 2:
+        return BGP_WORDS[kind]
+    if REACH + '.safi' in told:
+        hop = told.addr(REACH + '.next_hop.ipv4')
+        key = nlri_text(told, REACH + '.safi', 'bgp.mp_reach_nlri_ipv4_prefix')
+        return f'update\nreach {hop} {communities_text(told)} {tunnel_octets(told)} {key}'
+    return f'update\nunreach {nlri_text(told, UNREACH + ".safi", "bgp.mp_unreach_nlri_ipv4_prefix")}'
+
+
+def ldp_line(told):
+    kind = told.number('ldp.msg.type')
+    if kind not in LDP_WORDS:
+        return f'ignored {kind}'
+    return f'{LDP_WORDS[kind]} {told.number(LDP + "generic.label")} {fec_line(told)}'
+
+
 def fec_line(told):
     word = FEC_WORDS[told.number(LDP + 'fec.type')]
     return f'{word} {told.addr(LDP + "ldp_p2mp.ipv4_rtnodeaddr")} {told.octets(LDP + "ldp_p2mp.opvalue") or "-"}'
@@ -256,6 +400,8 @@ COMMANDS = {
     'nlri': (ROUTES, 179, reach, NLRI + '_route_type', route_line),
     'pmsi': (PMSIS, 179, tunnel, PMSI + 'tunnel.flags', pmsi_line),
     'fec': (FECS, 646, label_mapping, LDP + 'fec.type', fec_line),
+    'bgp': (BGPS, 179, bytes, 'bgp.marker', bgp_line),
+    'ldp': (LDPS, 646, bytes, 'ldp.msg.ubit', ldp_line),
 }
 
 
@@ -289,7 +435,7 @@ def lines_of(command, octets):
             if field.get('name') == first:
                 values.append(Told())
             if values:
-                values[-1].setdefault(field.get('name'), field)
+                values[-1].add(field)
         lines.append([line_of(line, told) for told in values])
     return lines
 

@@ -4,5 +4,4 @@ pub mod Headers
 pub mod Messages
 pub mod Feeding
 pub mod Appending
-pub mod Prefixes
 pub mod ReadsBack

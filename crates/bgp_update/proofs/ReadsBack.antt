@@ -1,10 +1,10 @@
 -- What is written spells the change.
-use Rattle.std.proofs.Common.{◌≡◌, ◌≢◌, ℕ, ◌+◌, ◌^◌, ◌<◌, ◌≤◌, Bool, true, false, cond, ltb, inl, inr, List, [], ◌∷◌, ◌++◌, length, take, replicate, Option, Some, None, refl, sym, ap, subst, ◌∙◌, arith}
+use Rattle.std.proofs.Common.{◌≡◌, ◌≢◌, ℕ, ◌+◌, ◌^◌, ◌<◌, ◌≤◌, Bool, true, false, cond, ltb, inl, inr, List, [], ◌∷◌, ◌++◌, length, replicate, Option, Some, None, refl, sym, ap, subst, ◌∙◌, arith}
 use Rattle.std.specs.List.{AllByRecursion}
 use Rattle.std.specs.Int.{w16, w32, to_be_bytes}
 use Rattle.std.specs.Int.Bits.{bit_or}
 use Rattle.std.proofs.lemmas.Bool.{ltb-false}
-use Rattle.std.proofs.lemmas.List.{append-nil, length-append, length-take-le}
+use Rattle.std.proofs.lemmas.List.{append-nil, length-append}
 use Rattle.mv_base.specs.Octets.{IsOctets}
 use Rattle.mv_base.specs.Address.{addr_octets, IsAddr}
 use Rattle.mv_base.specs.declared.addr.Addr.{Addr}
@@ -34,24 +34,12 @@ use Rattle.bgp_update.specs.Reading.{message_front}
 use Rattle.bgp_update.specs.Table.{key_of}
 use Rattle.bgp_update.specs.Written.{attribute_head, attribute, family_of, hop_of, vpn_text, key_text, advertised, withdrawn, comms_octets, reach_value, unreach_value, tunnel_text, advert_text, attributes_of, message_text, written, update_of, IsVpnPrefix, IsWritableKey, HasOctets, IsTunnel, IsWritableAdvert, IsWritable}
 use Rattle.bgp_update.proofs.Messages.{messages_framed}
-use Rattle.bgp_update.proofs.Prefixes.{address_is}
+use Rattle.bgp_attributes.proofs.PrefixLemmas.{prefix_spelled}
 
 -- ---- keys
 
-few_octets : (bits : ℕ) → bits ≤ 32 → octets_for bits ≤ 4
-few_octets bits le = omega (arith, le)
-
 spells_vpn : (label : List ℕ) (rd : Rd) (addr : Addr) (bits : ℕ) → length label ≡ 3 → length rd.0 ≡ 8 → IsVpnPrefix addr bits → IsOctets (addr_octets addr) → SpellsVpn rd (record { addr = addr; bits = bits }) (vpn_text label rd (record { addr = addr; bits = bits }))
-spells_vpn label rd (V4 octets) bits three eight (len, is) fits = record {
-  label = label;
-  octets = take (octets_for bits) octets;
-  label_len = three;
-  rd_len = eight;
-  bits = is.0;
-  octets_len = length-take-le (octets_for bits) octets (omega (arith, few_octets bits is.0, len));
-  parts = refl;
-  addr = address_is octets bits len fits is;
-}
+spells_vpn label rd (V4 octets) bits three eight (len, is) fits = prefix_spelled rd bits octets label eight three len fits is
 spells_vpn label rd (V6 octets) bits three eight is fits = absurd is
 
 key_spelled : (label : List ℕ) (key : Key) → length label ≡ 3 → IsWritableKey key → HasOctets key → SpellsKey (family_of key) key (key_text label key)

@@ -1,0 +1,76 @@
+-- The first fault of octets: whole fields that meet their conditions stand before its place, and the next one fails.
+use Rattle.std.specs.Prelude.{◌≡◌, ◌≢◌, ℕ, ◌+◌, ◌/◌, ◌%◌, ◌<◌, ◌≤◌, List, ◌∷◌, ◌++◌, length}
+use Rattle.std.specs.Int.{w16, to_be_bytes}
+use Rattle.mv_base.specs.Checksum.{checksum}
+use Rattle.pim_joinprune.specs.declared.fault.PimFault.{PimFault}
+use Rattle.pim_joinprune.specs.declared.fault.PimFault.TheVariants as reasons
+use Rattle.pim_joinprune.specs.Fields.{IsOctet, IsKnown, IsNumber, AreFour, AreCounted, Lacks, FieldFails, Then, AllFail}
+use Rattle.pim_joinprune.specs.Spelling.{BeginsMulticast, SpellsUnicast, IsKind, SpellsGroupAddress, SpellsSource, SpellsGroup, SpellsFields}
+
+-- an octet that has one value alone
+abbrev pub KnownFails : ℕ → PimFault → List ℕ → ℕ → PimFault → Type 0
+KnownFails value own = FieldFails IsOctet (Lacks 1) (λ octet. octet ≢ value) own
+
+-- family and encoding, and behind them an address
+abbrev pub UnicastFails : List ℕ → ℕ → PimFault → Type 0
+UnicastFails =
+    Then (IsKnown 1) (KnownFails 1 reasons.Family) (λ family.
+    Then (IsKnown 0) (KnownFails 0 reasons.Encoding) (λ encoding. Lacks 4))
+
+-- the flag W without the flag R
+abbrev pub KindFails : List ℕ → ℕ → PimFault → Type 0
+KindFails = FieldFails IsOctet (Lacks 1) (λ flags. flags % 4 ≡ 2) reasons.Flags
+
+-- family, encoding, flags, mask length, and address
+abbrev pub SourceFails : List ℕ → ℕ → PimFault → Type 0
+SourceFails =
+    Then (IsKnown 1) (KnownFails 1 reasons.Family) (λ family.
+    Then (IsKnown 0) (KnownFails 0 reasons.Encoding) (λ encoding.
+    Then IsKind KindFails (λ kind.
+    Then (IsKnown 32) (KnownFails 32 reasons.MaskLength) (λ mask. Lacks 4))))
+
+-- an address that is multicast
+abbrev pub MulticastFails : List ℕ → ℕ → PimFault → Type 0
+MulticastFails = FieldFails AreFour (Lacks 4) (λ octets. ¬ (BeginsMulticast octets)) reasons.NotMulticast
+
+-- family, encoding, flags that may be anything, mask length, and address
+abbrev pub GroupAddressFails : List ℕ → ℕ → PimFault → Type 0
+GroupAddressFails =
+    Then (IsKnown 1) (KnownFails 1 reasons.Family) (λ family.
+    Then (IsKnown 0) (KnownFails 0 reasons.Encoding) (λ encoding.
+    Then IsOctet (Lacks 1) (λ flags.
+    Then (IsKnown 32) (KnownFails 32 reasons.MaskLength) (λ mask. MulticastFails))))
+
+-- the group, the two counts, and the sources
+abbrev pub GroupFails : List ℕ → ℕ → PimFault → Type 0
+GroupFails =
+    Then SpellsGroupAddress GroupAddressFails (λ group.
+    Then IsNumber (Lacks 2) (λ joined.
+    Then IsNumber (Lacks 2) (λ pruned.
+    Then (AreCounted SpellsSource joined) (AllFail SpellsSource SourceFails joined) (λ joins. AllFail SpellsSource SourceFails pruned))))
+
+-- neighbour, an octet that may be anything, number of groups, holdtime, and the groups
+abbrev pub FieldsFail : List ℕ → ℕ → PimFault → Type 0
+FieldsFail =
+    Then SpellsUnicast UnicastFails (λ neighbour.
+    Then IsOctet (Lacks 1) (λ reserved.
+    Then IsOctet (Lacks 1) (λ count.
+    Then IsNumber (Lacks 2) (λ holdtime. AllFail SpellsGroup GroupFails count))))
+
+-- octets stand behind the last group
+pub record Trails (octets : List ℕ) (left : ℕ) (fault : PimFault) : Type 0 where
+  pub more : 0 < length octets
+  pub at : left ≡ length octets
+  pub is : fault ≡ reasons.Trailing
+
+-- all that stands behind the checksum
+abbrev pub RestFails : List ℕ → ℕ → PimFault → Type 0
+RestFails = Then SpellsFields FieldsFail (λ message. Trails)
+
+-- The first fault of all the octets, and its place.
+pub data FirstFault (octets : List ℕ) (place : ℕ) (fault : PimFault) : Type 0 where
+  short : length octets < 4 → place ≡ length octets → fault ≡ reasons.Short → FirstFault octets place fault
+  version : (first : ℕ) (rest : List ℕ) → octets ≡ first ∷ rest → 3 ≤ length rest → first / 16 ≢ 2 → place ≡ 0 → fault ≡ reasons.Version → FirstFault octets place fault
+  type : (first : ℕ) (rest : List ℕ) → octets ≡ first ∷ rest → 3 ≤ length rest → first / 16 ≡ 2 → first % 16 ≢ 3 → place ≡ 0 → fault ≡ reasons.PimType → FirstFault octets place fault
+  sum : (reserved : ℕ) (sum fields : List ℕ) → octets ≡ 0x23 ∷ reserved ∷ (sum ++ fields) → length sum ≡ 2 → sum ≢ to_be_bytes w16 (checksum (0x23 ∷ reserved ∷ 0 ∷ 0 ∷ fields)) → place ≡ 2 → fault ≡ reasons.Checksum → FirstFault octets place fault
+  field : (reserved : ℕ) (fields : List ℕ) (left : ℕ) → octets ≡ 0x23 ∷ reserved ∷ (to_be_bytes w16 (checksum (0x23 ∷ reserved ∷ 0 ∷ 0 ∷ fields)) ++ fields) → RestFails fields left fault → place + left ≡ length octets → FirstFault octets place fault

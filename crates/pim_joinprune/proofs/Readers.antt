@@ -18,6 +18,10 @@ pub record IsReader {A : Type 0} (read : List ℕ → Read A) (Spells : A → Li
 pub rest_octets : (octets text rest : List ℕ) → IsOctets octets → octets ≡ text ++ rest → IsOctets rest
 rest_octets octets text rest fits parts = subst IsOctets (drop_at text rest (length text) refl) (octets_behind (length text) (text ++ rest) (subst IsOctets parts fits))
 
+-- Two texts at the front are one.
+two_fronts : (octets front after back rest : List ℕ) → octets ≡ front ++ after → after ≡ back ++ rest → octets ≡ (front ++ back) ++ rest
+two_fronts octets front after back rest first second = first ∙ ap (λ (xs : List ℕ). front ++ xs) second ∙ sym (append_assoc front back rest)
+
 -- No answer is both a value and a fault.
 apart : {A E : Type 0} (r : Result A E) (x : A) (e : E) → r ≡ Ok x → r ≡ Err e → ⊥
 apart (Ok y) x e p q = absurd cc
@@ -70,7 +74,7 @@ then_reader {A} {B} r S F s T G one two = record { taken = taken; again = again;
         let a = bind_ok (r octets) (λ x. s x.0 x.1) y e in
         let p = one.taken octets a.0 fits a.1 in
         let q = (two a.0.0).taken a.0.1 y (rest_octets octets p.0 a.0.1 fits p.2) a.2 in
-        (p.0 ++ q.0, record { x = a.0.0; front = p.0; back = q.0; first = p.1; second = q.1; parts = refl }, p.2 ∙ ap (λ (xs : List ℕ). p.0 ++ xs) q.2 ∙ sym (append_assoc p.0 q.0 y.1))
+        (p.0 ++ q.0, record { x = a.0.0; front = p.0; back = q.0; first = p.1; second = q.1; parts = refl }, two_fronts octets p.0 a.0.1 q.0 y.1 p.2 q.2)
 
     again : (y : B) (text rest : List ℕ) → Both S T y text → then_at r s (text ++ rest) ≡ Ok (y, rest)
     again y text rest b =
@@ -196,6 +200,9 @@ all_behind : {A : Type 0} (r : List ℕ → Read A) (n : ℕ) (octets : List ℕ
 unfolding all_at
 all_behind r n octets x after f e g = rw (e, g) refl
 
+counted_more : {A : Type 0} (S : A → List ℕ → Type 0) (n : ℕ) (x : A) (xs : List A) (first others : List ℕ) → S x first → AreCounted S n xs others → AreCounted S (suc n) (x ∷ xs) (first ++ others)
+counted_more S n x xs first others spells h = record { count = ap suc h.count; each = (first, others, spells, h.each, refl) }
+
 all_taken : {A : Type 0} (r : List ℕ → Read A) (S : A → List ℕ → Type 0) (F : List ℕ → ℕ → PimFault → Type 0) → IsReader r S F → (n : ℕ) (octets : List ℕ) (y : List A × List ℕ) → IsOctets octets → all_at r n octets ≡ Ok y → (text : List ℕ) × AreCounted S n y.0 text × (octets ≡ text ++ y.1)
 unfolding all_at
 all_taken {A} r S F reader zero octets y fits e =
@@ -207,7 +214,7 @@ all_taken {A} r S F reader (suc n) octets y fits e =
     let q = all_taken r S F reader n a.0.1 b.0 (rest_octets octets p.0 a.0.1 fits p.2) b.1 in
     let made : List A × List ℕ = (a.0.0 ∷ b.0.0, b.0.1) in
     subst (λ (z : List A × List ℕ). (text : List ℕ) × AreCounted S (suc n) z.0 text × (octets ≡ text ++ z.1)) (ok_is made y b.2)
-    (p.0 ++ q.0, record { count = ap suc q.1.count; each = (p.0, q.0, p.1, q.1.each, refl) }, p.2 ∙ ap (λ (xs : List ℕ). p.0 ++ xs) q.2 ∙ sym (append_assoc p.0 q.0 b.0.1))
+    (p.0 ++ q.0, counted_more S n a.0.0 b.0.0 p.0 q.0 p.1 q.1, two_fronts octets p.0 a.0.1 q.0 b.0.1 p.2 q.2)
 
 all_again : {A : Type 0} (r : List ℕ → Read A) (S : A → List ℕ → Type 0) (F : List ℕ → ℕ → PimFault → Type 0) → IsReader r S F → (xs : List A) (text rest : List ℕ) → AreAll S xs text → all_at r (length xs) (text ++ rest) ≡ Ok (xs, rest)
 unfolding all_at
@@ -222,7 +229,7 @@ one_more S F n octets x text after left fault spells parts h = record {
   text = text ++ h.text;
   rest = h.rest;
   stand = (text, h.text, spells, h.stand, refl);
-  parts = parts ∙ ap (λ (xs : List ℕ). text ++ xs) h.parts ∙ sym (append_assoc text h.text h.rest);
+  parts = two_fronts octets text after h.text h.rest parts h.parts;
   few = omega (arith, h.few);
   fails = h.fails;
 }

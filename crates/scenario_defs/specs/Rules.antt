@@ -11,8 +11,14 @@ use Rattle.scenario_defs.specs.declared.event.Timed.{Timed}
 use Rattle.scenario_defs.specs.declared.event.Script.{Script}
 use Rattle.scenario_defs.specs.declared.event.Event.{Event}
 use Rattle.scenario_defs.specs.declared.event.Event.TheVariants as events
+use Rattle.scenario_defs.specs.declared.event.JoinEntry.{JoinEntry}
 use Rattle.scenario_defs.specs.declared.event.JoinEntry.TheVariants as entries
 use Rattle.scenario_defs.specs.Vpn.{same_vpn}
+
+-- an address of IPv4
+abbrev pub IsIpv4 : Addr → Type 0
+IsIpv4 (V4 octets) = length octets ≡ 4
+IsIpv4 (V6 octets) = ⊥
 
 -- The rules of a scenario. `vpn` and `mixed` speak of each pair once, in order of declaration.
 pub record Rules (scenario : Scenario) : Type 0 where
@@ -27,26 +33,41 @@ pub record Rules (scenario : Scenario) : Type 0 where
   pub vpn : (v w : ℕ) (vrf other : Vrf) → v < w → slice_get scenario.vrfs v ≡ Some vrf → slice_get scenario.vrfs w ≡ Some other → vrf.edge.0 ≡ other.edge.0 → same vrf.targets other.targets ≡ false
   pub vrf_known : (i : ℕ) (iface : Iface) → slice_get scenario.ifaces i ≡ Some iface → iface.vrf.0 < length scenario.vrfs
   pub site_known : (i : ℕ) (iface : Iface) → slice_get scenario.ifaces i ≡ Some iface → iface.site.0 < length scenario.sites
+  pub iface_ipv4 : (i : ℕ) (iface : Iface) → slice_get scenario.ifaces i ≡ Some iface → IsIpv4 iface.addr
   -- all interfaces of a site are in VRFs of one VPN
   pub mixed : (i j : ℕ) (iface other : Iface) → i < j → slice_get scenario.ifaces i ≡ Some iface → slice_get scenario.ifaces j ≡ Some other → iface.site.0 ≡ other.site.0 → same_vpn scenario iface.vrf other.vrf ≡ true
 
 -- A source is an IPv4 address whose first octet is 1 to 223.
 abbrev pub IsSource : Addr → Type 0
-IsSource (V4 octets) = (1 ≤ slice_index octets 0) × (slice_index octets 0 ≤ 223)
+IsSource (V4 octets) = (length octets ≡ 4) × (1 ≤ slice_index octets 0) × (slice_index octets 0 ≤ 223)
 IsSource (V6 octets) = ⊥
 
 -- A group is an IPv4 address whose first octet is 224 to 239, outside 224.0.0.0/24 (RFC 5771 section 4).
 abbrev pub IsGroup : Addr → Type 0
-IsGroup (V4 octets) = (224 ≤ slice_index octets 0) × (slice_index octets 0 ≤ 239) × (slice_index octets 0 ≡ 224 → slice_index octets 1 ≡ 0 → slice_index octets 2 ≡ 0 → ⊥)
+IsGroup (V4 octets) = (length octets ≡ 4) × (224 ≤ slice_index octets 0) × (slice_index octets 0 ≤ 239) × (slice_index octets 0 ≡ 224 → slice_index octets 1 ≡ 0 → slice_index octets 2 ≡ 0 → ⊥)
 IsGroup (V6 octets) = ⊥
 
--- The most octets of a payload: a line has at most 4,096 octets.
+-- The most octets that a line gives in hexadecimal digits: a line has at most 4,096 octets.
 abbrev pub payload_limit : ℕ
 payload_limit = 2048
 
+-- What a join or a prune names.
+abbrev pub IsEntry : JoinEntry → Type 0
+IsEntry (entries.Star group) = IsGroup group
+IsEntry (entries.Source source group) = IsSource source × IsGroup group
+IsEntry (entries.Rpt source group) = IsSource source × IsGroup group
+
+-- the most ticks of one event
+abbrev pub tick_limit : ℕ
+tick_limit = 1000000
+
 -- The event is of a line that is built, and names things of the scenario.
 abbrev pub IsEventOf : Scenario → Event → Type 0
-IsEventOf scenario (events.Join iface (entries.Source source group)) = (iface.0 < length scenario.ifaces) × IsSource source × IsGroup group
+IsEventOf scenario (events.Tick count) = (1 ≤ count) × (count ≤ tick_limit)
+IsEventOf scenario (events.Timers node) = node.0 < length scenario.nodes
+IsEventOf scenario (events.Join iface entry) = (iface.0 < length scenario.ifaces) × IsEntry entry
+IsEventOf scenario (events.Prune iface entry) = (iface.0 < length scenario.ifaces) × IsEntry entry
+IsEventOf scenario (events.Pim iface bytes) = (iface.0 < length scenario.ifaces) × (length bytes ≤ payload_limit)
 IsEventOf scenario (events.Send site source group payload) = (site.0 < length scenario.sites) × IsSource source × IsGroup group × (length payload ≤ payload_limit)
 IsEventOf scenario events.Drain = Unit {0}
 IsEventOf scenario events.State = Unit {0}

@@ -10,7 +10,7 @@ pub enum Kind {
 }
 
 /// What a join or a prune names (RFC 7761 section 4.9.5).
-#[derive(Clone, Copy, Debug, PartialEq, Eq)]
+#[derive(Clone, Copy, Debug, PartialEq, Eq, Hash)]
 pub enum JoinEntry {
     /// (*,G)
     Star { group: Addr },

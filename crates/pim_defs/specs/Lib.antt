@@ -1,0 +1,5 @@
+pub mod Expiry
+pub mod Mention
+pub mod Asking
+pub mod Entries
+pub mod Single

@@ -1,3 +1,4 @@
+pub mod Messages
 pub mod Past
 pub mod Packet
 pub mod Report

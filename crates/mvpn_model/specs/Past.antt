@@ -1,20 +1,28 @@
--- What the events so far mean: which flows are joined, and who receives a flow (RFC 7761 section 4.1.6).
-use Rattle.std.specs.Prelude.{ℕ, ◌==◌, ◌&&◌, Bool, false, not, List, [], take, None, Some, if◌then◌else◌}
-use Rattle.std.specs.List.{list_any}
+-- What the events so far mean: which entries stand, and who receives a flow.
+use Rattle.std.specs.Prelude.{ℕ, ◌+◌, ◌==◌, ◌&&◌, Bool, false, not, List, [], ◌∷◌, take, slice_get, Option, None, Some, if◌then◌else◌}
+use Rattle.std.specs.List.{list_any, fold}
+use Rattle.mv_base.specs.declared.ids.NodeId.{NodeId}
 use Rattle.mv_base.specs.declared.ids.IfaceId.{IfaceId}
 use Rattle.mv_base.specs.declared.ids.SiteId.{SiteId}
 use Rattle.mv_base.specs.declared.ids.VrfId.{VrfId}
 use Rattle.mv_base.specs.declared.addr.Addr.{Addr}
-use Rattle.mv_base.specs.Address.{same_addr}
 use Rattle.scenario_defs.specs.declared.scenario.Iface.{Iface}
 use Rattle.scenario_defs.specs.declared.scenario.Scenario.{Scenario}
 use Rattle.scenario_defs.specs.declared.event.Timed.{Timed}
 use Rattle.scenario_defs.specs.declared.event.Event.{Event}
 use Rattle.scenario_defs.specs.declared.event.Event.TheVariants as events
+use Rattle.scenario_defs.specs.declared.event.JoinEntry.{JoinEntry}
 use Rattle.scenario_defs.specs.declared.event.JoinEntry.TheVariants as entries
 use Rattle.scenario_defs.specs.Vpn.{same_vpn, is_of_site, vrf_of_site, ifaces_where}
 use Rattle.scenario_defs.specs.Home.{home}
+use Rattle.pim_defs.specs.declared.expiry.Expiry.{Expiry}
+use Rattle.pim_defs.specs.Expiry.{remaining}
+use Rattle.pim_defs.specs.Mention.{mention_of, expiry_after}
+use Rattle.pim_defs.specs.Asking.{asks_by}
 use Rattle.mvpn_model.specs.declared.history.History.{History}
+use Rattle.mvpn_model.specs.declared.message.Given.{Given}
+use Rattle.mvpn_model.specs.declared.standing.Standing.{Standing}
+use Rattle.mvpn_model.specs.Messages.{message_of}
 
 -- the scenario, the events so far, and the lines of those that were refused
 pub record Past : Type 0 where
@@ -30,20 +38,59 @@ past_of history = record { scenario = history.script.now.scenario; events = take
 abbrev pub is_accepted : List ℕ → Timed → Bool
 is_accepted refused timed = not (list_any (λ line. line == timed.line) refused)
 
--- whether the event joins (S,G) at the interface
-abbrev pub is_join : IfaceId → Addr → Addr → Event → Bool
-is_join iface source group (events.Join joined (entries.Source joined_source joined_group)) =
-    (joined.0 == iface.0) && same_addr joined_source source && same_addr joined_group group
-is_join iface source group other = false
+-- ---- joined state
 
--- whether (S,G) is joined at the interface: an accepted event joined it. No event of a built line moves the clock, so
--- no entry expires.
-abbrev pub joined : Past → IfaceId → Addr → Addr → Bool
-joined past iface source group = list_any (λ timed. is_accepted past.refused timed && is_join iface source group timed.event) past.events
+-- the ticks by which an event moves the clock
+abbrev pub ticks_of : Event → ℕ
+ticks_of (events.Tick count) = count
+ticks_of other = 0
 
--- whether the interface asks for (S,G)
+abbrev pub ticks_in : List Timed → ℕ
+ticks_in [] = 0
+ticks_in (timed ∷ more) = ticks_of timed.event + ticks_in more
+
+-- whether the interface is one of the edge
+abbrev pub is_of_edge : Scenario → NodeId → IfaceId → Bool
+is_of_edge scenario node iface = elim (slice_get scenario.ifaces iface.0) [
+  | None ↦ false
+  | Some found ↦ elim (slice_get scenario.vrfs found.vrf.0) [ None ↦ false | Some vrf ↦ vrf.edge.0 == node.0 ]
+]
+
+-- the expiry of an entry of the interface behind a message that is taken at the clock
+abbrev pub expiry_given : IfaceId → JoinEntry → ℕ → Option Expiry → Option Given → Option Expiry
+expiry_given iface entry clock old None = old
+expiry_given iface entry clock old (Some given) =
+    if iface.0 == given.iface.0 then expiry_after entry (mention_of given.message entry) clock given.message.holdtime old else old
+
+-- What an accepted event at that clock makes of the expiry of an entry of the interface: a run of its edge's timers ends
+-- it where it has come, a restart of its edge ends it, and a message changes it.
+abbrev pub expiry_by : Scenario → IfaceId → JoinEntry → ℕ → Event → Option Expiry → Option Expiry
+expiry_by scenario iface entry clock (events.Timers node) old = if is_of_edge scenario node iface then remaining clock old else old
+expiry_by scenario iface entry clock (events.Restart node) old = if is_of_edge scenario node iface then None else old
+expiry_by scenario iface entry clock event old = expiry_given iface entry clock old (message_of scenario event)
+
+-- the clock and the entry's expiry behind an event, by those before it; a refused event changes neither
+abbrev pub stands_after : Scenario → List ℕ → IfaceId → JoinEntry → Standing → Timed → Standing
+stands_after scenario refused iface entry old timed =
+    if is_accepted refused timed then record { clock = old.clock + ticks_of timed.event; expiry = expiry_by scenario iface entry old.clock timed.event old.expiry } else old
+
+-- The clock, and the expiry of an entry of the interface, behind all events. At first the clock is 0 and no entry is
+-- there.
+abbrev pub standing : Past → IfaceId → JoinEntry → Standing
+standing past iface entry = fold (stands_after past.scenario past.refused iface entry) (record { clock = 0; expiry = None }) past.events
+
+-- whether S is known to send to G: no line notes that yet
+abbrev pub is_active : Past → IfaceId → Addr → Addr → Bool
+is_active past iface source group = false
+
+-- Whether the interface asks for (S,G): (S,G) is joined there; or (*,G) is joined, (S,G) is not pruned off the shared
+-- tree, and S is known to send to G (RFC 7761 section 4.1.6).
 abbrev pub asks : Past → IfaceId → Addr → Addr → Bool
-asks past iface source group = joined past iface source group
+asks past iface source group =
+    let joined = standing past iface (entries.Source source group) in
+    asks_by joined.clock (is_active past iface source group) joined.expiry (standing past iface (entries.Star group)).expiry (standing past iface (entries.Rpt source group)).expiry
+
+-- ---- who receives a flow
 
 -- whether the site is the home of the source in the VRF's VPN
 abbrev pub is_home : Scenario → VrfId → Addr → SiteId → Bool

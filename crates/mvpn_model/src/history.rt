@@ -1,16 +1,20 @@
 //! Histories of events, and what they mean.
-ghost use Rattle.std.specs.Prelude.{◌≡◌, ◌≤◌, ◌^◌, ◌&&◌, ◌==◌, length, IfOk, IfSome, IfNone};
-ghost use Rattle.std.specs.List.{list_any};
+ghost use Rattle.std.specs.Prelude.{◌≡◌, ◌<◌, ◌≤◌, ◌^◌, length, IfOk, IfSome, IfNone};
 ghost use Rattle.scenario_defs.specs.Rules.{Rules};
 ghost use Rattle.scenario_defs.specs.Home.{home, routes, IsLongest, IsUncovered};
 ghost use Rattle.scenario_defs.specs.Vpn.{ifaces_where};
-ghost use Rattle.mvpn_model.specs.Past.{past_of, is_accepted, is_join, asks, receives, receivers, is_home};
+ghost use Rattle.mvpn_model.specs.Past.{past_of, ticks_in, standing, asks, receives, receivers, is_home};
 
 use crate::routing::longest_route;
+use crate::standing::{Followed, Standing, stand_behind};
 use crate::vpn::vrf_of_site;
 use mv_base::{Addr, IfaceId, NoMemory, Seq, SiteId, VrfId};
-use scenario_defs::{Event, Iface, IfaceList, JoinEntry, Scenario, Script, Timed, same_vpn};
+use pim_defs::asks_by;
+use scenario_defs::{Iface, IfaceList, JoinEntry, Scenario, Script, same_vpn};
 use std::alloc::Global;
+
+/// Whether a source is known to send: no line notes that yet.
+const ACTIVE: bool = false;
 
 /// Numbers of lines.
 pub type LineNumbers = Seq<u32>;
@@ -22,42 +26,6 @@ pub struct History<'a> {
     /// How many events there were so far.
     pub upto: u32,
     pub refused: &'a LineNumbers,
-}
-
-fn has_line(lines: &[u32], line: u32) -> bool
-    ensures { result ≡ list_any (λ other. other == line) lines.now }
-{
-    lines.iter().any(|other| *other == line)
-}
-
-/// Whether the event's line is none of the refused ones.
-fn is_accepted(refused: &[u32], timed: &Timed) -> bool
-    ensures { result ≡ is_accepted refused.now timed.now }
-{
-    !has_line(refused, timed.line)
-}
-
-/// Whether the event joins (S,G) at the interface.
-fn is_join(iface: IfaceId, source: Addr, group: Addr, event: &Event) -> bool
-    ensures { result ≡ is_join iface source group event.now }
-{
-    match event {
-        Event::Join {
-            iface: joined,
-            entry: JoinEntry::Source {
-                source: joined_source,
-                group: joined_group,
-            },
-        } => joined.0 == iface.0 && joined_source.same(source) && joined_group.same(group),
-        _ => false,
-    }
-}
-
-/// Whether the event was accepted and joins (S,G) at the interface.
-fn joins(refused: &[u32], timed: &Timed, iface: IfaceId, source: Addr, group: Addr) -> bool
-    ensures { result ≡ (is_accepted refused.now timed.now && is_join iface source group timed.now.event) }
-{
-    is_accepted(refused, timed) && is_join(iface, source, group, &timed.event)
 }
 
 /// The site that is home of the source in the VRF's VPN: that of the longest prefix that covers it, of the prefixes of
@@ -78,29 +46,43 @@ fn site_of_longest(scenario: &Scenario, vrf: VrfId, source: Addr) -> Option<Site
     longest_route(scenario, vrf, source).map(|route| route.site)
 }
 
-/// Whether the interface asks for (S,G). It takes no memory yet.
+/// Where an entry of the interface stands behind the history.
+fn stands(
+    alloc: Global,
+    history: &History<'_>,
+    iface: IfaceId,
+    entry: JoinEntry,
+) -> Result<Standing, NoMemory>
+    requires upto { history.now.upto ≤ length history.now.script.now.events }
+    requires clock { ticks_in (past_of history.now).events < 2 ^ 63 }
+    ensures { IfOk result (λ found. found ≡ standing (past_of history.now) iface entry) }
+{
+    let events = &history.script.events.as_slice()[..history.upto as usize];
+    let followed = Followed {
+        scenario: &history.script.scenario,
+        refused: history.refused.as_slice(),
+        iface,
+        entry,
+    };
+    stand_behind(alloc, &followed, events)
+}
+
+/// Whether the interface asks for (S,G) (RFC 7761 section 4.1.6).
 pub fn asks(
-    _alloc: Global,
+    alloc: Global,
     history: &History<'_>,
     iface: IfaceId,
     source: Addr,
     group: Addr,
 ) -> Result<bool, NoMemory>
-    requires { history.now.upto ≤ length history.now.script.now.events }
+    requires upto { history.now.upto ≤ length history.now.script.now.events }
+    requires clock { ticks_in (past_of history.now).events < 2 ^ 63 }
     ensures { IfOk result (λ answer. answer ≡ asks (past_of history.now) iface source group) }
 {
-    Ok(has_asked(history, iface, source, group))
-}
-
-fn has_asked(history: &History<'_>, iface: IfaceId, source: Addr, group: Addr) -> bool
-    requires { history.now.upto ≤ length history.now.script.now.events }
-    ensures { result ≡ asks (past_of history.now) iface source group }
-{
-    let events = &history.script.events.as_slice()[..history.upto as usize];
-    let refused = history.refused.as_slice();
-    events
-        .iter()
-        .any(|timed| joins(refused, timed, iface, source, group))
+    let joined = stands(alloc, history, iface, JoinEntry::Source { source, group })?;
+    let shared = stands(alloc, history, iface, JoinEntry::Star { group })?;
+    let pruned = stands(alloc, history, iface, JoinEntry::Rpt { source, group })?;
+    Ok(asks_by(joined.clock, ACTIVE, joined.expiry, shared.expiry, pruned.expiry))
 }
 
 /// Whether the site is the home of the source in the VRF's VPN.
@@ -116,6 +98,7 @@ fn is_home(history: &History<'_>, vrf: VrfId, source: Addr, site: SiteId) -> boo
 
 /// Whether an interface is of the VRF's VPN, belongs to another site, and asks for (S,G).
 fn receives(
+    alloc: Global,
     history: &History<'_>,
     vrf: VrfId,
     site: SiteId,
@@ -123,13 +106,17 @@ fn receives(
     group: Addr,
     number: IfaceId,
     iface: &Iface,
-) -> bool
-    requires { history.now.upto ≤ length history.now.script.now.events }
-    ensures { result ≡ receives (past_of history.now) vrf site source group number iface.now }
+) -> Result<bool, NoMemory>
+    requires upto { history.now.upto ≤ length history.now.script.now.events }
+    requires clock { ticks_in (past_of history.now).events < 2 ^ 63 }
+    ensures { IfOk result (λ answer. answer ≡ receives (past_of history.now) vrf site source group number iface.now) }
 {
-    same_vpn(&history.script.scenario, vrf, iface.vrf)
-        && iface.site.0 != site.0
-        && has_asked(history, number, source, group)
+    let elsewhere =
+        same_vpn(&history.script.scenario, vrf, iface.vrf) && iface.site.0 != site.0;
+    if !elsewhere {
+        return Ok(false);
+    }
+    asks(alloc, history, number, source, group)
 }
 
 /// The receivers of (S,G) from the site: where the site is attached to a VPN and is the home of S there, all interfaces
@@ -143,6 +130,7 @@ pub fn receivers(
 ) -> Result<IfaceList, NoMemory>
     requires rules { Rules history.now.script.now.scenario }
     requires upto { history.now.upto ≤ length history.now.script.now.events }
+    requires clock { ticks_in (past_of history.now).events < 2 ^ 63 }
     ensures { IfOk result (λ ifaces. ifaces ≡ receivers (past_of history.now) site source group) }
 {
     match vrf_of_site(&history.script.scenario, site) {
@@ -164,13 +152,14 @@ fn receiving(
 ) -> Result<IfaceList, NoMemory>
     requires rules { Rules history.now.script.now.scenario }
     requires upto { history.now.upto ≤ length history.now.script.now.events }
+    requires clock { ticks_in (past_of history.now).events < 2 ^ 63 }
     ensures { IfOk result (λ ifaces. ifaces ≡ ifaces_where (receives (past_of history.now) vrf site source group) 0 history.now.script.now.scenario.ifaces) }
 {
     let mut found = Seq::new(alloc);
     let ifaces = history.script.scenario.ifaces.as_slice();
     for (number, iface) in ifaces.iter().enumerate() {
         let id = IfaceId(number as u16);
-        if receives(history, vrf, site, source, group, id, iface) {
+        if receives(alloc, history, vrf, site, source, group, id, iface)? {
             found.push(id)?;
         }
     }

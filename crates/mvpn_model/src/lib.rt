@@ -3,9 +3,13 @@
 #![tactic(auto)]
 
 mod history;
+mod message;
 mod routing;
+mod standing;
 mod vpn;
 
 pub use history::{History, LineNumbers, asks, home, receivers};
+pub use message::{Given, message_of, own_addr};
 pub use routing::{home_among, routes};
+pub use standing::Standing;
 pub use vpn::{is_attached, vrf_of_site};

@@ -1,0 +1,69 @@
+//! The Join/Prune messages that events hand to an edge.
+ghost use Rattle.std.specs.Prelude.{◌≡◌, IfOk};
+ghost use Rattle.mvpn_model.specs.Messages.{own_addr, handed, read_at, message_of};
+
+use mv_base::{Addr, IfaceId, NoMemory};
+use pim_defs::{join_of, prune_of};
+use pim_joinprune::{DecodeFault, JoinPrune, decode};
+use scenario_defs::{Event, Scenario};
+use std::alloc::Global;
+
+/// A message that came to an interface.
+#[derive(Debug, Drop)]
+pub struct Given {
+    pub iface: IfaceId,
+    pub message: JoinPrune,
+}
+
+/// The address of an interface that is none of the scenario.
+const UNSPECIFIED: Addr = Addr::V4([0, 0, 0, 0]);
+
+/// The interface's own address; 0.0.0.0 where the scenario has no such interface.
+pub fn own_addr(scenario: &Scenario, iface: IfaceId) -> Addr
+    ensures { result ≡ own_addr scenario.now iface }
+{
+    match scenario.ifaces.as_slice().get(iface.0 as usize) {
+        Some(found) => found.addr,
+        None => UNSPECIFIED,
+    }
+}
+
+fn handed(iface: IfaceId, message: JoinPrune) -> Option<Given>
+    ensures { result ≡ handed iface message }
+{
+    Some(Given { iface, message })
+}
+
+/// The message that the octets spell.
+fn read_at(alloc: Global, iface: IfaceId, bytes: &[u8]) -> Result<Option<Given>, NoMemory>
+    ensures { IfOk result (λ found. found ≡ read_at iface bytes.now) }
+{
+    match decode(alloc, bytes) {
+        Ok(message) => Ok(handed(iface, message)),
+        Err(DecodeFault::Bad { place: _, fault: _ }) => Ok(None),
+        Err(DecodeFault::NoMemory) => Err(NoMemory),
+    }
+}
+
+/// The message that the event hands to the edge of an interface: that of a `join` or a `prune`, or the one that the
+/// octets of a `pim` spell.
+pub fn message_of(
+    alloc: Global,
+    scenario: &Scenario,
+    event: &Event,
+) -> Result<Option<Given>, NoMemory>
+    ensures { IfOk result (λ found. found ≡ message_of scenario.now event.now) }
+{
+    match event {
+        Event::Join { iface, entry } => {
+            let message = join_of(alloc, own_addr(scenario, *iface), entry)?;
+            Ok(handed(*iface, message))
+        }
+        Event::Prune { iface, entry } => {
+            let message = prune_of(alloc, own_addr(scenario, *iface), entry)?;
+            Ok(handed(*iface, message))
+        }
+        Event::Pim { iface, bytes } => read_at(alloc, *iface, bytes.as_slice()),
+        _ => Ok(None),
+    }
+}

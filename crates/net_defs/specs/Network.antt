@@ -1,6 +1,7 @@
 -- The state of the network, and what each event does to it.
-use Rattle.std.specs.Prelude.{ℕ, ◌+◌, ◌*◌, ◌-◌, ◌/◌, ◌==◌, ◌&&◌, not, nat_le, Bool, List, [], ◌∷◌, ◌++◌, length, map, count_by, if◌then◌else◌}
-use Rattle.std.specs.List.{list_any}
+use Rattle.std.specs.Prelude.{ℕ, ◌+◌, ◌*◌, ◌-◌, ◌/◌, ◌==◌, ◌&&◌, not, Bool, false, List, [], ◌∷◌, length, map, count_by, Option, None, Some, Ok, Err, if◌then◌else◌}
+use Rattle.std.specs.Option.{option_or}
+use Rattle.std.specs.FinMap.{empty}
 use Rattle.mv_base.specs.declared.ids.IfaceId.{IfaceId}
 use Rattle.mv_base.specs.declared.ids.SiteId.{SiteId}
 use Rattle.mv_base.specs.declared.ids.VrfId.{VrfId}
@@ -10,51 +11,82 @@ use Rattle.scenario_defs.specs.declared.scenario.Iface.{Iface}
 use Rattle.scenario_defs.specs.declared.scenario.Scenario.{Scenario}
 use Rattle.scenario_defs.specs.declared.event.Event.{Event}
 use Rattle.scenario_defs.specs.declared.event.Event.TheVariants as events
-use Rattle.scenario_defs.specs.declared.event.JoinEntry.TheVariants as entries
 use Rattle.scenario_defs.specs.declared.report.ReportLine.{ReportLine}
 use Rattle.scenario_defs.specs.declared.report.ReportLine.TheVariants as lines
+use Rattle.scenario_defs.specs.declared.report.Refusal.{Refusal}
 use Rattle.scenario_defs.specs.declared.report.Refusal.TheVariants as refusals
+use Rattle.scenario_defs.specs.declared.report.FaultWord.{FaultWord}
+use Rattle.scenario_defs.specs.declared.report.FaultWord.TheVariants as words
 use Rattle.scenario_defs.specs.Vpn.{is_of_site, is_of_vrf, ifaces_where, entered}
 use Rattle.mvpn_model.specs.Past.{is_home}
 use Rattle.mvpn_model.specs.Packet.{packet}
-use Rattle.net_defs.specs.declared.entry.JoinedEntry.{JoinedEntry}
+use Rattle.pim_joinprune.specs.declared.fault.PimFault.{PimFault}
+use Rattle.pim_joinprune.specs.declared.fault.PimFault.TheVariants as faults
+use Rattle.pim_joinprune.specs.Reading.{decoded}
+use Rattle.pim_defs.specs.Entries.{Entries, applied, are_too_many, kept_at, due, asks}
+use Rattle.mvpn_model.specs.declared.message.Given.{Given}
+use Rattle.mvpn_model.specs.Messages.{own_addr, message_of}
 
--- The state of the network: its scenario, how many datagrams were accepted, and the entries of the edge, in the order in
--- which they were made. No event of a built line moves the clock, joins a session or puts a copy on a link.
+-- The state of the network: its scenario, the clock, how many datagrams were accepted, and the joined and pruned entries
+-- of the edge, of which a scenario has at most one. No event of a built line joins a session or puts a copy on a link.
 pub record Network : Type 0 where
   pub scenario : Scenario
+  pub clock : ℕ
   pub accepted : ℕ
-  pub entries : List JoinedEntry
+  pub entries : Entries
 
 -- nothing has happened yet
 abbrev pub start : Scenario → Network
-start scenario = record { scenario = scenario; accepted = 0; entries = [] }
+start scenario = record { scenario = scenario; clock = 0; accepted = 0; entries = empty }
 
--- whether the entry is (S,G) at the interface
-abbrev pub is_entry : IfaceId → Addr → Addr → JoinedEntry → Bool
-is_entry iface source group entry = (entry.iface.0 == iface.0) && same_addr entry.source source && same_addr entry.group group
+-- ---- refusals
 
--- whether the interface has joined (S,G)
-abbrev pub has_joined : List JoinedEntry → IfaceId → Addr → Addr → Bool
-has_joined entries iface source group = list_any (is_entry iface source group) entries
+-- the word that tells the fault of a Join/Prune message
+abbrev pub fault_word : PimFault → FaultWord
+fault_word faults.Short = words.Short
+fault_word faults.Version = words.Version
+fault_word faults.PimType = words.PimType
+fault_word faults.Checksum = words.Checksum
+fault_word faults.Family = words.Family
+fault_word faults.Encoding = words.Encoding
+fault_word faults.MaskLength = words.MaskLength
+fault_word faults.Flags = words.Flags
+fault_word faults.NotMulticast = words.NotMulticast
+fault_word faults.Trailing = words.Trailing
 
--- the most entries of an edge
-abbrev pub entry_limit : ℕ
-entry_limit = 1024
+-- whether the message is for the interface that it came to: its upstream neighbour is that interface's own address
+abbrev pub is_ours : Scenario → Given → Bool
+is_ours scenario given = same_addr given.message.neighbour (own_addr scenario given.iface)
 
--- whether the edge, of which a scenario has at most one, would hold too many entries after the join
-abbrev pub is_full : Network → IfaceId → Addr → Addr → Bool
-is_full network iface source group = not (has_joined network.entries iface source group) && nat_le entry_limit (length network.entries)
+-- Why a message is refused, if it is: it is not for this interface, or the edge would hold too many entries behind it.
+abbrev pub message_refusal : Network → Option Given → Option Refusal
+message_refusal network None = None
+message_refusal network (Some given) =
+    if not (is_ours network.scenario given) then Some refusals.Ours else
+    if are_too_many (applied network.entries given.iface given.message network.clock) then Some refusals.Full else None
 
--- the entries, with (S,G) at the interface joined: one that is there stays
-abbrev pub with_joined : List JoinedEntry → IfaceId → Addr → Addr → List JoinedEntry
-with_joined entries iface source group =
-    if has_joined entries iface source group then entries else entries ++ record { iface = iface; source = source; group = group } ∷ []
+-- why the octets of a `pim` are refused, if they are: they have a first fault
+abbrev pub octets_refusal : List ℕ → Option Refusal
+octets_refusal octets = elim (decoded octets) [ Ok message ↦ None | Err fault ↦ Some (refusals.Bytes fault.0 (fault_word fault.1)) ]
 
--- whether a datagram of the site leaves at an interface of the VRF: it belongs to another site and has joined the flow
+abbrev pub bytes_refusal : Event → Option Refusal
+bytes_refusal (events.Pim iface bytes) = octets_refusal bytes
+bytes_refusal other = None
+
+-- why an event is refused, if it is: by the first of its conditions that holds
+abbrev pub refusal : Network → Event → Option Refusal
+refusal network event = option_or (bytes_refusal event) (message_refusal network (message_of network.scenario event))
+
+-- ---- datagrams
+
+-- whether the interface asks for (S,G): no line notes a source that is known to send
+abbrev pub is_asking : Network → Addr → Addr → IfaceId → Bool
+is_asking network source group iface = asks network.entries iface source group false network.clock
+
+-- whether a datagram of the site leaves at an interface of the VRF: it belongs to another site and asks for the flow
 abbrev pub leaves_at : Network → VrfId → SiteId → Addr → Addr → IfaceId → Iface → Bool
 leaves_at network vrf site source group number iface =
-    is_of_vrf vrf iface && not (is_of_site site iface) && has_joined network.entries number source group
+    is_of_vrf vrf iface && not (is_of_site site iface) && is_asking network source group number
 
 -- the interfaces at which the datagram leaves, in order: none where the VRF's upstream choice is not the site
 abbrev pub leaves : Network → SiteId → Addr → Addr → VrfId → List IfaceId
@@ -73,21 +105,35 @@ sessions scenario =
     edges * (edges - 1) / 2 + length scenario.links
 
 -- The line of `state`. No session is joined, so no octet is in transit and no session is ready; no copy is on a link;
--- no entry expires at clock 0, so no timer is due.
+-- the timers that are due are those of entries.
 abbrev pub state_line : Network → ReportLine
-state_line network = lines.State 0 0 0 0 (sessions network.scenario)
+state_line network = lines.State 0 0 0 (due network.entries network.clock) (sessions network.scenario)
 
--- the lines of each act of an event
+-- ---- events
+
+-- the lines of each act of an event that is not refused
+abbrev pub accepted_acts : Network → Event → List (List ReportLine)
+accepted_acts network (events.Send site source group payload) = map (entering network site source group payload) (entered network.scenario site)
+accepted_acts network events.State = (state_line network ∷ []) ∷ []
+accepted_acts network events.Drain = []
+accepted_acts network other = [] ∷ []
+
+-- the lines of each act of an event; one that is refused has the one line that says so
 abbrev pub acts_of : Network → ℕ → Event → List (List ReportLine)
-acts_of network line (events.Join iface (entries.Source source group)) =
-    if is_full network iface source group then (lines.Refused line refusals.Full ∷ []) ∷ [] else [] ∷ []
-acts_of network line (events.Send site source group payload) = map (entering network site source group payload) (entered network.scenario site)
-acts_of network line events.State = (state_line network ∷ []) ∷ []
-acts_of network line other = []
+acts_of network line event = elim (refusal network event) [ None ↦ accepted_acts network event | Some reason ↦ (lines.Refused line reason ∷ []) ∷ [] ]
 
--- the state after an event; a refused event leaves it as it was
+-- the state behind a message
+abbrev pub with_message : Network → Option Given → Network
+with_message network None = network
+with_message network (Some given) = record network { entries = applied network.entries given.iface given.message network.clock }
+
+-- the state behind an event that is not refused; the timers are those of the one edge
+abbrev pub accepted_after : Network → Event → Network
+accepted_after network (events.Tick count) = record network { clock = network.clock + count }
+accepted_after network (events.Timers node) = record network { entries = kept_at network.entries network.clock }
+accepted_after network (events.Send site source group payload) = record network { accepted = network.accepted + 1 }
+accepted_after network event = with_message network (message_of network.scenario event)
+
+-- the state behind an event; a refused event leaves it as it was
 abbrev pub after : Network → Event → Network
-after network (events.Join iface (entries.Source source group)) =
-    if is_full network iface source group then network else record network { entries = with_joined network.entries iface source group }
-after network (events.Send site source group payload) = record network { accepted = network.accepted + 1 }
-after network other = network
+after network event = elim (refusal network event) [ None ↦ accepted_after network event | Some reason ↦ network ]

@@ -1,6 +1,6 @@
 //! What the network is, and what each event does to it: states, acts and runs, as plain definitions.
 #![tactic(auto)]
 
-mod entry;
+mod words;
 
-pub use entry::JoinedEntry;
+pub use words::fault_word;

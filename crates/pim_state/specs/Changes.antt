@@ -1,0 +1,16 @@
+-- Changes of entries.
+use Rattle.std.specs.Prelude.{List, [], ◌∷◌, Option, None, Some}
+use Rattle.std.specs.FinMap.{insert, remove}
+use Rattle.pim_defs.specs.declared.entry.IfaceEntry.{IfaceEntry}
+use Rattle.pim_defs.specs.declared.expiry.Expiry.{Expiry}
+use Rattle.pim_defs.specs.Entries.{Entries}
+
+-- the entries, with this expiry at the entry; without an expiry it is removed
+abbrev pub changed : Entries → IfaceEntry → Option Expiry → Entries
+changed entries at None = remove entries at
+changed entries at (Some expiry) = insert entries at expiry
+
+-- the entries behind the changes, in turn
+abbrev pub changed_by : Entries → List (IfaceEntry × Option Expiry) → Entries
+changed_by entries [] = entries
+changed_by entries (change ∷ more) = changed_by (changed entries change.0 change.1) more

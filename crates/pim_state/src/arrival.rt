@@ -1,0 +1,183 @@
+//! A message that an interface takes.
+ghost use Rattle.std.specs.Prelude.{◌≡◌, ◌<◌, ◌^◌, IfOk};
+ghost use Rattle.std.specs.FinMap.{from_entries};
+
+use crate::changes::Changes;
+use indexmap::{IndexMap, IndexSet};
+use mv_base::{Addr, IfaceId, NoMemory};
+use pim_defs::{Expiry, IfaceEntry, Mention, entry_of, expiry_after, group_of};
+use pim_joinprune::{Group, JoinPrune, JpSource};
+use scenario_defs::JoinEntry;
+use std::alloc::Global;
+
+/// Adds the entries that the sources of a group name.
+fn add_named(
+    entries: &mut IndexSet<JoinEntry>,
+    group: Addr,
+    sources: &[JpSource],
+) -> Result<(), NoMemory> {
+    for source in sources {
+        entries.insert(entry_of(group, source))?;
+    }
+    Ok(())
+}
+
+/// The entries that the groups join.
+fn joined(alloc: Global, groups: &[Group]) -> Result<IndexSet<JoinEntry>, NoMemory> {
+    let mut entries = IndexSet::new(alloc);
+    for group in groups {
+        add_named(&mut entries, group.group, group.joins.as_slice())?;
+    }
+    Ok(entries)
+}
+
+/// The entries that the groups prune.
+fn pruned(alloc: Global, groups: &[Group]) -> Result<IndexSet<JoinEntry>, NoMemory> {
+    let mut entries = IndexSet::new(alloc);
+    for group in groups {
+        add_named(&mut entries, group.group, group.prunes.as_slice())?;
+    }
+    Ok(entries)
+}
+
+/// A message that an interface takes at the clock: which entries it joins and prunes.
+#[derive(Drop)]
+pub(crate) struct Arrival {
+    iface: IfaceId,
+    clock: u64,
+    holdtime: u16,
+    joins: IndexSet<JoinEntry>,
+    prunes: IndexSet<JoinEntry>,
+}
+
+impl Arrival {
+    pub(crate) fn of(
+        alloc: Global,
+        iface: IfaceId,
+        message: &JoinPrune,
+        clock: u64,
+    ) -> Result<Arrival, NoMemory> {
+        let groups = message.groups.as_slice();
+        let joins = joined(alloc, groups)?;
+        let prunes = pruned(alloc, groups)?;
+        Ok(Arrival {
+            iface,
+            clock,
+            holdtime: message.holdtime,
+            joins,
+            prunes,
+        })
+    }
+
+    /// What the message says of the entry.
+    fn mention_of(&self, entry: &JoinEntry) -> Mention {
+        let shared = JoinEntry::Star {
+            group: group_of(entry),
+        };
+        Mention {
+            joined: self.joins.contains(entry),
+            pruned: self.prunes.contains(entry),
+            shared: self.joins.contains(&shared),
+        }
+    }
+
+    /// The expiry of the entry behind the message.
+    fn expiry_then(&self, entry: &JoinEntry, old: Option<Expiry>) -> Option<Expiry> {
+        expiry_after(
+            entry,
+            self.mention_of(entry),
+            self.clock,
+            self.holdtime,
+            old,
+        )
+    }
+
+    /// Plans what becomes of an entry of the interface.
+    fn plan(
+        &self,
+        entries: &IndexMap<IfaceEntry, Expiry>,
+        entry: JoinEntry,
+        changes: &mut Changes,
+    ) -> Result<(), NoMemory> {
+        let at = IfaceEntry {
+            iface: self.iface,
+            entry,
+        };
+        let old = entries.get(&at).copied();
+        changes.insert(at, self.expiry_then(&entry, old))?;
+        Ok(())
+    }
+
+    /// Plans what becomes of entries that the message names.
+    fn plan_named(
+        &self,
+        entries: &IndexMap<IfaceEntry, Expiry>,
+        named: &[JoinEntry],
+        changes: &mut Changes,
+    ) -> Result<(), NoMemory> {
+        for entry in named {
+            self.plan(entries, *entry, changes)?;
+        }
+        Ok(())
+    }
+
+    /// Whether the entry is an (S,G,rpt) prune of the interface whose group the message joins by (*,G).
+    fn may_end(&self, at: &IfaceEntry) -> bool {
+        match at.entry {
+            JoinEntry::Rpt { source: _, group } => {
+                at.iface == self.iface && self.joins.contains(&JoinEntry::Star { group })
+            }
+            _ => false,
+        }
+    }
+
+    /// Plans what becomes of an entry that the message may end without naming it.
+    fn plan_ended(
+        &self,
+        entries: &IndexMap<IfaceEntry, Expiry>,
+        at: &IfaceEntry,
+        changes: &mut Changes,
+    ) -> Result<(), NoMemory> {
+        if self.may_end(at) {
+            self.plan(entries, at.entry, changes)
+        } else {
+            Ok(())
+        }
+    }
+
+    /// Plans what becomes of the entries that the message may end without naming them.
+    fn plan_all_ended(
+        &self,
+        entries: &IndexMap<IfaceEntry, Expiry>,
+        changes: &mut Changes,
+    ) -> Result<(), NoMemory> {
+        let present = entries.keys().as_slice();
+        for at in present {
+            self.plan_ended(entries, at, changes)?;
+        }
+        Ok(())
+    }
+
+    /// Whether the message joins the shared tree of some group.
+    fn joins_shared(&self) -> bool {
+        self.joins
+            .as_slice()
+            .iter()
+            .any(|entry| matches!(entry, JoinEntry::Star { group: _ }))
+    }
+
+    /// What the message changes, each entry that it may change once.
+    pub(crate) fn changes(
+        &self,
+        alloc: Global,
+        entries: &IndexMap<IfaceEntry, Expiry>,
+    ) -> Result<Changes, NoMemory> {
+        let mut changes = IndexMap::new(alloc);
+        self.plan_named(entries, self.joins.as_slice(), &mut changes)?;
+        self.plan_named(entries, self.prunes.as_slice(), &mut changes)?;
+        if self.joins_shared() {
+            self.plan_all_ended(entries, &mut changes)?;
+        }
+        Ok(changes)
+    }
+}

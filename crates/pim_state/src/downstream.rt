@@ -1,0 +1,144 @@
+//! The entries of an edge's interfaces.
+ghost use Rattle.std.specs.Prelude.{◌≡◌, ◌<◌, ◌^◌, true, false, Err, IfOk, OnOk, OnErr};
+ghost use Rattle.std.specs.FinMap.{empty, len};
+ghost use Rattle.pim_defs.specs.Entries.{applied, are_too_many, asks, due, expiry_at, kept_at};
+
+use crate::arrival::Arrival;
+use crate::changes::{apply, count_after};
+use indexmap::IndexMap;
+use mv_base::{Addr, IfaceId, NoMemory};
+use pim_defs::{Expiry, IfaceEntry, asks_by};
+use pim_joinprune::JoinPrune;
+use scenario_defs::JoinEntry;
+use std::alloc::Global;
+use std::marker::Model;
+
+/// The most entries of an edge.
+const ENTRY_LIMIT: usize = 1024;
+
+/// Why a message is not taken.
+#[derive(Clone, Copy, Debug, PartialEq, Eq)]
+pub enum TakeFault {
+    /// There would be more entries than an edge holds.
+    Full,
+    NoMemory,
+}
+
+impl From<NoMemory> for TakeFault {
+    ghost use Rattle.std.specs.Prelude.{◌≡◌};
+    ghost use Rattle.pim_state.specs.declared.downstream.TakeFault.TheVariants as faults;
+
+    ghost from_gives = { λ fault result. result ≡ faults.NoMemory };
+
+    fn from(_: NoMemory) -> Self {
+        TakeFault::NoMemory
+    }
+}
+
+/// The joined and pruned entries of an edge's interfaces (RFC 7761 section 4.1), at most 1,024.
+#[derive(Drop)]
+pub struct Downstream {
+    alloc: Global,
+    entries: IndexMap<IfaceEntry, Expiry>,
+}
+
+impl Model for Downstream {
+    ghost use Rattle.std.specs.FinMap.{from_entries};
+    ghost use Rattle.pim_defs.specs.Entries.{Entries};
+    ghost use Rattle.pim_state.specs.Codes.{entries_code};
+
+    ghost Value = { Entries };
+
+    ghost coded = { entries_code };
+
+    ghost view = { λ d. from_entries d.entries.entries };
+}
+
+impl Downstream {
+    /// No entry. It takes no memory.
+    pub fn of(alloc: Global) -> Downstream
+        ensures { result ≡ empty }
+    {
+        Downstream {
+            alloc,
+            entries: IndexMap::new(alloc),
+        }
+    }
+
+    /// What stands behind a message that the interface takes at the clock. Where that would be more entries than an edge
+    /// holds, or there is no memory, nothing changes.
+    pub fn take(&mut self, iface: IfaceId, message: &JoinPrune, now: u64) -> Result<(), TakeFault>
+        requires { now < 2 ^ 63 }
+        ensures taken { OnOk result (self.new ≡ applied self.old iface message.now now) }
+        ensures fits { OnOk result (are_too_many (applied self.old iface message.now now) ≡ false) }
+        ensures full { result ≡ Err TakeFault.Full → are_too_many (applied self.old iface message.now now) ≡ true }
+        ensures unchanged { OnErr result (self.new ≡ self.old) }
+    {
+        let arrival = Arrival::of(self.alloc, iface, message, now)?;
+        let changes = arrival.changes(self.alloc, &self.entries)?;
+        if count_after(&self.entries, &changes) > ENTRY_LIMIT {
+            return Err(TakeFault::Full);
+        }
+        apply(&mut self.entries, &changes)?;
+        Ok(())
+    }
+
+    /// How many entries would stand behind the message.
+    pub fn entries_after(
+        &self,
+        alloc: Global,
+        iface: IfaceId,
+        message: &JoinPrune,
+        now: u64,
+    ) -> Result<u32, NoMemory>
+        requires { now < 2 ^ 63 }
+        ensures { IfOk result (λ count. count ≡ len (applied self.now iface message.now now)) }
+    {
+        let arrival = Arrival::of(alloc, iface, message, now)?;
+        let changes = arrival.changes(alloc, &self.entries)?;
+        u32::try_from(count_after(&self.entries, &changes)).map_err(|_| NoMemory)
+    }
+
+    /// Removes the entries that have ended at the clock. It takes no memory.
+    pub fn timers(&mut self, now: u64)
+        ensures { self.new ≡ kept_at self.old now }
+    {
+        self.entries.retain(|_at: &IfaceEntry, expiry: &mut Expiry| -> bool {
+            expiry.is_after(now)
+        });
+    }
+
+    /// Whether the interface asks for (S,G) at the clock, where S is known to send to G or not.
+    pub fn asks(&self, iface: IfaceId, source: Addr, group: Addr, active: bool, now: u64) -> bool
+        ensures { result ≡ asks self.now iface source group active now }
+    {
+        let joined = self.expiry_at(iface, JoinEntry::Source { source, group });
+        let shared = self.expiry_at(iface, JoinEntry::Star { group });
+        let pruned = self.expiry_at(iface, JoinEntry::Rpt { source, group });
+        asks_by(now, active, joined, shared, pruned)
+    }
+
+    /// How many entries end at or before the clock.
+    pub fn due(&self, now: u64) -> u64
+        ensures { result ≡ due self.now now }
+    {
+        self.entries
+            .values()
+            .filter(|expiry| !expiry.is_after(now))
+            .count() as u64
+    }
+
+    /// The number of entries.
+    pub fn len(&self) -> usize
+        ensures { result ≡ len self.now }
+    {
+        self.entries.len()
+    }
+
+    /// The expiry of an entry of the interface, where it is there.
+    fn expiry_at(&self, iface: IfaceId, entry: JoinEntry) -> Option<Expiry>
+        ensures { result ≡ expiry_at self.now iface entry }
+    {
+        self.entries.get(&IfaceEntry { iface, entry }).copied()
+    }
+}

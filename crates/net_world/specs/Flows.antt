@@ -1,0 +1,33 @@
+-- The interfaces that are kept for a flow.
+use Rattle.std.specs.Prelude.{◌≡◌, ℕ, ◌&&◌, Bool, false, List, [], None, Some, unwrap_or, ⊤}
+use Rattle.std.specs.declared.hash.FoldHasher.{FoldHasher}
+use Rattle.std.specs.declared.hash.BuildHasherDefault.{BuildHasherDefault}
+use Rattle.indexmap.specs.IndexMap.{IndexMap, get}
+use Rattle.mv_base.specs.declared.ids.IfaceId.{IfaceId}
+use Rattle.mv_base.specs.declared.addr.Addr.{Addr}
+use Rattle.mv_base.specs.Address.{same_addr}
+use Rattle.scenario_defs.specs.declared.scenario.Iface.{Iface}
+use Rattle.scenario_defs.specs.Vpn.{ifaces_where}
+use Rattle.pim_defs.specs.Entries.{Entries, asks}
+use Rattle.net_world.specs.declared.flows.Flow.{Flow}
+
+-- whether both are one flow
+abbrev pub same_flow : Flow → Flow → Bool
+same_flow a b = same_addr a.source b.source && same_addr a.group b.group
+
+-- a table of flows
+abbrev pub FlowTable : Type 0
+FlowTable = IndexMap Flow (List IfaceId) (BuildHasherDefault FoldHasher)
+
+-- the interfaces that a table tells for a flow
+abbrev pub members : FlowTable → Addr → Addr → List IfaceId
+members flows source group = unwrap_or (get same_flow flows (record { source = source; group = group })) []
+
+-- the interfaces that ask for the flow at the clock
+abbrev pub asking : Entries → ℕ → List Iface → Addr → Addr → List IfaceId
+asking entries clock ifaces source group = ifaces_where (λ number iface. asks entries number source group false clock) 0 ifaces
+
+-- For each flow that the table has, it tells the interfaces that ask for it.
+abbrev pub Keeps : FlowTable → Entries → ℕ → List Iface → Type 0
+Keeps flows entries clock ifaces = (source group : Addr) →
+    elim (get same_flow flows (record { source = source; group = group })) [ None ↦ ⊤ | Some found ↦ found ≡ asking entries clock ifaces source group ]

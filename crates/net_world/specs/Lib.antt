@@ -1,0 +1,4 @@
+pub mod Flows
+pub mod Tables
+pub mod WorldState
+pub mod Entering

@@ -1,2 +1,4 @@
 pub mod HomeLemmas
+pub mod ListLemmas
 pub mod LongestLemmas
+pub mod VpnLemmas

@@ -1,10 +1,7 @@
 -- Laws of the table of flows, and of the interfaces at which a datagram leaves.
-use Rattle.std.proofs.Common.{◌≡◌, ℕ, ◌+◌, Bool, true, false, List, [], ◌∷◌, ◌++◌, map, filter, refl, sym, ap, ◌∙◌, cond, subst, suc, arith, Some, eqb}
-use Rattle.std.specs.Prelude.{◌&&◌, ◌||◌, not, slice_get}
-use Rattle.net_laws.proofs.OutLemmas.{ifaces_where-same}
-use Rattle.std.specs.List.{list_any}
-use Rattle.indexmap.specs.IndexMap.{IsEmpty}
-use Rattle.indexmap.specs.IndexSet.{insert_key}
+use Rattle.std.proofs.Common.{◌≡◌, ℕ, ◌+◌, Bool, true, false, List, [], ◌∷◌, ◌++◌, map, filter, refl, sym, ap, ◌∙◌, cond, subst, suc, arith, Option, None, Some}
+use Rattle.std.specs.Prelude.{◌&&◌, not, slice_get, unwrap_or, is_some}
+use Rattle.indexmap.specs.IndexMap.{IsEmpty, get}
 use Rattle.mv_base.specs.declared.ids.IfaceId.{IfaceId}
 use Rattle.mv_base.specs.declared.ids.SiteId.{SiteId}
 use Rattle.mv_base.specs.declared.ids.VrfId.{VrfId}
@@ -13,29 +10,53 @@ use Rattle.mv_base.specs.Address.{same_addr, same_addr_equal}
 use Rattle.scenario_defs.specs.declared.scenario.Iface.{Iface}
 use Rattle.scenario_defs.specs.declared.report.ReportLine.TheVariants as lines
 use Rattle.scenario_defs.specs.Vpn.{ifaces_where, is_of_vrf, is_of_site}
+use Rattle.pim_defs.specs.Entries.{Entries, asks}
 use Rattle.mvpn_model.specs.Past.{is_home}
 use Rattle.mvpn_model.specs.Packet.{packet}
-use Rattle.net_defs.specs.declared.entry.JoinedEntry.{JoinedEntry}
-use Rattle.net_defs.specs.Network.{Network, has_joined, is_entry, entering, leaves}
+use Rattle.net_defs.specs.Network.{Network, entering, leaves}
+use Rattle.net_world.specs.declared.flows.Flow.{Flow}
 use Rattle.net_world.specs.Entering.{is_outside, outs}
-use Rattle.net_world.specs.Flows.{FlowTable, members, same_flow}
-
--- No interface passes a test that is always false.
-pub ifaces_none : (ifaces : List Iface) (number : ℕ) → ifaces_where (λ id iface. false) number ifaces ≡ []
-ifaces_none [] number = refl
-ifaces_none (iface ∷ more) number = ifaces_none more (number + 1)
+use Rattle.net_world.specs.Flows.{FlowTable, members, same_flow, asking, AreKept, Keeps}
 
 -- An empty table tells nothing.
-pub members_none : (flows : FlowTable) (source group : Addr) → IsEmpty flows → members flows source group ≡ []
-members_none flows source group h = rw h refl
+pub keeps_none : (flows : FlowTable) (entries : Entries) (clock : ℕ) (ifaces : List Iface) → IsEmpty flows → Keeps flows entries clock ifaces
+keeps_none flows entries clock ifaces h source group = rw h tt
 
--- Without entries no interface has joined.
-pub joined_none : (entries : List JoinedEntry) (ifaces : List Iface) (source group : Addr) → entries ≡ [] → [] ≡ ifaces_where (λ number iface. has_joined entries number source group) 0 ifaces
-joined_none entries ifaces source group h = rw h (sym (ifaces_none ifaces 0))
+-- What the table has for a flow it tells as its members.
+pub kept_members : (flows : FlowTable) (entries : Entries) (clock : ℕ) (ifaces : List Iface) (source group : Addr) → Keeps flows entries clock ifaces → is_some (get same_flow flows (record { source = source; group = group })) ≡ true →
+    members flows source group ≡ asking entries clock ifaces source group
+kept_members flows entries clock ifaces source group keeps h = found (get same_flow flows (record { source = source; group = group })) (keeps source group) h
+  where
+    found : (o : Option (List IfaceId)) → AreKept (asking entries clock ifaces source group) o → is_some o ≡ true → unwrap_or o [] ≡ asking entries clock ifaces source group
+    found None k e = absurd cc
+    found (Some list) k e = k
 
--- A key that is not there goes last.
-pub insert_absent : {T : Type 0} (eq : T → T → Bool) (keys : List T) (key : T) → list_any (eq key) keys ≡ false → insert_key eq keys key ≡ keys ++ key ∷ []
-insert_absent eq keys key h = rw h refl
+and_parts : (a b : Bool) → (a && b) ≡ true → (a ≡ true) × (b ≡ true)
+and_parts true true h = (refl, refl)
+and_parts true false h = absurd cc
+and_parts false b h = absurd cc
+
+same_flow_equal : (a b : Flow) → same_flow a b ≡ true → a ≡ b
+same_flow_equal a b h =
+    let both = and_parts (same_addr a.source b.source) (same_addr a.group b.group) h in
+    let source = same_addr_equal a.source b.source both.0 in
+    let group = same_addr_equal a.group b.group both.1 in
+    λ i. record { source = source i; group = group i }
+
+-- With the interfaces that ask for one more flow the table still tells those that ask.
+pub keeps_more : (old new : FlowTable) (entries : Entries) (clock : ℕ) (ifaces : List Iface) (flow : Flow) (list : List IfaceId) → list ≡ asking entries clock ifaces flow.source flow.group →
+    ((q : Flow) → get same_flow new q ≡ cond (same_flow flow q) (Some list) (get same_flow old q)) → Keeps old entries clock ifaces → Keeps new entries clock ifaces
+keeps_more old new entries clock ifaces flow list told updates keeps source group =
+    let at : Flow = record { source = source; group = group } in
+    subst (AreKept (asking entries clock ifaces source group)) (sym (updates at)) (by (same_flow flow at) refl)
+  where
+    by : (b : Bool) → same_flow flow (record { source = source; group = group }) ≡ b → AreKept (asking entries clock ifaces source group) (cond b (Some list) (get same_flow old (record { source = source; group = group })))
+    by true h = told ∙ ap (λ (f : Flow). asking entries clock ifaces f.source f.group) (same_flow_equal flow (record { source = source; group = group }) h)
+    by false h = keeps source group
+
+-- The table has the flow that was put into it.
+pub put_members : (new : FlowTable) (flow : Flow) (list : List IfaceId) → get same_flow new flow ≡ Some list → members new flow.source flow.group ≡ list
+put_members new flow list h = ap (λ (o : Option (List IfaceId)). unwrap_or o []) h
 
 outside_cond : (b t : Bool) (id : IfaceId) (xs : List IfaceId) → cond t (cond b (id ∷ xs) xs) xs ≡ cond (b && t) (id ∷ xs) xs
 outside_cond true true id xs = refl
@@ -68,51 +89,14 @@ at_own : (ifaces : List Iface) (k : ℕ) (iface : Iface) → slice_get ifaces k 
 at_own ifaces k iface h = let e : k ≡ 0 + k = omega arith in subst (λ (n : ℕ). slice_get ifaces n ≡ Some iface) e h
 
 -- The lines of an entering at the home's VRF are those of the joined interfaces outside the site.
-pub entering-outs : (network : Network) (joined : List IfaceId) (vrf : VrfId) (site : SiteId) (source group : Addr) (payload : List ℕ) → is_home network.scenario vrf source site ≡ true → joined ≡ ifaces_where (λ number iface. has_joined network.entries number source group) 0 network.scenario.ifaces
+pub entering-outs : (network : Network) (joined : List IfaceId) (vrf : VrfId) (site : SiteId) (source group : Addr) (payload : List ℕ) → is_home network.scenario vrf source site ≡ true → joined ≡ ifaces_where (λ number iface. asks network.entries number source group false network.clock) 0 network.scenario.ifaces
     → outs network.scenario.ifaces vrf site (network.accepted + 1) (packet source group payload) joined ≡ entering network site source group payload vrf
 entering-outs network joined vrf site source group payload home told =
     let out = λ (iface : IfaceId). lines.Out (network.accepted + 1) iface (packet source group payload) in
     ap (outs network.scenario.ifaces vrf site (network.accepted + 1) (packet source group payload)) told
-    ∙ (ap (map out) (outside-where network.scenario.ifaces vrf site (λ number. has_joined network.entries number source group) 0 network.scenario.ifaces (at_own network.scenario.ifaces)) ∙ sym (rw (home, entering, leaves) refl))
+    ∙ (ap (map out) (outside-where network.scenario.ifaces vrf site (λ number. asks network.entries number source group false network.clock) 0 network.scenario.ifaces (at_own network.scenario.ifaces)) ∙ sym (rw (home, entering, leaves) refl))
 
 -- The same, from what a world keeps.
-pub outs-told : (network : Network) (ifaces : List Iface) (joined : List IfaceId) (octets : List ℕ) (vrf : VrfId) (site : SiteId) (source group : Addr) (payload : List ℕ) → is_home network.scenario vrf source site ≡ true → ifaces ≡ network.scenario.ifaces → octets ≡ packet source group payload → joined ≡ ifaces_where (λ number iface. has_joined network.entries number source group) 0 network.scenario.ifaces
+pub outs-told : (network : Network) (ifaces : List Iface) (joined : List IfaceId) (octets : List ℕ) (vrf : VrfId) (site : SiteId) (source group : Addr) (payload : List ℕ) → is_home network.scenario vrf source site ≡ true → ifaces ≡ network.scenario.ifaces → octets ≡ packet source group payload → joined ≡ ifaces_where (λ number iface. asks network.entries number source group false network.clock) 0 network.scenario.ifaces
     → outs ifaces vrf site (network.accepted + 1) octets joined ≡ entering network site source group payload vrf
 outs-told network ifaces joined octets vrf site source group payload home e o told = rw (e, o) (entering-outs network joined vrf site source group payload home told)
-
--- One entry more.
-has_joined-snoc : (entries : List JoinedEntry) (entry : JoinedEntry) (number : IfaceId) (source group : Addr) → is_entry number source group entry ≡ false → has_joined (entries ++ entry ∷ []) number source group ≡ has_joined entries number source group
-has_joined-snoc [] entry number source group h = rw h refl
-has_joined-snoc (own ∷ entries) entry number source group h = ap (λ (b : Bool). is_entry number source group own || b) (has_joined-snoc entries entry number source group h)
-
-and_none : (a b c : Bool) → (b && c) ≡ false → (a && b && c) ≡ false
-and_none true true c h = h
-and_none true false c h = refl
-and_none false true c h = refl
-and_none false false c h = refl
-
--- An entry of another flow is not the one looked for.
-other_flow : (entry : JoinedEntry) (number : IfaceId) (source group : Addr) → same_flow (record { source = entry.source; group = entry.group }) (record { source = source; group = group }) ≡ false → is_entry number source group entry ≡ false
-other_flow entry number source group h = and_none (eqb entry.iface.0 number.0) (same_addr entry.source source) (same_addr entry.group group) h
-
-and_parts : (a b : Bool) → (a && b) ≡ true → (a ≡ true) × (b ≡ true)
-and_parts true true h = (refl, refl)
-and_parts true false h = absurd cc
-and_parts false b h = absurd cc
-
--- The table stays in step with one entry more.
-pub tells-more : (entries : List JoinedEntry) (entry : JoinedEntry) (old new : FlowTable) (ifaces : List Iface) (keys : List JoinedEntry) → keys ≡ entries ++ entry ∷ []
-    → members new entry.source entry.group ≡ ifaces_where (λ number iface. has_joined keys number entry.source entry.group) 0 ifaces
-    → ((source group : Addr) → same_flow (record { source = entry.source; group = entry.group }) (record { source = source; group = group }) ≡ false → members new source group ≡ members old source group)
-    → ((source group : Addr) → members old source group ≡ ifaces_where (λ number iface. has_joined entries number source group) 0 ifaces)
-    → (source group : Addr) → members new source group ≡ ifaces_where (λ number iface. has_joined keys number source group) 0 ifaces
-tells-more entries entry old new ifaces keys e at others tells source group = by (same_flow (record { source = entry.source; group = entry.group }) (record { source = source; group = group })) refl
-  where
-    by : (b : Bool) → same_flow (record { source = entry.source; group = entry.group }) (record { source = source; group = group }) ≡ b → members new source group ≡ ifaces_where (λ number iface. has_joined keys number source group) 0 ifaces
-    by true h =
-        let p = and_parts (same_addr entry.source source) (same_addr entry.group group) h in
-        let s = same_addr_equal entry.source source p.0 in
-        let g = same_addr_equal entry.group group p.1 in
-        subst (λ (x : Addr). members new x group ≡ ifaces_where (λ number iface. has_joined keys number x group) 0 ifaces) s (subst (λ (y : Addr). members new entry.source y ≡ ifaces_where (λ number iface. has_joined keys number entry.source y) 0 ifaces) g at)
-    by false h =
-        others source group h ∙ (tells source group ∙ ifaces_where-same (λ number iface. has_joined entries number source group) (λ number iface. has_joined keys number source group) 0 ifaces (λ i j iface found. sym (rw e (has_joined-snoc entries entry (record { 0 = j }) source group (other_flow entry (record { 0 = j }) source group h)))))

@@ -18,7 +18,7 @@ use Rattle.scenario_defs.specs.Vpn.{vrf_of_site, entered}
 use Rattle.scenario_defs.specs.Home.{home}
 use Rattle.mvpn_model.specs.Past.{is_home}
 use Rattle.net_defs.specs.Network.{Network, entering, leaves}
-use Rattle.net_laws.proofs.VpnLemmas.{vrf_of_site-is}
+use Rattle.mvpn_model.proofs.VpnLemmas.{vrf_of_site-is}
 use Rattle.net_world.specs.Tables.{upto}
 use Rattle.net_world.specs.WorldState.{event_lines}
 

@@ -1,5 +1,5 @@
 -- The interfaces that are kept for a flow.
-use Rattle.std.specs.Prelude.{◌≡◌, ℕ, ◌&&◌, Bool, false, List, [], None, Some, unwrap_or, ⊤}
+use Rattle.std.specs.Prelude.{◌≡◌, ℕ, ◌&&◌, Bool, false, List, [], Option, None, Some, unwrap_or, ⊤}
 use Rattle.std.specs.declared.hash.FoldHasher.{FoldHasher}
 use Rattle.std.specs.declared.hash.BuildHasherDefault.{BuildHasherDefault}
 use Rattle.indexmap.specs.IndexMap.{IndexMap, get}
@@ -27,7 +27,11 @@ members flows source group = unwrap_or (get same_flow flows (record { source = s
 abbrev pub asking : Entries → ℕ → List Iface → Addr → Addr → List IfaceId
 asking entries clock ifaces source group = ifaces_where (λ number iface. asks entries number source group false clock) 0 ifaces
 
+-- the interfaces that are kept for a flow, if any are, are these
+abbrev pub AreKept : List IfaceId → Option (List IfaceId) → Type 0
+AreKept ifaces None = ⊤
+AreKept ifaces (Some found) = found ≡ ifaces
+
 -- For each flow that the table has, it tells the interfaces that ask for it.
 abbrev pub Keeps : FlowTable → Entries → ℕ → List Iface → Type 0
-Keeps flows entries clock ifaces = (source group : Addr) →
-    elim (get same_flow flows (record { source = source; group = group })) [ None ↦ ⊤ | Some found ↦ found ≡ asking entries clock ifaces source group ]
+Keeps flows entries clock ifaces = (source group : Addr) → AreKept (asking entries clock ifaces source group) (get same_flow flows (record { source = source; group = group }))

@@ -1,5 +1,5 @@
 //! The interfaces that ask for a flow, kept for each flow since the last event that may have changed them.
-ghost use Rattle.std.specs.Prelude.{◌≡◌, ◌≤◌, ◌^◌, length, IfOk, OnOk};
+ghost use Rattle.std.specs.Prelude.{◌≡◌, ◌≤◌, ◌^◌, false, length, IfOk, OnOk};
 ghost use Rattle.scenario_defs.specs.Vpn.{ifaces_where};
 ghost use Rattle.pim_defs.specs.Entries.{asks};
 ghost use Rattle.net_world.specs.Flows.{members, Keeps};

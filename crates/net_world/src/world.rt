@@ -66,9 +66,12 @@ pub struct World {
 
 impl Model for World {
     ghost use Rattle.std.specs.Prelude.{◌≡◌, None};
+    ghost use Rattle.net_world.specs.Codes.{world_code};
     ghost use Rattle.net_world.specs.WorldState.{WorldState, InStep};
 
     ghost Value = { WorldState };
+
+    ghost coded = { world_code };
 
     ghost view = { λ w. record { network = record { scenario = w.scenario; clock = w.clock; accepted = w.accepted; entries = w.downstream }; halt = w.halt } };
 
@@ -127,17 +130,16 @@ impl World {
                 Ok(())
             }
             Err(TakeFault::Full) => self.refuse(line, Refusal::Full, lines),
-            Err(TakeFault::NoMemory) => self.stop(),
+            Err(TakeFault::NoMemory) => Err(self.stop()),
         }
     }
 
-    /// Memory is wanting.
-    fn stop(&mut self) -> Result<(), NoMemory>
-        ensures stops { self.new ≡ record self.old { halt = Some Halt.NoMemory } }
-        ensures wants { result ≡ Err NoMemory }
+    /// Goes no further, since memory is wanting.
+    fn stop(&mut self) -> NoMemory
+        ensures { self.new ≡ record self.old { halt = Some Halt.NoMemory } }
     {
         self.halt = Some(Halt::NoMemory);
-        Err(NoMemory)
+        NoMemory
     }
 
     /// A message that the customer router behind the interface writes.
@@ -157,7 +159,7 @@ impl World {
     {
         match as_read(self.alloc, written) {
             Ok(message) => self.take(line, iface, message, lines),
-            Err(NoMemory) => self.stop(),
+            Err(NoMemory) => Err(self.stop()),
         }
     }
 
@@ -216,7 +218,7 @@ impl World {
                 let word = fault_word(fault);
                 self.refuse(line, Refusal::Bytes { place, word }, lines)
             }
-            Err(DecodeFault::NoMemory) => self.stop(),
+            Err(DecodeFault::NoMemory) => Err(self.stop()),
         }
     }
 
@@ -246,7 +248,7 @@ impl World {
     {
         match lines.push(ReportLine::Refused { line, reason }) {
             Ok(()) => Ok(()),
-            Err(NoMemory) => self.stop(),
+            Err(NoMemory) => Err(self.stop()),
         }
     }
 

@@ -9,20 +9,16 @@ use Rattle.net_world.proofs.world.World.enter_at.Goals as goal
 
 pub returns-clause-ok : goal.returns-clause-ok
 returns-clause-ok c =
-    let halt : c.self.inside.halt ≡ None = ap (λ (w : WorldState). w.halt) c.self.view_is ∙ c.requires.running in
-    let tables = c.self.invariant halt in
-    let network : Network = record { scenario = c.self.inside.scenario; accepted = c.self.inside.accepted; entries = c.self.inside.entries.keys } in
+    let network : Network = record { scenario = c.self.inside.scenario; clock = c.self.inside.clock; accepted = c.self.inside.accepted; entries = c.self.inside.downstream } in
     let home : is_home network.scenario c.args.vrf c.args.flow.source c.args.site ≡ true = subst (λ (w : WorldState). is_home w.network.scenario c.args.vrf c.args.flow.source c.args.site ≡ true) (sym c.self.view_is) c.requires.home in
-    let told = outs-told network c.as_slice-2.result.now c.members-joined.result.now c.as_slice.result.now c.args.vrf c.args.site c.args.flow.source c.args.flow.group c.args.payload.now home c.as_slice-2.ensures (c.as_slice.ensures ∙ c.in_ok-octets.ensures) (c.members-joined.ensures ∙ tables.tells c.args.flow.source c.args.flow.group) in
+    let told = outs-told network c.as_slice-ifaces.result.now c.members-asking.result.now c.as_slice.result.now c.args.vrf c.args.site c.args.flow.source c.args.flow.group c.args.payload.now home c.as_slice-ifaces.ensures (c.as_slice.ensures ∙ c.in_ok-octets.ensures) (c.members-asking.ensures ∙ (rw c.as_slice-ifaces.ensures at c.in_ok-look_up.ensures.at)) in
     let seen = told ∙ ap (λ (w : WorldState). entering w.network c.args.site c.args.flow.source c.args.flow.group c.args.payload.now c.args.vrf) c.self.view_is in
     subst (λ (l : List ReportLine). OnOk c.enter.result (c.enter.new.lines ≡ c.args.lines.now ++ l)) seen c.enter.ensures.ok
 
 pub returns-clause-err : goal.returns-clause-err
 returns-clause-err c =
-    let halt : c.self.inside.halt ≡ None = ap (λ (w : WorldState). w.halt) c.self.view_is ∙ c.requires.running in
-    let tables = c.self.invariant halt in
-    let network : Network = record { scenario = c.self.inside.scenario; accepted = c.self.inside.accepted; entries = c.self.inside.entries.keys } in
+    let network : Network = record { scenario = c.self.inside.scenario; clock = c.self.inside.clock; accepted = c.self.inside.accepted; entries = c.self.inside.downstream } in
     let home : is_home network.scenario c.args.vrf c.args.flow.source c.args.site ≡ true = subst (λ (w : WorldState). is_home w.network.scenario c.args.vrf c.args.flow.source c.args.site ≡ true) (sym c.self.view_is) c.requires.home in
-    let told = outs-told network c.as_slice-2.result.now c.members-joined.result.now c.as_slice.result.now c.args.vrf c.args.site c.args.flow.source c.args.flow.group c.args.payload.now home c.as_slice-2.ensures (c.as_slice.ensures ∙ c.in_ok-octets.ensures) (c.members-joined.ensures ∙ tables.tells c.args.flow.source c.args.flow.group) in
+    let told = outs-told network c.as_slice-ifaces.result.now c.members-asking.result.now c.as_slice.result.now c.args.vrf c.args.site c.args.flow.source c.args.flow.group c.args.payload.now home c.as_slice-ifaces.ensures (c.as_slice.ensures ∙ c.in_ok-octets.ensures) (c.members-asking.ensures ∙ (rw c.as_slice-ifaces.ensures at c.in_ok-look_up.ensures.at)) in
     let seen = told ∙ ap (λ (w : WorldState). entering w.network c.args.site c.args.flow.source c.args.flow.group c.args.payload.now c.args.vrf) c.self.view_is in
     subst (λ (l : List ReportLine). OnErr c.enter.result (AppendsFront c.args.lines.now c.enter.new.lines l)) seen c.enter.ensures.err

@@ -3,7 +3,7 @@ use Rattle.std.specs.Prelude.{Option, None, IfSome}
 use Rattle.std.specs.Option.{option_to_list}
 use Rattle.mv_base.specs.declared.ids.VrfId.{VrfId}
 use Rattle.scenario_defs.specs.Vpn.{vrf_of_site, entered}
-use Rattle.net_laws.proofs.VpnLemmas.{entered-one}
+use Rattle.mvpn_model.proofs.VpnLemmas.{entered-one}
 use Rattle.net_world.specs.WorldState.{WorldState}
 use Rattle.net_world.proofs.WorldLemmas.{length-upto, get_or-upto, known_vrf}
 use Rattle.net_world.proofs.world.World.vrf_of.Goals as goal

@@ -38,7 +38,7 @@ pub record VrfAt (scenario : Scenario) (number : ℕ) : Type 0 where
   pub at : slice_get scenario.vrfs number ≡ Some vrf
 
 -- the element at a place within a list
-element_at : {X : Type 0} (xs : List X) (i : ℕ) → i < length xs → (x : X) × (slice_get xs i ≡ Some x)
+pub element_at : {X : Type 0} (xs : List X) (i : ℕ) → i < length xs → (x : X) × (slice_get xs i ≡ Some x)
 element_at [] i h = absurd (omega (arith, h))
 element_at (x ∷ xs) zero h = (x, refl)
 element_at (x ∷ xs) (suc i) h = element_at xs i (omega (arith, h))

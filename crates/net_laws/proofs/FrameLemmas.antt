@@ -25,7 +25,7 @@ use Rattle.mvpn_model.specs.Packet.{packet}
 use Rattle.mvpn_model.specs.Report.{Entry, lines_of, report_text}
 use Rattle.mvpn_model.specs.declared.message.Given.{Given}
 use Rattle.mvpn_model.specs.Messages.{message_of}
-use Rattle.pim_defs.specs.Entries.{Entries}
+use Rattle.pim_defs.specs.Entries.{Entries, applied}
 use Rattle.net_defs.specs.Network.{Network, refusal, accepted_acts, acts_of, with_message, accepted_after, after, leaves_at, leaves, entering}
 use Rattle.net_defs.specs.Run.{entries_of}
 use Rattle.net_laws.proofs.ListLemmas.{all-append}
@@ -49,10 +49,10 @@ acts-either P network line event h k = by (refusal network event)
     by None = k
     by (Some reason) = h reason
 
--- What holds of the state whatever its entries are holds behind a message.
-pub message-either : (P : Network → Type 0) (network : Network) (o : Option Given) → P network → ((entries : Entries) → P (record network { entries = entries })) → P (with_message network o)
-message-either P network None h k = h
-message-either P network (Some given) h k = k _
+-- What holds of the state, whatever its entries are, holds behind a message.
+pub message-either : (P : Network → Type 0) (network : Network) (o : Option Given) → ((entries : Entries) → P (record network { entries = entries })) → P (with_message network o)
+message-either P network None h = h network.entries
+message-either P network (Some given) h = h (applied network.entries given.iface given.message network.clock)
 
 -- ---- what an event leaves as it is
 
@@ -64,7 +64,7 @@ after-scenario network event = after-either (λ n. n.scenario ≡ network.scenar
     accepted (events.Tick count) = refl
     accepted (events.Timers node) = refl
     accepted (events.Send site source group payload) = refl
-    accepted other = message-either (λ n. n.scenario ≡ network.scenario) network (message_of network.scenario other) refl (λ entries. refl)
+    accepted other = message-either (λ n. n.scenario ≡ network.scenario) network (message_of network.scenario other) (λ entries. refl)
 
 -- The event sends nothing.
 abbrev pub IsQuiet : Event → Type 0
@@ -79,7 +79,7 @@ quiet-accepted network event h = after-either (λ n. n.accepted ≡ network.acce
     accepted (events.Tick count) k = refl
     accepted (events.Timers node) k = refl
     accepted (events.Send site source group payload) k = absurd k
-    accepted other k = message-either (λ n. n.accepted ≡ network.accepted) network (message_of network.scenario other) refl (λ entries. refl)
+    accepted other k = message-either (λ n. n.accepted ≡ network.accepted) network (message_of network.scenario other) (λ entries. refl)
 
 -- An event counts at most one datagram.
 pub after-accepted : (network : Network) (event : Event) → (after network event).accepted ≤ network.accepted + 1
@@ -94,7 +94,7 @@ after-clock network event h = after-either (λ n. n.clock ≤ network.clock + 10
     accepted (events.Tick count) k = omega (arith, k.1)
     accepted (events.Timers node) k = omega arith
     accepted (events.Send site source group payload) k = omega arith
-    accepted other k = message-either (λ n. n.clock ≤ network.clock + 1000000) network (message_of network.scenario other) (omega arith) (λ entries. omega arith)
+    accepted other k = message-either (λ n. n.clock ≤ network.clock + 1000000) network (message_of network.scenario other) (λ entries. omega arith)
 
 -- ---- the lines of an event
 

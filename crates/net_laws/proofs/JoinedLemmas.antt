@@ -1,8 +1,8 @@
 -- The state after the first events tells where each entry stands behind them, and how many datagrams were accepted.
-use Rattle.std.proofs.Common.{◌≡◌, ℕ, ◌+◌, ◌<◌, List, [], ◌∷◌, ◌++◌, true, false, Bool, cond, not, length, refl, sym, ap, subst, append_assoc, length-append, ◌∙◌, arith}
-use Rattle.std.specs.Prelude.{◌==◌, Option, None, Some, slice_get, is_some}
+use Rattle.std.proofs.Common.{◌≡◌, ℕ, ◌+◌, ◌<◌, List, [], ◌∷◌, ◌++◌, true, cond, not, length, refl, sym, ap, subst, append_assoc, length-append, ◌∙◌, arith}
+use Rattle.std.specs.Prelude.{Option, None, Some, is_some}
 use Rattle.std.specs.List.{fold}
-use Rattle.std.specs.FinMap.{empty, get-empty}
+use Rattle.std.specs.FinMap.{get-empty}
 use Rattle.std.proofs.lemmas.Bool.{eq-eqb, cond-true, cond-false}
 use Rattle.std.proofs.lemmas.List.{append-nil}
 use Rattle.std.proofs.lemmas.List.Sums.{fold-append}
@@ -26,8 +26,9 @@ use Rattle.mvpn_model.specs.Messages.{message_of}
 use Rattle.mvpn_model.specs.Past.{is_accepted, is_of_edge, ticks_of, expiry_given, expiry_by, stands_after}
 use Rattle.mvpn_model.specs.Report.{Datagram, datagrams, sent_by}
 use Rattle.net_defs.specs.Network.{Network, start, refusal, with_message, accepted_after, after}
+use Rattle.net_laws.proofs.ListLemmas.{none_either_way}
 use Rattle.net_laws.proofs.VpnLemmas.{element_at, vrf_at}
-use Rattle.net_laws.proofs.FrameLemmas.{IsQuiet, quiet-accepted, after-scenario}
+use Rattle.net_laws.proofs.FrameLemmas.{quiet-accepted, after-scenario}
 use Rattle.net_laws.proofs.AcceptedLemmas.{is_refused}
 
 -- where an entry of an interface stands by the state
@@ -46,9 +47,9 @@ pub record Tells (refused : List ℕ) (done : List Timed) (network : Network) : 
 -- Nothing has happened at the start.
 pub tells-start : (refused : List ℕ) (scenario : Scenario) → Tells refused [] (start scenario)
 tells-start refused scenario = record {
-      standing = λ iface lt entry. ap (λ (o : Option Expiry). record { clock = 0; expiry = o }) (sym (get-empty entry_cmp (record { iface = iface; entry = entry })));
-      accepted = refl;
-    }
+  standing = λ iface lt entry. ap (λ (o : Option Expiry). record { clock = 0; expiry = o }) (sym (get-empty entry_cmp (record { iface = iface; entry = entry })));
+  accepted = refl;
+}
 
 -- ---- where an entry stands behind one more event
 
@@ -114,17 +115,12 @@ datagrams-snoc refused number (first ∷ done) place timed e =
     ap (λ l. own ++ l) (datagrams-snoc refused (number + 1) done place timed (omega (arith, e)))
     ∙ sym (append_assoc own (datagrams refused (number + 1) done) (cond (is_accepted refused timed) (sent_by place timed.event) []))
 
--- Nothing is added by an event that sends nothing.
-counts_none : (n : ℕ) (b : Bool) → n ≡ n + length (cond {A = List Datagram} b [] [])
-counts_none n true = omega arith
-counts_none n false = omega arith
-
 -- how many datagrams the state after an event counts
 after-counted : (refused : List ℕ) (old : Network) (timed : Timed) (event : Event) (place : ℕ) →
     is_accepted refused timed ≡ not (is_refused old event) →
     (after old event).accepted ≡ old.accepted + length (cond (is_accepted refused timed) (sent_by place event) [])
 after-counted refused old timed (events.Send site s g payload) place a = rw a (omega arith)
-after-counted refused old timed other place a = quiet-accepted old other tt ∙ counts_none old.accepted (is_accepted refused timed)
+after-counted refused old timed other place a = omega (arith, quiet-accepted old other tt, ap (length {A = Datagram}) (none_either_way (is_accepted refused timed)))
 
 -- The state after one more event tells what it did.
 pub tells-snoc : (refused : List ℕ) (done : List Timed) (old : Network) → Rules old.scenario → (timed : Timed) → IsEventOf old.scenario timed.event →

@@ -1,5 +1,5 @@
 -- In each run each datagram leaves once at each of its receivers, and nowhere else.
-use Rattle.std.proofs.Common.{◌≡◌, ℕ, ◌+◌, ◌<◌, ◌≤◌, List, [], ◌∷◌, ◌++◌, map, take, true, false, Bool, cond, not, zero, suc, length, refl, sym, ap, subst, append_assoc, ◌∙◌, arith}
+use Rattle.std.proofs.Common.{◌≡◌, ℕ, ◌+◌, ◌<◌, ◌≤◌, List, [], ◌∷◌, ◌++◌, map, take, false, Bool, cond, not, zero, suc, length, refl, sym, ap, subst, append_assoc, ◌∙◌, arith}
 use Rattle.std.specs.Prelude.{◌==◌, ◌&&◌, Option, None, Some, slice_get}
 use Rattle.std.specs.List.{list_any, flat_map, count_by, AllByRecursion}
 use Rattle.std.specs.Option.{option_to_list}
@@ -18,7 +18,6 @@ use Rattle.scenario_defs.specs.declared.event.Event.TheVariants as events
 use Rattle.scenario_defs.specs.declared.event.JoinEntry.TheVariants as entries
 use Rattle.pim_defs.specs.Asking.{asks_by}
 use Rattle.scenario_defs.specs.declared.report.ReportLine.{ReportLine}
-use Rattle.scenario_defs.specs.declared.report.ReportLine.TheVariants as lines
 use Rattle.scenario_defs.specs.Rules.{Rules, IsEventOf, ScriptRules}
 use Rattle.scenario_defs.specs.Vpn.{same_vpn, is_of_site, vrf_of_site, ifaces_where, entered}
 use Rattle.mvpn_model.specs.Past.{is_accepted, is_home, asks, receives, receivers}
@@ -27,9 +26,10 @@ use Rattle.mvpn_model.specs.Report.{Entry, Datagram, datagrams, sent_by, refused
 use Rattle.mvpn_model.specs.Once.{Once}
 use Rattle.net_defs.specs.Network.{Network, start, acts_of, after, leaves_at, leaves, entering, is_asking}
 use Rattle.net_defs.specs.Run.{Run, entries_of}
+use Rattle.net_laws.proofs.ListLemmas.{none_either_way}
 use Rattle.net_laws.proofs.RunLemmas.{report_from, runs_are}
 use Rattle.net_laws.proofs.VpnLemmas.{IsVrfOfSite, vrf_of_site-is, vrf_is_vpn, entered-one}
-use Rattle.net_laws.proofs.FrameLemmas.{IsQuiet, quiet-accepted, after-scenario}
+use Rattle.net_laws.proofs.FrameLemmas.{quiet-accepted, after-scenario}
 use Rattle.net_laws.proofs.AcceptedLemmas.{is_refused, Agrees, agrees-of_report, send-outs}
 use Rattle.net_laws.proofs.JoinedLemmas.{Tells, tells-start, tells-snoc}
 use Rattle.net_laws.proofs.OutLemmas.{outs_of, outs_at-append, outs_at-entries, quiet-outs, outs-other, outs-own, ifaces_where-once, ifaces_where-same_at}
@@ -135,11 +135,6 @@ once-sent scenario refused whole iface own sent accepted next acts place rest a 
     let front : outs_at (entries_of place acts) number iface ≡ 0 = outs_at-entries place acts number iface ∙ c number (λ k. omega (arith, k, n)) in
     let behind = later i datagram e number (omega (arith, n, a)) in
     omega (arith, outs_at-append (entries_of place acts) rest number iface, front, behind)
-
--- A choice of nothing and nothing is nothing.
-none_either_way : {X : Type 0} (b : Bool) → cond {A = List X} b [] [] ≡ []
-none_either_way true = refl
-none_either_way false = refl
 
 -- Each datagram leaves as often as it is to, from one event on, if each later one does.
 once-step : (scenario : Scenario) → Rules scenario →

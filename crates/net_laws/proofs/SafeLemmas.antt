@@ -16,7 +16,6 @@ use Rattle.scenario_defs.specs.declared.event.Script.{Script}
 use Rattle.scenario_defs.specs.declared.event.Event.{Event}
 use Rattle.scenario_defs.specs.declared.event.Event.TheVariants as events
 use Rattle.scenario_defs.specs.declared.report.ReportLine.{ReportLine}
-use Rattle.scenario_defs.specs.declared.report.ReportLine.TheVariants as lines
 use Rattle.scenario_defs.specs.Rules.{Rules, IsEventOf, ScriptRules}
 use Rattle.scenario_defs.specs.Vpn.{is_of_site, is_of_vrf, vrf_of_site, ifaces_where}
 use Rattle.mvpn_model.specs.Past.{is_accepted, is_home}

@@ -82,7 +82,13 @@ pub fn asks(
     let joined = stands(alloc, history, iface, JoinEntry::Source { source, group })?;
     let shared = stands(alloc, history, iface, JoinEntry::Star { group })?;
     let pruned = stands(alloc, history, iface, JoinEntry::Rpt { source, group })?;
-    Ok(asks_by(joined.clock, ACTIVE, joined.expiry, shared.expiry, pruned.expiry))
+    Ok(asks_by(
+        joined.clock,
+        ACTIVE,
+        joined.expiry,
+        shared.expiry,
+        pruned.expiry,
+    ))
 }
 
 /// Whether the site is the home of the source in the VRF's VPN.
@@ -111,8 +117,7 @@ fn receives(
     requires clock { ticks_in (past_of history.now).events < 2 ^ 63 }
     ensures { IfOk result (λ answer. answer ≡ receives (past_of history.now) vrf site source group number iface.now) }
 {
-    let elsewhere =
-        same_vpn(&history.script.scenario, vrf, iface.vrf) && iface.site.0 != site.0;
+    let elsewhere = same_vpn(&history.script.scenario, vrf, iface.vrf) && iface.site.0 != site.0;
     if !elsewhere {
         return Ok(false);
     }

@@ -4,7 +4,7 @@ ghost use Rattle.std.specs.List.{list_any, fold};
 ghost use Rattle.mvpn_model.specs.Past.{is_accepted, ticks_of, ticks_in, is_of_edge, expiry_given, expiry_by, stands_after};
 
 use crate::message::{Given, message_of};
-use mv_base::{IfaceId, NodeId, NoMemory};
+use mv_base::{IfaceId, NoMemory, NodeId};
 use pim_defs::{Expiry, counts, expiry_after, mention_of};
 use scenario_defs::{Event, JoinEntry, Scenario, Timed};
 use std::alloc::Global;

@@ -1,6 +1,6 @@
 -- An event is accepted, by the report of a whole run, where it was not refused at its turn.
 use Rattle.std.proofs.Common.{◌≡◌, ℕ, ◌+◌, ◌<◌, ◌≤◌, List, [], ◌∷◌, ◌++◌, map, true, false, Bool, cond, not, refl, sym, ap, append_assoc, ◌∙◌, arith}
-use Rattle.std.specs.Prelude.{◌==◌, ◌||◌}
+use Rattle.std.specs.Prelude.{◌==◌, ◌||◌, Option, None, Some, is_some}
 use Rattle.std.specs.List.{flat_map, list_any, AllByRecursion}
 use Rattle.std.proofs.lemmas.Bool.{ne_eqb, eq-eqb, or_from}
 use Rattle.std.proofs.lemmas.List.Concat.{flat_map-append}
@@ -10,23 +10,21 @@ use Rattle.mv_base.specs.declared.addr.Addr.{Addr}
 use Rattle.scenario_defs.specs.declared.event.Timed.{Timed}
 use Rattle.scenario_defs.specs.declared.event.Event.{Event}
 use Rattle.scenario_defs.specs.declared.event.Event.TheVariants as events
-use Rattle.scenario_defs.specs.declared.event.JoinEntry.TheVariants as entries
 use Rattle.scenario_defs.specs.declared.report.ReportLine.{ReportLine}
 use Rattle.scenario_defs.specs.declared.report.ReportLine.TheVariants as lines
-use Rattle.scenario_defs.specs.declared.report.Refusal.TheVariants as refusals
+use Rattle.scenario_defs.specs.declared.report.Refusal.{Refusal}
 use Rattle.scenario_defs.specs.Rules.{Rises}
 use Rattle.scenario_defs.specs.Vpn.{entered}
 use Rattle.mvpn_model.specs.Past.{is_accepted}
 use Rattle.mvpn_model.specs.Report.{lines_of, refused_line, refused_lines}
-use Rattle.net_defs.specs.Network.{Network, acts_of, after, is_full, entering}
+use Rattle.net_defs.specs.Network.{Network, refusal, accepted_acts, acts_of, after, entering}
 use Rattle.net_defs.specs.Run.{entries_of}
 use Rattle.net_laws.proofs.RunLemmas.{report_from}
 use Rattle.net_laws.proofs.FrameLemmas.{lines_of-entries, lines_of-append, acts-all, entering-all}
 
 -- whether the network refuses the event
 abbrev pub is_refused : Network → Event → Bool
-is_refused network (events.Join iface (entries.Source source group)) = is_full network iface source group
-is_refused network other = false
+is_refused network event = is_some (refusal network event)
 
 -- the lines of those of the events that are refused
 abbrev pub refused_from : Network → List Timed → List ℕ
@@ -50,17 +48,21 @@ outs-refuse_none number [] h = refl
 outs-refuse_none number (lines.Out out_number iface octets ∷ more) h = outs-refuse_none number more h.1
 outs-refuse_none number (other ∷ more) h = absurd h.0
 
+-- The acts of an event that is accepted refuse nothing.
+accepted-refuse_none : (network : Network) (event : Event) → flat_map refused_line (flat_map (λ act. act) (accepted_acts network event)) ≡ []
+accepted-refuse_none network (events.Send site source group payload) = outs-refuse_none (network.accepted + 1) (flat_map (λ act. act) (map (entering network site source group payload) (entered network.scenario site))) (send-outs network site source group payload)
+accepted-refuse_none network events.State = refl
+accepted-refuse_none network events.Drain = refl
+accepted-refuse_none network other = refl
+
 -- The acts of an event refuse its line where the network refuses the event.
 acts-refuse : (network : Network) (line : ℕ) (event : Event) →
     flat_map refused_line (flat_map (λ act. act) (acts_of network line event)) ≡ cond (is_refused network event) (line ∷ []) []
-acts-refuse network line (events.Join iface (entries.Source source group)) = full (is_full network iface source group)
+acts-refuse network line event = by (refusal network event)
   where
-    full : (b : Bool) → flat_map refused_line (flat_map (λ act. act) (cond b ((lines.Refused line refusals.Full ∷ []) ∷ []) ([] ∷ []))) ≡ cond b (line ∷ []) []
-    full true = refl
-    full false = refl
-acts-refuse network line (events.Send site source group payload) = outs-refuse_none (network.accepted + 1) (flat_map (λ act. act) (map (entering network site source group payload) (entered network.scenario site))) (send-outs network site source group payload)
-acts-refuse network line events.State = refl
-acts-refuse network line other = refl
+    by : (o : Option Refusal) → flat_map refused_line (flat_map (λ act. act) (elim o [ None ↦ accepted_acts network event | Some reason ↦ (lines.Refused line reason ∷ []) ∷ [] ])) ≡ cond (is_some o) (line ∷ []) []
+    by None = accepted-refuse_none network event
+    by (Some reason) = refl
 
 -- A report refuses the lines of those of its events that were refused at their turn.
 pub refused_lines_are : (old : Network) (number : ℕ) (timeds : List Timed) → refused_lines (report_from old number timeds) ≡ refused_from old timeds

@@ -1,6 +1,6 @@
 -- What an event leaves as it is, and the lines and the text of its acts.
 use Rattle.std.proofs.Common.{◌≡◌, ℕ, ◌+◌, ◌<◌, ◌≤◌, List, [], ◌∷◌, ◌++◌, map, true, Bool, suc, length, refl, ap, ◌∙◌, arith}
-use Rattle.std.specs.Prelude.{Some, slice_get}
+use Rattle.std.specs.Prelude.{Option, None, Some, slice_get}
 use Rattle.std.specs.List.{flat_map, All, AllByRecursion}
 use Rattle.std.proofs.lemmas.Bool.{cond_both}
 use Rattle.std.proofs.lemmas.List.Concat.{flat_map-append}
@@ -14,32 +14,89 @@ use Rattle.scenario_defs.specs.declared.scenario.Iface.{Iface}
 use Rattle.scenario_defs.specs.declared.scenario.Scenario.{Scenario}
 use Rattle.scenario_defs.specs.declared.event.Event.{Event}
 use Rattle.scenario_defs.specs.declared.event.Event.TheVariants as events
-use Rattle.scenario_defs.specs.declared.event.JoinEntry.TheVariants as entries
 use Rattle.scenario_defs.specs.declared.report.ReportLine.{ReportLine}
 use Rattle.scenario_defs.specs.declared.report.ReportLine.TheVariants as lines
-use Rattle.scenario_defs.specs.declared.report.Refusal.TheVariants as refusals
+use Rattle.scenario_defs.specs.declared.report.Refusal.{Refusal}
+use Rattle.scenario_defs.specs.Rules.{IsEventOf}
 use Rattle.scenario_defs.specs.Text.{line_text, IsLineOf}
 use Rattle.scenario_defs.specs.Vpn.{ifaces_where, entered}
 use Rattle.mvpn_model.specs.Past.{is_home}
 use Rattle.mvpn_model.specs.Packet.{packet}
 use Rattle.mvpn_model.specs.Report.{Entry, lines_of, report_text}
-use Rattle.net_defs.specs.Network.{Network, acts_of, after, is_full, with_joined, leaves_at, leaves, entering}
+use Rattle.mvpn_model.specs.declared.message.Given.{Given}
+use Rattle.mvpn_model.specs.Messages.{message_of}
+use Rattle.pim_defs.specs.Entries.{Entries, applied}
+use Rattle.net_defs.specs.Network.{Network, refusal, accepted_acts, acts_of, with_message, accepted_after, after, leaves_at, leaves, entering}
 use Rattle.net_defs.specs.Run.{entries_of}
 use Rattle.net_laws.proofs.ListLemmas.{all-append}
 
+-- ---- refused or not
+
+-- What holds of the state as it is, and of the state behind the event if it is accepted, holds behind the event.
+pub after-either : (P : Network → Type 0) (network : Network) (event : Event) → P network → P (accepted_after network event) → P (after network event)
+after-either P network event h k = by (refusal network event)
+  where
+    by : (o : Option Refusal) → P (elim o [ None ↦ accepted_after network event | Some reason ↦ network ])
+    by None = k
+    by (Some reason) = h
+
+-- What holds of the one line of a refusal, and of the acts of the event if it is accepted, holds of its acts.
+pub acts-either : (P : List (List ReportLine) → Type 0) (network : Network) (line : ℕ) (event : Event) →
+    ((reason : Refusal) → P ((lines.Refused line reason ∷ []) ∷ [])) → P (accepted_acts network event) → P (acts_of network line event)
+acts-either P network line event h k = by (refusal network event)
+  where
+    by : (o : Option Refusal) → P (elim o [ None ↦ accepted_acts network event | Some reason ↦ (lines.Refused line reason ∷ []) ∷ [] ])
+    by None = k
+    by (Some reason) = h reason
+
+-- What holds of the state, whatever its entries are, holds behind a message.
+pub message-either : (P : Network → Type 0) (network : Network) (o : Option Given) → ((entries : Entries) → P (record network { entries = entries })) → P (with_message network o)
+message-either P network None h = h network.entries
+message-either P network (Some given) h = h (applied network.entries given.iface given.message network.clock)
+
+-- ---- what an event leaves as it is
+
 -- An event leaves the scenario as it is.
 pub after-scenario : (network : Network) (event : Event) → (after network event).scenario ≡ network.scenario
-after-scenario network (events.Join iface (entries.Source source group)) =
-    cond_both (is_full network iface source group) network (record network { entries = with_joined network.entries iface source group }) (λ n. n.scenario ≡ network.scenario) (λ e. refl) (λ e. refl)
-after-scenario network (events.Send site source group payload) = refl
-after-scenario network other = refl
+after-scenario network event = after-either (λ n. n.scenario ≡ network.scenario) network event refl (accepted event)
+  where
+    accepted : (event : Event) → (accepted_after network event).scenario ≡ network.scenario
+    accepted (events.Tick count) = refl
+    accepted (events.Timers node) = refl
+    accepted (events.Send site source group payload) = refl
+    accepted other = message-either (λ n. n.scenario ≡ network.scenario) network (message_of network.scenario other) (λ entries. refl)
+
+-- The event sends nothing.
+abbrev pub IsQuiet : Event → Type 0
+IsQuiet (events.Send site source group payload) = ⊥
+IsQuiet other = Unit {0}
+
+-- Such an event counts no datagram.
+pub quiet-accepted : (network : Network) (event : Event) → IsQuiet event → (after network event).accepted ≡ network.accepted
+quiet-accepted network event h = after-either (λ n. n.accepted ≡ network.accepted) network event refl (accepted event h)
+  where
+    accepted : (event : Event) → IsQuiet event → (accepted_after network event).accepted ≡ network.accepted
+    accepted (events.Tick count) k = refl
+    accepted (events.Timers node) k = refl
+    accepted (events.Send site source group payload) k = absurd k
+    accepted other k = message-either (λ n. n.accepted ≡ network.accepted) network (message_of network.scenario other) (λ entries. refl)
 
 -- An event counts at most one datagram.
 pub after-accepted : (network : Network) (event : Event) → (after network event).accepted ≤ network.accepted + 1
-after-accepted network (events.Join iface (entries.Source source group)) =
-    cond_both (is_full network iface source group) network (record network { entries = with_joined network.entries iface source group }) (λ n. n.accepted ≤ network.accepted + 1) (λ e. omega arith) (λ e. omega arith)
 after-accepted network (events.Send site source group payload) = omega arith
-after-accepted network other = omega arith
+after-accepted network other = omega (arith, quiet-accepted network other tt)
+
+-- An event moves the clock by the ticks of one event at most.
+pub after-clock : (network : Network) (event : Event) → IsEventOf network.scenario event → (after network event).clock ≤ network.clock + 1000000
+after-clock network event h = after-either (λ n. n.clock ≤ network.clock + 1000000) network event (omega arith) (accepted event h)
+  where
+    accepted : (event : Event) → IsEventOf network.scenario event → (accepted_after network event).clock ≤ network.clock + 1000000
+    accepted (events.Tick count) k = omega (arith, k.1)
+    accepted (events.Timers node) k = omega arith
+    accepted (events.Send site source group payload) k = omega arith
+    accepted other k = message-either (λ n. n.clock ≤ network.clock + 1000000) network (message_of network.scenario other) (λ entries. omega arith)
+
+-- ---- the lines of an event
 
 -- The lines of an event's entries are those of its acts.
 pub lines_of-entries : (number : ℕ) (acts : List (List ReportLine)) → lines_of (entries_of number acts) ≡ flat_map (λ act. act) acts
@@ -93,12 +150,11 @@ entering-all P network site source group payload vrf h =
 
 -- The lines of an event name things of the scenario, one after another.
 pub acts-named_each : (network : Network) (line : ℕ) (event : Event) → AllByRecursion (IsLineOf network.scenario) (flat_map (λ act. act) (acts_of network line event))
-acts-named_each network line (events.Join iface (entries.Source source group)) =
-    cond_both (is_full network iface source group) ((lines.Refused line refusals.Full ∷ []) ∷ []) ([] ∷ []) (λ acts. AllByRecursion (IsLineOf network.scenario) (flat_map (λ act. act) acts)) (λ e. (tt, tt)) (λ e. tt)
 acts-named_each network line (events.Send site source group payload) =
     acts-all (IsLineOf network.scenario) (entering network site source group payload) (entered network.scenario site) (λ vrf. entering-all (IsLineOf network.scenario) network site source group payload vrf (λ iface lt. lt))
 acts-named_each network line events.State = (tt, tt)
-acts-named_each network line other = tt
+acts-named_each network line events.Drain = tt
+acts-named_each network line other = acts-either (λ acts. AllByRecursion (IsLineOf network.scenario) (flat_map (λ act. act) acts)) network line other (λ reason. (tt, tt)) tt
 
 -- The lines of an event name things of the scenario.
 pub acts-named : (network : Network) (line : ℕ) (event : Event) → All (IsLineOf network.scenario) (flat_map (λ act. act) (acts_of network line event))

@@ -1,100 +1,108 @@
--- The state after the first events tells which of them joined flows, and how many datagrams were accepted.
-use Rattle.std.proofs.Common.{◌≡◌, ℕ, ◌+◌, List, [], ◌∷◌, ◌++◌, true, false, Bool, cond, not, length, refl, sym, ap, inl, inr, append_assoc, length-append, ◌∙◌, arith}
-use Rattle.std.specs.Prelude.{◌==◌, ◌&&◌, ◌||◌}
-use Rattle.std.specs.List.{list_any}
-use Rattle.std.specs.Cmp.Lexicographic.{same_text}
-use Rattle.std.proofs.lemmas.Bool.{cases_Bool, eqb-true, and_parts, and_right, cond-true, cond-false, cond_both, false≢true, not_from_true, not_from_false}
+-- The state after the first events tells where each entry stands behind them, and how many datagrams were accepted.
+use Rattle.std.proofs.Common.{◌≡◌, ℕ, ◌+◌, ◌<◌, List, [], ◌∷◌, ◌++◌, true, cond, not, length, refl, sym, ap, subst, append_assoc, length-append, ◌∙◌, arith}
+use Rattle.std.specs.Prelude.{Option, None, Some, is_some}
+use Rattle.std.specs.List.{fold}
+use Rattle.std.specs.FinMap.{get-empty}
+use Rattle.std.proofs.lemmas.Bool.{eq-eqb, cond-true, cond-false}
 use Rattle.std.proofs.lemmas.List.{append-nil}
-use Rattle.std.proofs.lemmas.List.Folds.{list_any-append}
+use Rattle.std.proofs.lemmas.List.Sums.{fold-append}
+use Rattle.mv_base.specs.declared.ids.NodeId.{NodeId}
 use Rattle.mv_base.specs.declared.ids.IfaceId.{IfaceId}
-use Rattle.mv_base.specs.declared.addr.Addr.{Addr}
-use Rattle.mv_base.specs.declared.addr.Addr.TheVariants.{V4, V6}
-use Rattle.mv_base.specs.Address.{same_addr}
+use Rattle.scenario_defs.specs.declared.scenario.Scenario.{Scenario}
 use Rattle.scenario_defs.specs.declared.event.Timed.{Timed}
 use Rattle.scenario_defs.specs.declared.event.Event.{Event}
 use Rattle.scenario_defs.specs.declared.event.Event.TheVariants as events
-use Rattle.scenario_defs.specs.declared.event.JoinEntry.TheVariants as entries
-use Rattle.mvpn_model.specs.Past.{is_accepted, is_join}
+use Rattle.scenario_defs.specs.declared.event.JoinEntry.{JoinEntry}
+use Rattle.scenario_defs.specs.declared.report.Refusal.{Refusal}
+use Rattle.scenario_defs.specs.Rules.{Rules, IsEventOf}
+use Rattle.pim_defs.specs.declared.entry.IfaceEntry.{IfaceEntry}
+use Rattle.pim_defs.specs.declared.expiry.Expiry.{Expiry}
+use Rattle.pim_defs.specs.Entries.{entry_cmp, expiry_at, expiry_then, applied, kept_at}
+use Rattle.pim_defs.specs.Expiry.{remaining}
+use Rattle.pim_defs.proofs.EntriesLemmas.{get-applied, get-kept}
+use Rattle.mvpn_model.specs.declared.message.Given.{Given}
+use Rattle.mvpn_model.specs.declared.standing.Standing.{Standing}
+use Rattle.mvpn_model.specs.Messages.{message_of}
+use Rattle.mvpn_model.specs.Past.{is_accepted, is_of_edge, ticks_of, expiry_given, expiry_by, stands_after}
 use Rattle.mvpn_model.specs.Report.{Datagram, datagrams, sent_by}
-use Rattle.net_defs.specs.Network.{Network, after, is_full, is_entry, has_joined, with_joined}
-use Rattle.net_defs.specs.declared.entry.JoinedEntry.{JoinedEntry}
+use Rattle.net_defs.specs.Network.{Network, start, refusal, with_message, accepted_after, after}
+use Rattle.net_laws.proofs.ListLemmas.{none_either_way}
+use Rattle.net_laws.proofs.VpnLemmas.{element_at, vrf_at}
+use Rattle.net_laws.proofs.FrameLemmas.{quiet-accepted, after-scenario}
 use Rattle.net_laws.proofs.AcceptedLemmas.{is_refused}
 
--- Addresses that the test of addresses finds to be one are equal.
-pub same_addr-true : (a b : Addr) → same_addr a b ≡ true → a ≡ b
-same_addr-true (V4 a) (V4 b) h = ap (λ (octets : List ℕ). V4 octets) (same_text a b (sym h))
-same_addr-true (V6 a) (V6 b) h = ap (λ (octets : List ℕ). V6 octets) (same_text a b (sym h))
-same_addr-true (V4 a) (V6 b) h = absurd (false≢true h)
-same_addr-true (V6 a) (V4 b) h = absurd (false≢true h)
+-- where an entry of an interface stands by the state
+abbrev pub stands_at : Network → IfaceId → JoinEntry → Standing
+stands_at network iface entry = record { clock = network.clock; expiry = expiry_at network.entries iface entry }
 
--- whether an accepted one of the events joined (S,G) at the interface
-abbrev pub is_joined_by : List ℕ → List Timed → IfaceId → Addr → Addr → Bool
-is_joined_by refused done iface source group = list_any (λ timed. is_accepted refused timed && is_join iface source group timed.event) done
+-- where it stands by the events
+abbrev pub stands_by : Scenario → List ℕ → List Timed → IfaceId → JoinEntry → Standing
+stands_by scenario refused done iface entry = fold (stands_after scenario refused iface entry) (record { clock = 0; expiry = None }) done
 
 -- The state tells what the events did that are done.
 pub record Tells (refused : List ℕ) (done : List Timed) (network : Network) : Type 0 where
-  pub joined : (iface : IfaceId) (source group : Addr) → has_joined network.entries iface source group ≡ is_joined_by refused done iface source group
+  pub standing : (iface : IfaceId) → iface.0 < length network.scenario.ifaces → (entry : JoinEntry) → stands_by network.scenario refused done iface entry ≡ stands_at network iface entry
   pub accepted : network.accepted ≡ length (datagrams refused 0 done)
 
--- A test of either of two of which the second is false is the first.
-or_false : (b : Bool) → (b || false) ≡ b
-or_false true = refl
-or_false false = refl
+-- Nothing has happened at the start.
+pub tells-start : (refused : List ℕ) (scenario : Scenario) → Tells refused [] (start scenario)
+tells-start refused scenario = record {
+  standing = λ iface lt entry. ap (λ (o : Option Expiry). record { clock = 0; expiry = o }) (sym (get-empty entry_cmp (record { iface = iface; entry = entry })));
+  accepted = refl;
+}
 
--- One more event joins what it joins.
-is_joined_by-snoc : (refused : List ℕ) (done : List Timed) (timed : Timed) (iface : IfaceId) (source group : Addr) →
-    is_joined_by refused (done ++ timed ∷ []) iface source group ≡ (is_joined_by refused done iface source group || (is_accepted refused timed && is_join iface source group timed.event))
-is_joined_by-snoc refused done timed iface source group =
-    list_any-append (λ timed. is_accepted refused timed && is_join iface source group timed.event) done (timed ∷ [])
-    ∙ ap (λ b. is_joined_by refused done iface source group || b) (or_false (is_accepted refused timed && is_join iface source group timed.event))
+-- ---- where an entry stands behind one more event
 
--- An entry that the test finds is (S,G) at the interface.
-is_entry-true : (iface other : IfaceId) (source group s g : Addr) →
-    is_entry iface source group (record { iface = other; source = s; group = g }) ≡ true → (other ≡ iface) × (s ≡ source) × (g ≡ group)
-is_entry-true iface other source group s g h =
-    let a = and_parts ((other.0 == iface.0) && same_addr s source) (same_addr g group) h in
-    let b = and_parts (other.0 == iface.0) (same_addr s source) a.0 in
-    (ap (λ n. record { 0 = n }) (eqb-true other.0 iface.0 b.0), same_addr-true s source b.1, same_addr-true g group a.1)
+-- A scenario has at most one edge, of which each interface is.
+is_of_edge-true : (scenario : Scenario) → Rules scenario → (node : NodeId) → node.0 < length scenario.nodes → (iface : IfaceId) →
+    iface.0 < length scenario.ifaces → is_of_edge scenario node iface ≡ true
+is_of_edge-true scenario rules node known iface lt =
+    let found = element_at scenario.ifaces iface.0 lt in
+    let own = vrf_at scenario found.0.vrf.0 (rules.vrf_known iface.0 found.0 found.1) in
+    rw (found.1, own.at, is_of_edge) (eq-eqb own.vrf.edge.0 node.0 (omega (arith, rules.connected, rules.edge_known found.0.vrf.0 own.vrf own.at, known)))
 
--- What is found is found with one more test, if that test finds nothing new.
-or_found : (a b : Bool) → (b ≡ true → a ≡ true) → a ≡ (a || b)
-or_found true b h = refl
-or_found false true h = h refl
-or_found false false h = refl
+-- where an entry stands if the clock does not move
+at_the_clock : (clock : ℕ) (old new : Option Expiry) → old ≡ new → ◌≡◌ {A = Standing} (record { clock = clock + 0; expiry = old }) (record { clock = clock; expiry = new })
+at_the_clock clock old new e =
+    let same : clock + 0 ≡ clock = omega arith in
+    λ k. record { clock = same k; expiry = e k }
 
--- With one more entry the entry is joined, and the others are as before.
-with_joined-has : (list : List JoinedEntry) (other : IfaceId) (s g : Addr) (iface : IfaceId) (source group : Addr) →
-    has_joined (with_joined list other s g) iface source group ≡ (has_joined list iface source group || is_entry iface source group (record { iface = other; source = s; group = g }))
-with_joined-has list other s g iface source group = elim (cases_Bool (has_joined list other s g)) [
-  | inl there ↦
-      ap (λ l. has_joined l iface source group) (cond-true (has_joined list other s g) list (list ++ record { iface = other; source = s; group = g } ∷ []) there)
-      ∙ or_found (has_joined list iface source group) (is_entry iface source group (record { iface = other; source = s; group = g })) (λ t.
-      let e = is_entry-true iface other source group s g t in
-      rw (sym e.0, sym e.1, sym e.2) there)
-  | inr new ↦
-      ap (λ l. has_joined l iface source group) (cond-false (has_joined list other s g) list (list ++ record { iface = other; source = s; group = g } ∷ []) new)
-      ∙ list_any-append (is_entry iface source group) list (record { iface = other; source = s; group = g } ∷ [])
-      ∙ ap (λ b. has_joined list iface source group || b) (or_false (is_entry iface source group (record { iface = other; source = s; group = g })))
-]
+-- where an entry stands behind a message
+message-stands : (old : Network) (o : Option Given) (iface : IfaceId) (entry : JoinEntry) →
+    record { clock = old.clock + 0; expiry = expiry_given iface entry old.clock (expiry_at old.entries iface entry) o } ≡ stands_at (with_message old o) iface entry
+message-stands old None iface entry = at_the_clock old.clock (expiry_at old.entries iface entry) (expiry_at old.entries iface entry) refl
+message-stands old (Some given) iface entry =
+    let at : IfaceEntry = record { iface = iface; entry = entry } in
+    at_the_clock old.clock (expiry_then old.entries given.iface given.message old.clock at) (expiry_at (applied old.entries given.iface given.message old.clock) iface entry) (sym (get-applied old.entries given.iface given.message old.clock at))
 
--- the joins of the state after an event
-after-joined : (refused : List ℕ) (old : Network) (timed : Timed) (event : Event) → is_accepted refused timed ≡ not (is_refused old event) →
-    (iface : IfaceId) (source group : Addr) →
-    has_joined (after old event).entries iface source group ≡ (has_joined old.entries iface source group || (is_accepted refused timed && is_join iface source group event))
-after-joined refused old timed (events.Join other (entries.Source s g)) a iface source group = elim (cases_Bool (is_full old other s g)) [
-  | inl full ↦
-      let no : is_accepted refused timed ≡ false = a ∙ not_from_true (is_full old other s g) full in
-      ap (λ (n : Network). has_joined n.entries iface source group) (cond-true (is_full old other s g) old (record old { entries = with_joined old.entries other s g }) full)
-      ∙ sym (or_false (has_joined old.entries iface source group))
-      ∙ ap (λ b. has_joined old.entries iface source group || (b && is_join iface source group (events.Join other (entries.Source s g)))) (sym no)
-  | inr room ↦
-      let yes : is_accepted refused timed ≡ true = a ∙ not_from_false (is_full old other s g) room in
-      ap (λ (n : Network). has_joined n.entries iface source group) (cond-false (is_full old other s g) old (record old { entries = with_joined old.entries other s g }) room)
-      ∙ with_joined-has old.entries other s g iface source group
-      ∙ ap (λ b. has_joined old.entries iface source group || (b && is_join iface source group (events.Join other (entries.Source s g)))) (sym yes)
-]
-after-joined refused old timed (events.Send site s g payload) a iface source group = sym (or_false (has_joined old.entries iface source group)) ∙ ap (λ b. has_joined old.entries iface source group || b) (sym (and_right (is_accepted refused timed) false refl))
-after-joined refused old timed other a iface source group = sym (or_false (has_joined old.entries iface source group)) ∙ ap (λ b. has_joined old.entries iface source group || b) (sym (and_right (is_accepted refused timed) false refl))
+-- where an entry stands behind an event that is accepted
+accepted-stands : (old : Network) → Rules old.scenario → (event : Event) → IsEventOf old.scenario event → (iface : IfaceId) →
+    iface.0 < length old.scenario.ifaces → (entry : JoinEntry) →
+    record { clock = old.clock + ticks_of event; expiry = expiry_by old.scenario iface entry old.clock event (expiry_at old.entries iface entry) } ≡ stands_at (accepted_after old event) iface entry
+accepted-stands old rules (events.Tick count) h iface lt entry = refl
+accepted-stands old rules (events.Timers node) h iface lt entry =
+    let expiry = expiry_at old.entries iface entry in
+    at_the_clock old.clock (cond (is_of_edge old.scenario node iface) (remaining old.clock expiry) expiry) (expiry_at (kept_at old.entries old.clock) iface entry)
+    (cond-true (is_of_edge old.scenario node iface) (remaining old.clock expiry) expiry (is_of_edge-true old.scenario rules node h iface lt)
+    ∙ sym (get-kept old.entries old.clock (record { iface = iface; entry = entry })))
+accepted-stands old rules (events.Restart node) h iface lt entry = absurd h
+accepted-stands old rules (events.Send site source group payload) h iface lt entry = at_the_clock old.clock (expiry_at old.entries iface entry) (expiry_at old.entries iface entry) refl
+accepted-stands old rules other h iface lt entry = message-stands old (message_of old.scenario other) iface entry
+
+-- where an entry stands behind an event
+after-stands : (refused : List ℕ) (old : Network) → Rules old.scenario → (timed : Timed) → IsEventOf old.scenario timed.event →
+    is_accepted refused timed ≡ not (is_refused old timed.event) → (iface : IfaceId) → iface.0 < length old.scenario.ifaces → (entry : JoinEntry) →
+    stands_after old.scenario refused iface entry (stands_at old iface entry) timed ≡ stands_at (after old timed.event) iface entry
+after-stands refused old rules timed h a iface lt entry = by (refusal old timed.event) a
+  where
+    new : Standing
+    new = record { clock = old.clock + ticks_of timed.event; expiry = expiry_by old.scenario iface entry old.clock timed.event (expiry_at old.entries iface entry) }
+
+    by : (o : Option Refusal) → is_accepted refused timed ≡ not (is_some o) → cond (is_accepted refused timed) new (stands_at old iface entry) ≡ stands_at (elim o [ None ↦ accepted_after old timed.event | Some reason ↦ old ]) iface entry
+    by None e = cond-true (is_accepted refused timed) new (stands_at old iface entry) e ∙ accepted-stands old rules timed.event h iface lt entry
+    by (Some reason) e = cond-false (is_accepted refused timed) new (stands_at old iface entry) e
+
+-- ---- datagrams
 
 -- the datagrams of one more event
 pub datagrams-snoc : (refused : List ℕ) (number : ℕ) (done : List Timed) (place : ℕ) (timed : Timed) → place ≡ number + length done →
@@ -107,32 +115,27 @@ datagrams-snoc refused number (first ∷ done) place timed e =
     ap (λ l. own ++ l) (datagrams-snoc refused (number + 1) done place timed (omega (arith, e)))
     ∙ sym (append_assoc own (datagrams refused (number + 1) done) (cond (is_accepted refused timed) (sent_by place timed.event) []))
 
--- Nothing is added by an event that sends nothing.
-counts_none : (n : ℕ) (b : Bool) → n ≡ n + length (cond {A = List Datagram} b [] [])
-counts_none n true = omega arith
-counts_none n false = omega arith
-
 -- how many datagrams the state after an event counts
 after-counted : (refused : List ℕ) (old : Network) (timed : Timed) (event : Event) (place : ℕ) →
     is_accepted refused timed ≡ not (is_refused old event) →
     (after old event).accepted ≡ old.accepted + length (cond (is_accepted refused timed) (sent_by place event) [])
-after-counted refused old timed (events.Join other (entries.Source s g)) place a =
-    cond_both (is_full old other s g) old (record old { entries = with_joined old.entries other s g }) (λ n. n.accepted ≡ old.accepted) (λ e. refl) (λ e. refl)
-    ∙ counts_none old.accepted (is_accepted refused timed)
 after-counted refused old timed (events.Send site s g payload) place a = rw a (omega arith)
-after-counted refused old timed other place a = counts_none old.accepted (is_accepted refused timed)
+after-counted refused old timed other place a = omega (arith, quiet-accepted old other tt, ap (length {A = Datagram}) (none_either_way (is_accepted refused timed)))
 
 -- The state after one more event tells what it did.
-pub tells-snoc : (refused : List ℕ) (done : List Timed) (old : Network) (timed : Timed) →
+pub tells-snoc : (refused : List ℕ) (done : List Timed) (old : Network) → Rules old.scenario → (timed : Timed) → IsEventOf old.scenario timed.event →
     is_accepted refused timed ≡ not (is_refused old timed.event) → Tells refused done old →
     Tells refused (done ++ timed ∷ []) (after old timed.event)
-tells-snoc refused done old timed a tells =
+tells-snoc refused done old rules timed h a tells =
     let own = cond (is_accepted refused timed) (sent_by (length done) timed.event) [] in
+    let same : (after old timed.event).scenario ≡ old.scenario = after-scenario old timed.event in
     record {
-      joined = λ iface source group.
-          after-joined refused old timed timed.event a iface source group
-          ∙ ap (λ b. b || (is_accepted refused timed && is_join iface source group timed.event)) (tells.joined iface source group)
-          ∙ sym (is_joined_by-snoc refused done timed iface source group);
+      standing = λ iface lt entry.
+          let within : iface.0 < length old.scenario.ifaces = subst (λ (x : Scenario). iface.0 < length x.ifaces) same lt in
+          ap (λ (x : Scenario). stands_by x refused (done ++ timed ∷ []) iface entry) same
+          ∙ fold-append (stands_after old.scenario refused iface entry) (record { clock = 0; expiry = None }) done (timed ∷ [])
+          ∙ ap (λ (standing : Standing). stands_after old.scenario refused iface entry standing timed) (tells.standing iface within entry)
+          ∙ after-stands refused old rules timed h a iface within entry;
       accepted =
           after-counted refused old timed timed.event (length done) a
           ∙ ap (λ n. n + length own) tells.accepted

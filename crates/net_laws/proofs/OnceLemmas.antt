@@ -1,10 +1,11 @@
 -- In each run each datagram leaves once at each of its receivers, and nowhere else.
-use Rattle.std.proofs.Common.{◌≡◌, ℕ, ◌+◌, ◌≤◌, List, [], ◌∷◌, ◌++◌, map, take, true, false, Bool, cond, not, zero, suc, length, refl, sym, ap, subst, append_assoc, ◌∙◌, arith}
+use Rattle.std.proofs.Common.{◌≡◌, ℕ, ◌+◌, ◌<◌, ◌≤◌, List, [], ◌∷◌, ◌++◌, map, take, false, Bool, cond, not, zero, suc, length, refl, sym, ap, subst, append_assoc, ◌∙◌, arith}
 use Rattle.std.specs.Prelude.{◌==◌, ◌&&◌, Option, None, Some, slice_get}
-use Rattle.std.specs.List.{list_any, flat_map, count_by}
+use Rattle.std.specs.List.{list_any, flat_map, count_by, AllByRecursion}
 use Rattle.std.specs.Option.{option_to_list}
 use Rattle.std.proofs.lemmas.Bool.{cond_both, cond-true}
 use Rattle.std.proofs.lemmas.List.{append-nil, take_at, length_push}
+use Rattle.std.proofs.lemmas.Option.{slice_get_within}
 use Rattle.mv_base.specs.declared.ids.IfaceId.{IfaceId}
 use Rattle.mv_base.specs.declared.ids.SiteId.{SiteId}
 use Rattle.mv_base.specs.declared.ids.VrfId.{VrfId}
@@ -15,41 +16,35 @@ use Rattle.scenario_defs.specs.declared.event.Script.{Script}
 use Rattle.scenario_defs.specs.declared.event.Event.{Event}
 use Rattle.scenario_defs.specs.declared.event.Event.TheVariants as events
 use Rattle.scenario_defs.specs.declared.event.JoinEntry.TheVariants as entries
+use Rattle.pim_defs.specs.Asking.{asks_by}
 use Rattle.scenario_defs.specs.declared.report.ReportLine.{ReportLine}
-use Rattle.scenario_defs.specs.declared.report.ReportLine.TheVariants as lines
-use Rattle.scenario_defs.specs.declared.report.Refusal.TheVariants as refusals
-use Rattle.scenario_defs.specs.Rules.{Rules, ScriptRules}
+use Rattle.scenario_defs.specs.Rules.{Rules, IsEventOf, ScriptRules}
 use Rattle.scenario_defs.specs.Vpn.{same_vpn, is_of_site, vrf_of_site, ifaces_where, entered}
-use Rattle.mvpn_model.specs.Past.{is_accepted, is_home, receives, receivers}
+use Rattle.mvpn_model.specs.Past.{is_accepted, is_home, asks, receives, receivers}
 use Rattle.mvpn_model.specs.Packet.{packet}
 use Rattle.mvpn_model.specs.Report.{Entry, Datagram, datagrams, sent_by, refused_lines, is_out_at, outs_at}
 use Rattle.mvpn_model.specs.Once.{Once}
-use Rattle.net_defs.specs.Network.{Network, start, acts_of, after, is_full, with_joined, leaves_at, leaves, entering, has_joined}
+use Rattle.net_defs.specs.Network.{Network, start, acts_of, after, leaves_at, leaves, entering, is_asking}
 use Rattle.net_defs.specs.Run.{Run, entries_of}
+use Rattle.net_laws.proofs.ListLemmas.{none_either_way}
 use Rattle.net_laws.proofs.RunLemmas.{report_from, runs_are}
 use Rattle.net_laws.proofs.VpnLemmas.{IsVrfOfSite, vrf_of_site-is, vrf_is_vpn, entered-one}
-use Rattle.net_laws.proofs.FrameLemmas.{after-scenario}
+use Rattle.net_laws.proofs.FrameLemmas.{quiet-accepted, after-scenario}
 use Rattle.net_laws.proofs.AcceptedLemmas.{is_refused, Agrees, agrees-of_report, send-outs}
-use Rattle.net_laws.proofs.JoinedLemmas.{Tells, tells-snoc}
-use Rattle.net_laws.proofs.SafeLemmas.{tells-start}
-use Rattle.net_laws.proofs.OutLemmas.{outs_of, outs_at-append, outs_at-entries, outs-other, outs-own, ifaces_where-once, ifaces_where-same}
+use Rattle.net_laws.proofs.JoinedLemmas.{Tells, tells-start, tells-snoc}
+use Rattle.net_laws.proofs.OutLemmas.{outs_of, outs_at-append, outs_at-entries, quiet-outs, outs-other, outs-own, ifaces_where-once, ifaces_where-same_at}
 
 -- An event does not lower the count of datagrams.
 accepted-grows : (old : Network) (event : Event) → old.accepted ≤ (after old event).accepted
-accepted-grows old (events.Join iface (entries.Source source group)) =
-    cond_both (is_full old iface source group) old (record old { entries = with_joined old.entries iface source group }) (λ n. old.accepted ≤ n.accepted) (λ e. omega arith) (λ e. omega arith)
 accepted-grows old (events.Send site source group payload) = omega arith
-accepted-grows old other = omega arith
+accepted-grows old other = omega (arith, quiet-accepted old other tt)
 
 -- The acts of an event say that no other datagram left than the next.
 acts-other : (old : Network) (line : ℕ) (event : Event) (number : ℕ) (iface : IfaceId) → (old.accepted + 1 ≡ number → ⊥) →
     outs_of (acts_of old line event) number iface ≡ 0
-acts-other old line (events.Join joined (entries.Source source group)) number iface h =
-    cond_both (is_full old joined source group) ((lines.Refused line refusals.Full ∷ []) ∷ []) ([] ∷ []) (λ acts. outs_of acts number iface ≡ 0) (λ e. refl) (λ e. refl)
 acts-other old line (events.Send site source group payload) number iface h =
     outs-other (old.accepted + 1) number iface (flat_map (λ act. act) (map (entering old site source group payload) (entered old.scenario site))) h (send-outs old site source group payload)
-acts-other old line events.State number iface h = refl
-acts-other old line other number iface h = refl
+acts-other old line other number iface h = quiet-outs old line other tt number iface
 
 -- No datagram that was accepted before leaves by later events.
 outs-before : (old : Network) (place : ℕ) (timeds : List Timed) (number : ℕ) (iface : IfaceId) → number ≤ old.accepted →
@@ -66,14 +61,23 @@ outs-before old place (timed ∷ more) number iface h =
 abbrev pub is_one_of : List IfaceId → IfaceId → Bool
 is_one_of list iface = list_any (λ receiver. receiver.0 == iface.0) list
 
+-- An interface of the scenario asks by the state where it asks by the events.
+asks-are : (refused : List ℕ) (done : List Timed) (old : Network) → Tells refused done old → (source group : Addr) (iface : IfaceId) →
+    iface.0 < length old.scenario.ifaces → is_asking old source group iface ≡ asks (record { scenario = old.scenario; events = done; refused = refused }) iface source group
+asks-are refused done old tells source group iface lt =
+    let joined = tells.standing iface lt (entries.Source source group) in
+    let shared = tells.standing iface lt (entries.Star group) in
+    let pruned = tells.standing iface lt (entries.Rpt source group) in
+    sym (λ k. asks_by (joined k).clock false (joined k).expiry (shared k).expiry (pruned k).expiry)
+
 -- the interfaces of the VRF at which a datagram leaves are those of its VPN that receive it
 leaves-are : (refused : List ℕ) (done : List Timed) (old : Network) → Rules old.scenario → Tells refused done old →
     (site : SiteId) (source group : Addr) (vrf : VrfId) → IsVrfOfSite old.scenario site vrf →
     ifaces_where (leaves_at old vrf site source group) 0 old.scenario.ifaces ≡ ifaces_where (receives (record { scenario = old.scenario; events = done; refused = refused }) vrf site source group) 0 old.scenario.ifaces
 leaves-are refused done old rules tells site source group vrf is =
-    ifaces_where-same (leaves_at old vrf site source group) (receives (record { scenario = old.scenario; events = done; refused = refused }) vrf site source group) 0 old.scenario.ifaces (λ i j iface e.
-    ap (λ b. (b && not (is_of_site site iface)) && has_joined old.entries (record { 0 = j }) source group) (vrf_is_vpn old.scenario rules vrf is.known i iface e)
-    ∙ ap (λ b. (same_vpn old.scenario vrf iface.vrf && not (is_of_site site iface)) && b) (tells.joined (record { 0 = j }) source group))
+    ifaces_where-same_at (leaves_at old vrf site source group) (receives (record { scenario = old.scenario; events = done; refused = refused }) vrf site source group) 0 old.scenario.ifaces (λ i j iface e d.
+    ap (λ b. (b && not (is_of_site site iface)) && is_asking old source group (record { 0 = j })) (vrf_is_vpn old.scenario rules vrf is.known i iface d)
+    ∙ ap (λ b. (same_vpn old.scenario vrf iface.vrf && not (is_of_site site iface)) && b) (asks-are refused done old tells source group (record { 0 = j }) (omega (arith, e, slice_get_within old.scenario.ifaces i iface d))))
 
 -- A datagram leaves once at each of its receivers, by the acts of its own event.
 send-once : (refused : List ℕ) (done : List Timed) (old : Network) → Rules old.scenario → Tells refused done old →
@@ -132,24 +136,12 @@ once-sent scenario refused whole iface own sent accepted next acts place rest a 
     let behind = later i datagram e number (omega (arith, n, a)) in
     omega (arith, outs_at-append (entries_of place acts) rest number iface, front, behind)
 
--- A choice of nothing and nothing is nothing.
-none_either_way : {X : Type 0} (b : Bool) → cond {A = List X} b [] [] ≡ []
-none_either_way true = refl
-none_either_way false = refl
-
 -- Each datagram leaves as often as it is to, from one event on, if each later one does.
 once-step : (scenario : Scenario) → Rules scenario →
     (refused : List ℕ) (whole done : List Timed) (old : Network) (number line : ℕ) (event : Event) (more : List Timed) (iface : IfaceId) →
     take number whole ≡ done → old.scenario ≡ scenario → is_accepted refused (record { line = line; event = event }) ≡ not (is_refused old event) → Tells refused done old →
     EachOnce scenario refused whole iface (datagrams refused (number + 1) more) (after old event).accepted (report_from (after old event) (number + 1) more) →
     EachOnce scenario refused whole iface (cond (is_accepted refused (record { line = line; event = event })) (sent_by number event) [] ++ datagrams refused (number + 1) more) old.accepted (entries_of number (acts_of old line event) ++ report_from (after old event) (number + 1) more)
-once-step scenario rules refused whole done old number line (events.Join joined (entries.Source source group)) more iface w s a tells later =
-    let event : Event = events.Join joined (entries.Source source group) in
-    once-unsent scenario refused whole iface (cond (is_accepted refused (record { line = line; event = event })) [] []) (datagrams refused (number + 1) more) old.accepted (after old event).accepted (acts_of old line event) number (report_from (after old event) (number + 1) more)
-    (none_either_way (is_accepted refused (record { line = line; event = event })))
-    (cond_both (is_full old joined source group) old (record old { entries = with_joined old.entries joined source group }) (λ n. n.accepted ≡ old.accepted) (λ e. refl) (λ e. refl))
-    (λ n. cond_both (is_full old joined source group) ((lines.Refused line refusals.Full ∷ []) ∷ []) ([] ∷ []) (λ acts. outs_of acts n iface ≡ 0) (λ e. refl) (λ e. refl))
-    later
 once-step scenario rules refused whole done old number line (events.Send site source group payload) more iface w s a tells later =
     let event : Event = events.Send site source group payload in
     let own : Datagram = record { event = number; site = site; source = source; group = group; octets = packet source group payload } in
@@ -164,24 +156,23 @@ once-step scenario rules refused whole done old number line (events.Send site so
     (λ n other. acts-other old line event n iface other)
     (λ n le. outs-before (after old event) (number + 1) more n iface le)
     later)
-once-step scenario rules refused whole done old number line events.State more iface w s a tells later =
-    once-unsent scenario refused whole iface (cond (is_accepted refused (record { line = line; event = events.State })) [] []) (datagrams refused (number + 1) more) old.accepted old.accepted (acts_of old line events.State) number (report_from old (number + 1) more)
-    (none_either_way (is_accepted refused (record { line = line; event = events.State }))) refl (λ n. refl) later
 once-step scenario rules refused whole done old number line other more iface w s a tells later =
-    once-unsent scenario refused whole iface (cond (is_accepted refused (record { line = line; event = other })) [] []) (datagrams refused (number + 1) more) old.accepted old.accepted [] number (report_from old (number + 1) more)
-    (none_either_way (is_accepted refused (record { line = line; event = other }))) refl (λ n. refl) later
+    once-unsent scenario refused whole iface (cond (is_accepted refused (record { line = line; event = other })) [] []) (datagrams refused (number + 1) more) old.accepted (after old other).accepted (acts_of old line other) number (report_from (after old other) (number + 1) more)
+    (none_either_way (is_accepted refused (record { line = line; event = other }))) (quiet-accepted old other tt) (λ n. quiet-outs old line other tt n iface) later
 
 -- Each datagram of the events behind those that are done leaves as often as it is to.
 once-from : (scenario : Scenario) → Rules scenario →
     (refused : List ℕ) (whole done timeds : List Timed) (old : Network) (number : ℕ) (iface : IfaceId) → whole ≡ done ++ timeds →
-    number ≡ length done → old.scenario ≡ scenario → Agrees refused old timeds → Tells refused done old →
+    number ≡ length done → old.scenario ≡ scenario → AllByRecursion (λ timed. IsEventOf scenario timed.event) timeds → Agrees refused old timeds → Tells refused done old →
     EachOnce scenario refused whole iface (datagrams refused number timeds) old.accepted (report_from old number timeds)
-once-from scenario rules refused whole done [] old number iface w n s agrees tells = λ place datagram e. absurd cc
-once-from scenario rules refused whole done (timed ∷ more) old number iface w n s agrees tells =
+once-from scenario rules refused whole done [] old number iface w n s known agrees tells = λ place datagram e. absurd cc
+once-from scenario rules refused whole done (timed ∷ more) old number iface w n s known agrees tells =
+    let own_rules : Rules old.scenario = subst Rules (sym s) rules in
+    let own_event : IsEventOf old.scenario timed.event = subst (λ (x : Scenario). IsEventOf x timed.event) (sym s) known.0 in
     let split : whole ≡ (done ++ timed ∷ []) ++ more = w ∙ sym (append_assoc done (timed ∷ []) more) in
     let so_far : take number whole ≡ done = ap (take number) w ∙ take_at done (timed ∷ more) number (sym n) in
     once-step scenario rules refused whole done old number timed.line timed.event more iface so_far s agrees.0 tells
-    (once-from scenario rules refused whole (done ++ timed ∷ []) more (after old timed.event) (number + 1) iface split (ap (λ k. k + 1) n ∙ sym (length_push done timed)) (after-scenario old timed.event ∙ s) agrees.1 (tells-snoc refused done old timed agrees.0 tells))
+    (once-from scenario rules refused whole (done ++ timed ∷ []) more (after old timed.event) (number + 1) iface split (ap (λ k. k + 1) n ∙ sym (length_push done timed)) (after-scenario old timed.event ∙ s) known.1 agrees.1 (tells-snoc refused done old own_rules timed own_event agrees.0 tells))
 
 -- In each run each datagram leaves once at each of its receivers, in each window.
 pub run_is_once : (script : Script) (report : List Entry) (new : Network) → ScriptRules script → Run script script.events report new →
@@ -191,4 +182,4 @@ run_is_once script report new rules run =
     let all = report_from old 0 script.events in
     let is = runs_are old 0 script.events report new run in
     subst (λ (r : List Entry). Once script.scenario script.events r) (sym is.0) (λ first last window place datagram e low high iface.
-    once-from script.scenario rules.scenario (refused_lines all) script.events [] script.events old 0 iface refl refl refl (agrees-of_report old 0 script.events rules.lines) (tells-start (refused_lines all) script.scenario) place datagram e (place + 1) (omega arith))
+    once-from script.scenario rules.scenario (refused_lines all) script.events [] script.events old 0 iface refl refl refl rules.events (agrees-of_report old 0 script.events rules.lines) (tells-start (refused_lines all) script.scenario) place datagram e (place + 1) (omega arith))

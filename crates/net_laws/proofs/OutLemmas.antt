@@ -6,12 +6,15 @@ use Rattle.std.proofs.lemmas.Bool.{cases_Bool, cond_both, cond-true, cond-false,
 use Rattle.std.proofs.lemmas.List.Sums.{sum_by-cons, sum_by-append}
 use Rattle.mv_base.specs.declared.ids.IfaceId.{IfaceId}
 use Rattle.scenario_defs.specs.declared.scenario.Iface.{Iface}
+use Rattle.scenario_defs.specs.declared.event.Event.{Event}
+use Rattle.scenario_defs.specs.declared.event.Event.TheVariants as events
 use Rattle.scenario_defs.specs.declared.report.ReportLine.{ReportLine}
 use Rattle.scenario_defs.specs.declared.report.ReportLine.TheVariants as lines
 use Rattle.scenario_defs.specs.Vpn.{ifaces_where}
 use Rattle.mvpn_model.specs.Report.{Entry, lines_of, is_out_at, outs_at}
+use Rattle.net_defs.specs.Network.{Network, accepted_acts, acts_of}
 use Rattle.net_defs.specs.Run.{entries_of}
-use Rattle.net_laws.proofs.FrameLemmas.{lines_of-entries, lines_of-append}
+use Rattle.net_laws.proofs.FrameLemmas.{IsQuiet, acts-either, lines_of-entries, lines_of-append}
 use Rattle.net_laws.proofs.AcceptedLemmas.{IsOutOf}
 
 -- the count of one more element in front
@@ -41,6 +44,16 @@ outs_of acts number iface = count_by (is_out_at number iface) (flat_map (λ act.
 pub outs_at-entries : (place : ℕ) (acts : List (List ReportLine)) (number : ℕ) (iface : IfaceId) →
     outs_at (entries_of place acts) number iface ≡ outs_of acts number iface
 outs_at-entries place acts number iface = ap (count_by (is_out_at number iface)) (lines_of-entries place acts)
+
+-- The acts of an event that sends nothing say of no datagram that it left.
+pub quiet-outs : (network : Network) (line : ℕ) (event : Event) → IsQuiet event → (number : ℕ) (iface : IfaceId) → outs_of (acts_of network line event) number iface ≡ 0
+quiet-outs network line event h number iface = acts-either (λ acts. outs_of acts number iface ≡ 0) network line event (λ reason. refl) (accepted event h)
+  where
+    accepted : (event : Event) → IsQuiet event → outs_of (accepted_acts network event) number iface ≡ 0
+    accepted (events.Send site source group payload) k = absurd k
+    accepted events.State k = refl
+    accepted events.Drain k = refl
+    accepted other k = refl
 
 -- Lines of one datagram say of no other that it left.
 pub outs-other : (own number : ℕ) (iface : IfaceId) (list : List ReportLine) → (own ≡ number → ⊥) → AllByRecursion (IsOutOf own) list →
@@ -95,12 +108,18 @@ ifaces_where-once test number x (iface ∷ more) =
     ])
     (λ f. later)
 
+-- Two tests that agree at each interface of the list, by its number, pass the same interfaces.
+pub ifaces_where-same_at : (p q : IfaceId → Iface → Bool) (number : ℕ) (ifaces : List Iface) →
+    ((i j : ℕ) (iface : Iface) → j ≡ number + i → slice_get ifaces i ≡ Some iface → p (record { 0 = j }) iface ≡ q (record { 0 = j }) iface) →
+    ifaces_where p number ifaces ≡ ifaces_where q number ifaces
+ifaces_where-same_at p q number [] h = refl
+ifaces_where-same_at p q number (iface ∷ more) h =
+    let rest = ifaces_where-same_at p q (number + 1) more (λ i j found e d. h (suc i) j found (omega (arith, e)) d) in
+    ap (λ b. cond b (record { 0 = number } ∷ ifaces_where p (number + 1) more) (ifaces_where p (number + 1) more)) (h 0 number iface (omega arith) refl)
+    ∙ ap (λ l. cond (q (record { 0 = number }) iface) (record { 0 = number } ∷ l) l) rest
+
 -- Two tests that agree at each interface pass the same interfaces.
 pub ifaces_where-same : (p q : IfaceId → Iface → Bool) (number : ℕ) (ifaces : List Iface) →
     ((i j : ℕ) (iface : Iface) → slice_get ifaces i ≡ Some iface → p (record { 0 = j }) iface ≡ q (record { 0 = j }) iface) →
     ifaces_where p number ifaces ≡ ifaces_where q number ifaces
-ifaces_where-same p q number [] h = refl
-ifaces_where-same p q number (iface ∷ more) h =
-    let rest = ifaces_where-same p q (number + 1) more (λ i j found e. h (suc i) j found e) in
-    ap (λ b. cond b (record { 0 = number } ∷ ifaces_where p (number + 1) more) (ifaces_where p (number + 1) more)) (h 0 number iface refl)
-    ∙ ap (λ l. cond (q (record { 0 = number }) iface) (record { 0 = number } ∷ l) l) rest
+ifaces_where-same p q number ifaces h = ifaces_where-same_at p q number ifaces (λ i j iface e d. h i j iface d)

@@ -15,24 +15,21 @@ use Rattle.scenario_defs.specs.declared.event.Timed.{Timed}
 use Rattle.scenario_defs.specs.declared.event.Script.{Script}
 use Rattle.scenario_defs.specs.declared.event.Event.{Event}
 use Rattle.scenario_defs.specs.declared.event.Event.TheVariants as events
-use Rattle.scenario_defs.specs.declared.event.JoinEntry.TheVariants as entries
 use Rattle.scenario_defs.specs.declared.report.ReportLine.{ReportLine}
-use Rattle.scenario_defs.specs.declared.report.ReportLine.TheVariants as lines
-use Rattle.scenario_defs.specs.declared.report.Refusal.TheVariants as refusals
-use Rattle.scenario_defs.specs.Rules.{Rules, ScriptRules}
+use Rattle.scenario_defs.specs.Rules.{Rules, IsEventOf, ScriptRules}
 use Rattle.scenario_defs.specs.Vpn.{is_of_site, is_of_vrf, vrf_of_site, ifaces_where}
 use Rattle.mvpn_model.specs.Past.{is_accepted, is_home}
 use Rattle.mvpn_model.specs.Packet.{packet}
 use Rattle.mvpn_model.specs.Report.{Entry, Datagram, datagrams, refused_lines}
 use Rattle.mvpn_model.specs.Safe.{IsAdmitted, IsSafeOut, IsSafeLine, IsSafeEntry, Safe}
-use Rattle.net_defs.specs.Network.{Network, start, acts_of, after, is_full, leaves_at, leaves, entering, has_joined}
+use Rattle.net_defs.specs.Network.{Network, start, acts_of, after, leaves_at, leaves, entering, is_asking}
 use Rattle.net_defs.specs.Run.{Run, entries_of}
 use Rattle.net_laws.proofs.ListLemmas.{all-append, any-from_at}
 use Rattle.net_laws.proofs.RunLemmas.{report_from, runs_are}
 use Rattle.net_laws.proofs.VpnLemmas.{IsVrfOfSite, vrf_of_site-is, admits_itself, entered-one}
-use Rattle.net_laws.proofs.FrameLemmas.{after-scenario, ifaces_where-all, outs-all}
+use Rattle.net_laws.proofs.FrameLemmas.{after-scenario, acts-either, ifaces_where-all, outs-all}
 use Rattle.net_laws.proofs.AcceptedLemmas.{is_refused, Agrees, agrees-of_report}
-use Rattle.net_laws.proofs.JoinedLemmas.{Tells, tells-snoc, datagrams-snoc}
+use Rattle.net_laws.proofs.JoinedLemmas.{Tells, tells-start, tells-snoc, datagrams-snoc}
 
 -- the element behind a list
 slice_get-push : {X : Type 0} (xs : List X) (y : X) (i : ℕ) → i ≡ length xs → slice_get (xs ++ y ∷ []) i ≡ Some y
@@ -58,7 +55,7 @@ leaves-admitted : (network : Network) → Rules network.scenario → (site : Sit
     IsVrfOfSite network.scenario site vrf → (i j : ℕ) (own : Iface) → j ≡ i → slice_get network.scenario.ifaces i ≡ Some own →
     leaves_at network vrf site source group (record { 0 = j }) own ≡ true → IsAdmitted network.scenario (record { 0 = j }) site
 leaves-admitted network rules site source group vrf is i j own e d t =
-    let front = and_parts (is_of_vrf vrf own && not (is_of_site site own)) (has_joined network.entries (record { 0 = j }) source group) t in
+    let front = and_parts (is_of_vrf vrf own && not (is_of_site site own)) (is_asking network source group (record { 0 = j })) t in
     let first = and_parts (is_of_vrf vrf own) (not (is_of_site site own)) front.0 in
     let in_vrf : own.vrf.0 ≡ vrf.0 = eqb-true own.vrf.0 vrf.0 first.0 in
     record {
@@ -93,10 +90,6 @@ entering-safe refused done old rules line site source group payload vrf a tells 
 acts-safe : (refused : List ℕ) (done : List Timed) (old : Network) → Rules old.scenario → (line : ℕ) (event : Event) →
     is_accepted refused (record { line = line; event = event }) ≡ not (is_refused old event) → Tells refused done old →
     AllByRecursion (λ act. AllByRecursion (IsSafeLine old.scenario (done ++ record { line = line; event = event } ∷ []) refused) act) (acts_of old line event)
-acts-safe refused done old rules line (events.Join iface (entries.Source source group)) a tells =
-    cond_both (is_full old iface source group) ((lines.Refused line refusals.Full ∷ []) ∷ []) ([] ∷ [])
-    (λ acts. AllByRecursion (λ act. AllByRecursion (IsSafeLine old.scenario (done ++ record { line = line; event = events.Join iface (entries.Source source group) } ∷ []) refused) act) acts)
-    (λ e. ((tt, tt), tt)) (λ e. (tt, tt))
 acts-safe refused done old rules line (events.Send site source group payload) a tells =
     let P : ReportLine → Type 0 = IsSafeLine old.scenario (done ++ record { line = line; event = events.Send site source group payload } ∷ []) refused in
     subst (λ (vrfs : List VrfId). AllByRecursion (λ act. AllByRecursion P act) (map (entering old site source group payload) vrfs)) (sym (entered-one old.scenario rules site)) (found (vrf_of_site old.scenario site) refl)
@@ -105,7 +98,9 @@ acts-safe refused done old rules line (events.Send site source group payload) a 
     found None e = tt
     found (Some vrf) e = (entering-safe refused done old rules line site source group payload vrf a tells (vrf_of_site-is old.scenario rules site vrf e), tt)
 acts-safe refused done old rules line events.State a tells = ((tt, tt), tt)
-acts-safe refused done old rules line other a tells = tt
+acts-safe refused done old rules line events.Drain a tells = tt
+acts-safe refused done old rules line other a tells =
+    acts-either (λ acts. AllByRecursion (λ act. AllByRecursion (IsSafeLine old.scenario (done ++ record { line = line; event = other } ∷ []) refused) act) acts) old line other (λ reason. ((tt, tt), tt)) (tt, tt)
 
 -- Entries are safe whose lines are.
 entries-safe : (scenario : Scenario) (whole : List Timed) (refused : List ℕ) (number : ℕ) (acts : List (List ReportLine)) →
@@ -116,23 +111,21 @@ entries-safe scenario whole refused number (act ∷ acts) h = (h.0, entries-safe
 
 -- The report of the events behind those that are done is safe.
 safe-from : (scenario : Scenario) → Rules scenario → (refused : List ℕ) (whole done timeds : List Timed) (old : Network) (number : ℕ) →
-    whole ≡ done ++ timeds → number ≡ length done → old.scenario ≡ scenario → Agrees refused old timeds → Tells refused done old →
+    whole ≡ done ++ timeds → number ≡ length done → old.scenario ≡ scenario → AllByRecursion (λ timed. IsEventOf scenario timed.event) timeds → Agrees refused old timeds → Tells refused done old →
     AllByRecursion (IsSafeEntry scenario whole refused) (report_from old number timeds)
-safe-from scenario rules refused whole done [] old number w n s agrees tells = tt
-safe-from scenario rules refused whole done (timed ∷ more) old number w n s agrees tells =
+safe-from scenario rules refused whole done [] old number w n s known agrees tells = tt
+safe-from scenario rules refused whole done (timed ∷ more) old number w n s known agrees tells =
     let acts = acts_of old timed.line timed.event in
+    let own_rules : Rules old.scenario = subst Rules (sym s) rules in
+    let own_event : IsEventOf old.scenario timed.event = subst (λ (x : Scenario). IsEventOf x timed.event) (sym s) known.0 in
     let split : whole ≡ (done ++ timed ∷ []) ++ more = w ∙ sym (append_assoc done (timed ∷ []) more) in
     let so_far : take (number + 1) whole ≡ done ++ timed ∷ [] = ap (take (number + 1)) split ∙ take_at (done ++ timed ∷ []) more (number + 1) (length_push done timed ∙ ap (λ k. k + 1) (sym n)) in
-    let own : AllByRecursion (λ act. AllByRecursion (IsSafeLine old.scenario (done ++ timed ∷ []) refused) act) acts = acts-safe refused done old (subst Rules (sym s) rules) timed.line timed.event agrees.0 tells in
+    let own : AllByRecursion (λ act. AllByRecursion (IsSafeLine old.scenario (done ++ timed ∷ []) refused) act) acts = acts-safe refused done old own_rules timed.line timed.event agrees.0 tells in
     let own_here : AllByRecursion (λ act. AllByRecursion (IsSafeLine scenario (done ++ timed ∷ []) refused) act) acts = subst (λ (x : Scenario). AllByRecursion (λ act. AllByRecursion (IsSafeLine x (done ++ timed ∷ []) refused) act) acts) s own in
     let own_safe : AllByRecursion (λ act. AllByRecursion (IsSafeLine scenario (take (number + 1) whole) refused) act) acts = subst (λ (x : List Timed). AllByRecursion (λ act. AllByRecursion (IsSafeLine scenario x refused) act) acts) (sym so_far) own_here in
     all-append (IsSafeEntry scenario whole refused) (entries_of number acts) (report_from (after old timed.event) (number + 1) more)
     (entries-safe scenario whole refused number acts own_safe)
-    (safe-from scenario rules refused whole (done ++ timed ∷ []) more (after old timed.event) (number + 1) split (ap (λ k. k + 1) n ∙ sym (length_push done timed)) (after-scenario old timed.event ∙ s) agrees.1 (tells-snoc refused done old timed agrees.0 tells))
-
--- Nothing has happened at the start.
-pub tells-start : (refused : List ℕ) (scenario : Scenario) → Tells refused [] (start scenario)
-tells-start refused scenario = record { joined = λ iface source group. refl; accepted = refl }
+    (safe-from scenario rules refused whole (done ++ timed ∷ []) more (after old timed.event) (number + 1) split (ap (λ k. k + 1) n ∙ sym (length_push done timed)) (after-scenario old timed.event ∙ s) known.1 agrees.1 (tells-snoc refused done old own_rules timed own_event agrees.0 tells))
 
 -- Each run is safe.
 pub run_is_safe : (script : Script) (report : List Entry) (new : Network) → ScriptRules script → Run script script.events report new →
@@ -142,4 +135,4 @@ run_is_safe script report new rules run =
     let all = report_from old 0 script.events in
     let is = runs_are old 0 script.events report new run in
     subst (λ (r : List Entry). Safe script.scenario script.events r) (sym is.0)
-    (safe-from script.scenario rules.scenario (refused_lines all) script.events [] script.events old 0 refl refl refl (agrees-of_report old 0 script.events rules.lines) (tells-start (refused_lines all) script.scenario))
+    (safe-from script.scenario rules.scenario (refused_lines all) script.events [] script.events old 0 refl refl refl rules.events (agrees-of_report old 0 script.events rules.lines) (tells-start (refused_lines all) script.scenario))

@@ -1,7 +1,7 @@
 -- What a line of an event that is without fault keeps to.
-use Rattle.std.proofs.Common.{◌≡◌, ℕ, ◌<◌, ◌≤◌, ◌&&◌, List, [], ◌∷◌, length, nat_le}
+use Rattle.std.proofs.Common.{ℕ, ◌<◌, ◌≤◌, ◌&&◌, List, [], ◌∷◌, length, nat_le}
 use Rattle.std.specs.List.{AllByRecursion}
-use Rattle.mv_base.specs.Number.{number_of, only_if}
+use Rattle.mv_base.specs.Number.{number_of}
 use Rattle.scenario_defs.specs.declared.event.JoinEntry.{JoinEntry}
 use Rattle.scenario_defs.specs.Rules.{IsSource, IsGroup, IsEntry, IsEventOf}
 use Rattle.line_words.specs.declared.fault.Reason.TheVariants as reasons

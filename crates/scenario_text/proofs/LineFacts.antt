@@ -1,9 +1,7 @@
 -- What a line that is without fault keeps to.
-use Rattle.std.proofs.Common.{◌≡◌, ℕ, ◌+◌, ◌<◌, ◌≤◌, ◌==◌, ◌⊎◌, inl, inr, Bool, true, false, not, ◌&&◌, List, [], ◌∷◌, length, refl, sym, subst, cond, arith, nat_eq, nat_lt, nat_le, slice_index, slice_get, Option, Some, None}
+use Rattle.std.proofs.Common.{◌≡◌, ℕ, ◌+◌, ◌<◌, ◌≤◌, ◌==◌, ◌⊎◌, inl, inr, Bool, true, false, List, [], ◌∷◌, length, refl, sym, subst, cond, arith, nat_lt, nat_le, Option, Some, None}
 use Rattle.std.specs.Prelude.{Result, Ok, Err}
 use Rattle.std.specs.List.{AllByRecursion, list_any, slice_split}
-use Rattle.std.specs.Map.{lookup}
-use Rattle.std.specs.Cmp.Lexicographic.{pointwise}
 use Rattle.std.proofs.lemmas.Bool.Decides.{nat_tests}
 use Rattle.mv_base.specs.declared.ids.NodeId.{NodeId}
 use Rattle.mv_base.specs.declared.ids.VrfId.{VrfId}
@@ -14,13 +12,10 @@ use Rattle.scenario_defs.specs.declared.scenario.Iface.{Iface}
 use Rattle.scenario_defs.specs.declared.scenario.Scenario.{Scenario}
 use Rattle.scenario_defs.specs.Rules.{IsIpv4}
 use Rattle.line_words.specs.declared.fault.TextFault.{TextFault}
-use Rattle.line_words.specs.declared.fault.Reason.{Reason}
-use Rattle.line_words.specs.declared.fault.Reason.TheVariants as reasons
 use Rattle.line_words.specs.declared.words.Row.{Row}
 use Rattle.line_words.specs.Words.{Placed, placed, words_of}
-use Rattle.line_words.specs.Forms.{◌>>=◌, or_fault, is_name, addr_at, prefix_at, rule_at, assigned_of, source_at, group_at, targets_at, payload_at, is_unicast, is_group}
+use Rattle.line_words.specs.Forms.{addr_at, prefix_at, rule_at, targets_at}
 use Rattle.line_words.proofs.WordsLemmas.{total, total-slice_split}
-use Rattle.scenario_text.specs.declared.draft.Thing.{Thing}
 use Rattle.scenario_text.specs.declared.line.Line.{Line}
 use Rattle.scenario_text.specs.declared.line.Line.TheVariants as says
 use Rattle.scenario_text.specs.declared.vrf_lines.VrfHead.{VrfHead}
@@ -28,7 +23,7 @@ use Rattle.scenario_text.specs.declared.vrf_lines.VrfTail.{VrfTail}
 use Rattle.scenario_text.specs.declared.scenario_lines.ScenarioWord.{ScenarioWord}
 use Rattle.scenario_text.specs.declared.scenario_lines.ScenarioWord.TheVariants as scenario_kinds
 use Rattle.scenario_text.specs.Drafted.{Drafted}
-use Rattle.scenario_text.specs.Naming.{new_name, node_addr_at, vrf_number_at, rd_at, node_of, vrf_of, site_of, iface_of, named, edge_named, vrf_named, site_named, iface_named, edge_at, vrf_at, site_at, iface_at}
+use Rattle.scenario_text.specs.Naming.{new_name, node_addr_at, vrf_number_at, rd_at, edge_at, vrf_at, site_at}
 use Rattle.scenario_text.specs.ScenarioGrammar.{edge_words, edge_counted, edge_line, vrf_head, vrf_tail, vrf_rules, vrf_words, vrf_counted, vrf_line, site_words, site_counted, site_line, iface_rules, iface_parts, iface_words, iface_counted, iface_line, events_line, scenario_word, scenario_words, scenario_line, overlaps, is_vpn_at, is_mixed, is_taken}
 use Rattle.scenario_text.specs.Grammar.{line_of, words_line, row_of, IsFree, IsNew}
 use Rattle.scenario_text.proofs.WordFacts.{Meets, ok_meets, err_meets, bind_meets, if_meets, name_meets, edge_meets, vrf_meets, site_meets, addr_meets, targets_meets, below}

@@ -52,13 +52,8 @@ fn entry_read(alloc: Global, line: &[u8]) -> Result<Option<(bool, JoinEntry)>, N
     let Ok(script) = read(alloc, text.as_slice()) else {
         return Ok(None);
     };
-    Ok(
-        script
-            .events
-            .as_slice()
-            .first()
-            .and_then(|timed| entry_of(&timed.event)),
-    )
+    let first = script.events.as_slice().first();
+    Ok(first.and_then(|timed| entry_of(&timed.event)))
 }
 
 #[test]
@@ -85,12 +80,7 @@ fn faults_of_a_scenario_stand_at_their_places(rt: HostRuntime) {
         (b"edge 1E 192.0.2.1".as_slice(), 1, 6, Reason::Name),
         (b"edge E1 224.0.2.1".as_slice(), 1, 9, Reason::Address),
         (b"site S1 10.0.0.1/8".as_slice(), 1, 9, Reason::Prefix),
-        (
-            b"vrf V1 E1 1 1:1 1:1 highest".as_slice(),
-            1,
-            8,
-            Reason::Unknown,
-        ),
+        (b"vrf V1 E1 1 1:1 1:1 x".as_slice(), 1, 8, Reason::Unknown),
         (
             b"edge E1 192.0.2.1\nedge E2 192.0.2.2\n events".as_slice(),
             3,

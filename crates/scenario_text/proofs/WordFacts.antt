@@ -54,10 +54,10 @@ either_meets P false r s h k = k
 pub record Finds {A : Type 0} (P : A → Type 0) (o : Option A) : Type 0 where
   pub holds : (x : A) → o ≡ Some x → P x
 
-pub some_finds : {A : Type 0} (P : A → Type 0) (x : A) → P x → Finds P (Some x)
+some_finds : {A : Type 0} (P : A → Type 0) (x : A) → P x → Finds P (Some x)
 some_finds P x p = record { holds = λ y e. let q : x ≡ y = cc in subst P q p }
 
-pub none_finds : {A : Type 0} (P : A → Type 0) → Finds P None
+none_finds : {A : Type 0} (P : A → Type 0) → Finds P None
 none_finds P = record { holds = λ y h. absurd cc }
 
 pub bind_finds : {A B : Type 0} (P : B → Type 0) (o : Option A) (f : A → Option B) → ((x : A) → o ≡ Some x → Finds P (f x)) → Finds P (o >>? f)

@@ -153,7 +153,7 @@ fn faults_behind_a_vpn_are_told(rt: HostRuntime) -> Result<(), Fail> {
             "vrf V2 E1 2 65000:2 65000:2 highest\niface X2 V2 X 10.1.0.2\n",
             "fault 8:13 mixed\n",
         ),
-        ("events\njoin Y1 * 225.1.1.1\n", "fault 8:1 later\n"),
+        ("events\nheal\n", "fault 8:1 later\n"),
         ("events\njoin Y1 10.1.0.9 224.0.0.5\n", "fault 8:18 group\n"),
         ("events\nsend X 10.1.0.9 232.1.1.1 a\n", "fault 8:27 hex\n"),
     ];

@@ -1,179 +1,33 @@
 -- What a line that is without fault keeps to.
-use Rattle.std.proofs.Common.{◌≡◌, ℕ, ◌+◌, ◌<◌, ◌≤◌, ◌==◌, ◌⊎◌, inl, inr, Bool, true, false, not, ◌&&◌, List, [], ◌∷◌, length, refl, sym, subst, cond, arith, nat_eq, nat_lt, nat_le, slice_index, slice_get, Option, Some, None}
+use Rattle.std.proofs.Common.{◌≡◌, ℕ, ◌+◌, ◌<◌, ◌≤◌, ◌==◌, ◌⊎◌, inl, inr, Bool, true, false, List, [], ◌∷◌, length, refl, sym, subst, cond, arith, nat_lt, nat_le, Option, Some, None}
 use Rattle.std.specs.Prelude.{Result, Ok, Err}
 use Rattle.std.specs.List.{AllByRecursion, list_any, slice_split}
-use Rattle.std.specs.Map.{lookup}
-use Rattle.std.specs.Cmp.Lexicographic.{pointwise}
 use Rattle.std.proofs.lemmas.Bool.Decides.{nat_tests}
-use Rattle.std.proofs.lemmas.Option.{slice_get_within}
-use Rattle.hex.specs.declared.error.FromHexError.{FromHexError}
-use Rattle.hex.specs.Hex.{decode_of}
-use Rattle.hex.proofs.HexLemmas.{decode_of-ok}
 use Rattle.mv_base.specs.declared.ids.NodeId.{NodeId}
 use Rattle.mv_base.specs.declared.ids.VrfId.{VrfId}
 use Rattle.mv_base.specs.declared.ids.SiteId.{SiteId}
 use Rattle.mv_base.specs.declared.ids.IfaceId.{IfaceId}
-use Rattle.mv_base.specs.declared.addr.Addr.{Addr}
-use Rattle.mv_base.specs.declared.addr.Addr.TheVariants.{V4, V6}
-use Rattle.mv_base.specs.Number.{◌>>?◌, only_if}
 use Rattle.scenario_defs.specs.declared.scenario.Vrf.{Vrf}
 use Rattle.scenario_defs.specs.declared.scenario.Iface.{Iface}
 use Rattle.scenario_defs.specs.declared.scenario.Scenario.{Scenario}
-use Rattle.scenario_defs.specs.Rules.{IsSource, IsGroup, IsEventOf}
+use Rattle.scenario_defs.specs.Rules.{IsIpv4}
 use Rattle.line_words.specs.declared.fault.TextFault.{TextFault}
-use Rattle.line_words.specs.declared.fault.Reason.{Reason}
-use Rattle.line_words.specs.declared.fault.Reason.TheVariants as reasons
 use Rattle.line_words.specs.declared.words.Row.{Row}
 use Rattle.line_words.specs.Words.{Placed, placed, words_of}
-use Rattle.line_words.specs.Forms.{◌>>=◌, or_fault, is_name, addr_at, prefix_at, rule_at, assigned_of, source_at, group_at, targets_at, payload_at, is_unicast, is_group}
+use Rattle.line_words.specs.Forms.{addr_at, prefix_at, rule_at, targets_at}
 use Rattle.line_words.proofs.WordsLemmas.{total, total-slice_split}
-use Rattle.scenario_text.specs.declared.draft.Thing.{Thing}
 use Rattle.scenario_text.specs.declared.line.Line.{Line}
 use Rattle.scenario_text.specs.declared.line.Line.TheVariants as says
 use Rattle.scenario_text.specs.declared.vrf_lines.VrfHead.{VrfHead}
 use Rattle.scenario_text.specs.declared.vrf_lines.VrfTail.{VrfTail}
 use Rattle.scenario_text.specs.declared.scenario_lines.ScenarioWord.{ScenarioWord}
 use Rattle.scenario_text.specs.declared.scenario_lines.ScenarioWord.TheVariants as scenario_kinds
-use Rattle.scenario_text.specs.declared.event_lines.EventWord.{EventWord}
-use Rattle.scenario_text.specs.declared.event_lines.EventWord.TheVariants as event_kinds
 use Rattle.scenario_text.specs.Drafted.{Drafted}
-use Rattle.scenario_text.specs.Naming.{new_name, node_addr_at, vrf_number_at, rd_at, node_of, vrf_of, site_of, iface_of, named, edge_named, vrf_named, site_named, iface_named, edge_at, vrf_at, site_at, iface_at}
+use Rattle.scenario_text.specs.Naming.{new_name, node_addr_at, vrf_number_at, rd_at, edge_at, vrf_at, site_at}
 use Rattle.scenario_text.specs.ScenarioGrammar.{edge_words, edge_counted, edge_line, vrf_head, vrf_tail, vrf_rules, vrf_words, vrf_counted, vrf_line, site_words, site_counted, site_line, iface_rules, iface_parts, iface_words, iface_counted, iface_line, events_line, scenario_word, scenario_words, scenario_line, overlaps, is_vpn_at, is_mixed, is_taken}
-use Rattle.scenario_text.specs.EventGrammar.{join_words, join_line, send_head, send_words, send_line, bare_line, event_word, event_words, event_line}
 use Rattle.scenario_text.specs.Grammar.{line_of, words_line, row_of, IsFree, IsNew}
-
--- Each value without fault has the property.
-pub record Meets {A : Type 0} (P : A → Type 0) (r : Result A TextFault) : Type 0 where
-  pub holds : (x : A) → r ≡ Ok x → P x
-
-ok_meets : {A : Type 0} (P : A → Type 0) (x : A) → P x → Meets P (Ok x)
-ok_meets P x p = record { holds = λ y e. let q : x ≡ y = cc in subst P q p }
-
-err_meets : {A : Type 0} (P : A → Type 0) (e : TextFault) → Meets P (Err e)
-err_meets P e = record { holds = λ y h. absurd cc }
-
-bind_meets : {A B : Type 0} (P : B → Type 0) (r : Result A TextFault) (f : A → Result B TextFault) → ((x : A) → r ≡ Ok x → Meets P (f x)) → Meets P (r >>= f)
-bind_meets P (Ok x) f h = h x refl
-bind_meets P (Err e) f h = err_meets P e
-
-if_meets : {A : Type 0} (P : A → Type 0) (b : Bool) (e : TextFault) (r : Result A TextFault) → (b ≡ false → Meets P r) → Meets P (cond b (Err e) r)
-if_meets P true e r h = err_meets P e
-if_meets P false e r h = h refl
-
-then_meets : {A : Type 0} (P : A → Type 0) (b : Bool) (e : TextFault) (r : Result A TextFault) → (b ≡ true → Meets P r) → Meets P (cond b r (Err e))
-then_meets P true e r h = h refl
-then_meets P false e r h = err_meets P e
-
--- The same of an option.
-pub record Finds {A : Type 0} (P : A → Type 0) (o : Option A) : Type 0 where
-  pub holds : (x : A) → o ≡ Some x → P x
-
-some_finds : {A : Type 0} (P : A → Type 0) (x : A) → P x → Finds P (Some x)
-some_finds P x p = record { holds = λ y e. let q : x ≡ y = cc in subst P q p }
-
-none_finds : {A : Type 0} (P : A → Type 0) → Finds P None
-none_finds P = record { holds = λ y h. absurd cc }
-
-bind_finds : {A B : Type 0} (P : B → Type 0) (o : Option A) (f : A → Option B) → ((x : A) → o ≡ Some x → Finds P (f x)) → Finds P (o >>? f)
-bind_finds P (Some x) f h = h x refl
-bind_finds P None f h = none_finds P
-
-only_finds : {A : Type 0} (P : A → Type 0) (b : Bool) (x : A) → P x → Finds P (only_if b x)
-only_finds P true x p = some_finds P x p
-only_finds P false x p = none_finds P
-
-or_fault_meets : {A : Type 0} (P : A → Type 0) (o : Option A) (row : Row) (word : Placed) (reason : Reason) → Finds P o → Meets P (or_fault o row word reason)
-or_fault_meets P (Some x) row word reason h = ok_meets P x (h.holds x refl)
-or_fault_meets P None row word reason h = err_meets P _
-
--- The words that name things name things that are declared.
-edge_finds : (draft : Drafted) (text : List ℕ) → Finds (λ id. id.0 < length draft.scenario.nodes) (edge_named draft text)
-unfolding edge_named
-edge_finds draft text = bind_finds _ (named draft text) _ (λ thing _. bind_finds _ (node_of thing) _ (λ id _. bind_finds _ (slice_get draft.scenario.nodes id.0) _ (λ node e. only_finds _ node.edge id (slice_get_within draft.scenario.nodes id.0 node e))))
-
-vrf_finds : (draft : Drafted) (text : List ℕ) → Finds (λ id. id.0 < length draft.scenario.vrfs) (vrf_named draft text)
-unfolding vrf_named
-vrf_finds draft text = bind_finds _ (named draft text) _ (λ thing _. bind_finds _ (vrf_of thing) _ (λ id _. bind_finds _ (slice_get draft.scenario.vrfs id.0) _ (λ found e. some_finds _ id (slice_get_within draft.scenario.vrfs id.0 found e))))
-
-site_finds : (draft : Drafted) (text : List ℕ) → Finds (λ id. id.0 < length draft.scenario.sites) (site_named draft text)
-unfolding site_named
-site_finds draft text = bind_finds _ (named draft text) _ (λ thing _. bind_finds _ (site_of thing) _ (λ id _. bind_finds _ (slice_get draft.scenario.sites id.0) _ (λ found e. some_finds _ id (slice_get_within draft.scenario.sites id.0 found e))))
-
-iface_finds : (draft : Drafted) (text : List ℕ) → Finds (λ id. id.0 < length draft.scenario.ifaces) (iface_named draft text)
-unfolding iface_named
-iface_finds draft text = bind_finds _ (named draft text) _ (λ thing _. bind_finds _ (iface_of thing) _ (λ id _. bind_finds _ (slice_get draft.scenario.ifaces id.0) _ (λ found e. some_finds _ id (slice_get_within draft.scenario.ifaces id.0 found e))))
-
-free_name : (draft : Drafted) (text : List ℕ) (e : TextFault) (o : Option Thing) → lookup (pointwise nat_eq text) draft.names ≡ o → Meets (IsFree draft) (elim o [ None ↦ Ok text | Some thing ↦ Err e ])
-free_name draft text e None h = ok_meets _ text h
-free_name draft text e (Some thing) h = err_meets _ e
-
-name_meets : (draft : Drafted) (row : Row) (word : Placed) → Meets (IsFree draft) (new_name draft row word)
-unfolding new_name
-name_meets draft row word = then_meets _ (is_name word.text) _ _ (λ b. free_name draft word.text _ (named draft word.text) (sym (rw b refl)))
-
-edge_meets : (draft : Drafted) (row : Row) (word : Placed) → Meets (λ id. id.0 < length draft.scenario.nodes) (edge_at draft row word)
-unfolding edge_at
-edge_meets draft row word = or_fault_meets _ _ row word _ (edge_finds draft word.text)
-
-vrf_meets : (draft : Drafted) (row : Row) (word : Placed) → Meets (λ id. id.0 < length draft.scenario.vrfs) (vrf_at draft row word)
-unfolding vrf_at
-vrf_meets draft row word = or_fault_meets _ _ row word _ (vrf_finds draft word.text)
-
-site_meets : (draft : Drafted) (row : Row) (word : Placed) → Meets (λ id. id.0 < length draft.scenario.sites) (site_at draft row word)
-unfolding site_at
-site_meets draft row word = or_fault_meets _ _ row word _ (site_finds draft word.text)
-
-iface_meets : (draft : Drafted) (row : Row) (word : Placed) → Meets (λ id. id.0 < length draft.scenario.ifaces) (iface_at draft row word)
-unfolding iface_at
-iface_meets draft row word = or_fault_meets _ _ row word _ (iface_finds draft word.text)
-
--- Sources and groups are what their tests say.
-within : (x low high : ℕ) → (nat_le low x && nat_le x high) ≡ true → (low ≤ x) × (x ≤ high)
-within x low high h = grind (arith, nat_tests)
-
-is_source : (addr : Addr) → is_unicast addr ≡ true → IsSource addr
-is_source (V4 octets) h = within (slice_index octets 0) 1 223 h
-is_source (V6 octets) h = absurd cc
-
-group_parts : (a b c : Bool) → (a && b && not c) ≡ true → ((a && b) ≡ true) × (c ≡ false)
-group_parts true true false h = (refl, refl)
-group_parts true true true h = absurd cc
-group_parts true false c h = absurd cc
-group_parts false b c h = absurd cc
-
-not_local : (x y z : ℕ) → (x == 224 && y == 0 && z == 0) ≡ false → x ≡ 224 → y ≡ 0 → z ≡ 0 → ⊥
-not_local x y z h a b c = grind (arith, nat_tests)
-
-is_group_addr : (addr : Addr) → is_group addr ≡ true → IsGroup addr
-is_group_addr (V4 octets) h =
-    let p = group_parts (nat_le 224 (slice_index octets 0)) (nat_le (slice_index octets 0) 239) (slice_index octets 0 == 224 && slice_index octets 1 == 0 && slice_index octets 2 == 0) h in
-    let w = within (slice_index octets 0) 224 239 p.0 in
-    (w.0, w.1, not_local (slice_index octets 0) (slice_index octets 1) (slice_index octets 2) p.1)
-is_group_addr (V6 octets) h = absurd cc
-
-source_meets : (row : Row) (word : Placed) → Meets IsSource (source_at row word)
-unfolding source_at
-source_meets row word = bind_meets _ (addr_at row word) _ (λ addr _. then_meets _ _ _ _ (λ b. ok_meets _ addr (is_source addr b)))
-
-group_meets : (row : Row) (word : Placed) → Meets IsGroup (group_at row word)
-unfolding group_at
-group_meets row word = bind_meets _ (addr_at row word) _ (λ addr _. then_meets _ _ _ _ (λ b. ok_meets _ addr (is_group_addr addr b)))
-
-targets_meets : (row : Row) (word : Placed) → Meets (λ targets. 0 < length targets) (targets_at row word)
-unfolding targets_at
-targets_meets row word = bind_meets _ (or_fault (assigned_of 2 word.text) row word reasons.Targets) _ (λ octets _. let some : 0 < 1 = omega arith in ok_meets _ _ some)
-
-decoded : (text : List ℕ) (e : TextFault) (r : Result (List ℕ) FromHexError) → length text ≤ 4096 → decode_of text ≡ r → Meets (λ payload. length payload ≤ 2048) (elim r [ Ok octets ↦ Ok octets | Err error ↦ Err e ])
-decoded text e (Ok octets) l h = ok_meets _ octets (omega (arith, (decode_of-ok text octets h).2))
-decoded text e (Err error) l h = err_meets _ e
-
-payload_if : (b : Bool) (r : Result (List ℕ) TextFault) → Meets (λ payload. length payload ≤ 2048) r → Meets (λ payload. length payload ≤ 2048) (cond b (Ok []) r)
-payload_if true r h = ok_meets _ [] (omega arith)
-payload_if false r h = h
-
-payload_meets : (row : Row) (word : Placed) → length word.text ≤ 4096 → Meets (λ payload. length payload ≤ 2048) (payload_at row word)
-unfolding payload_at
-payload_meets row word l = payload_if _ _ (decoded word.text _ (decode_of word.text) l refl)
+use Rattle.scenario_text.proofs.WordFacts.{Meets, ok_meets, err_meets, bind_meets, if_meets, name_meets, edge_meets, vrf_meets, site_meets, addr_meets, targets_meets, below}
+use Rattle.scenario_text.proofs.EventFacts.{IsTold, IsToldBelow, event_line_meets}
 
 -- What a line of a VRF keeps to.
 pub record VrfFacts (scenario : Scenario) (vrf : Vrf) : Type 0 where
@@ -185,6 +39,7 @@ pub record VrfFacts (scenario : Scenario) (vrf : Vrf) : Type 0 where
 pub record IfaceFacts (scenario : Scenario) (iface : Iface) : Type 0 where
   pub vrf : iface.vrf.0 < length scenario.vrfs
   pub site : iface.site.0 < length scenario.sites
+  pub ipv4 : IsIpv4 iface.addr
   pub together : list_any (is_mixed scenario iface) scenario.ifaces ≡ false
 
 -- What a line of the scenario keeps to.
@@ -196,14 +51,6 @@ IsDeclared draft (says.Iface id iface) = (length draft.scenario.ifaces < 1024) �
 IsDeclared draft says.Events = length draft.scenario.nodes ≤ 1
 IsDeclared draft says.Blank = ⊥
 IsDeclared draft (says.Event event) = ⊥
-
--- What a line of an event keeps to.
-abbrev pub IsTold : Drafted → Line → Type 0
-IsTold draft (says.Event event) = IsEventOf draft.scenario event
-IsTold draft other = ⊥
-
-below : (limit n : ℕ) → nat_le limit n ≡ false → n < limit
-below limit n h = grind (arith, nat_tests)
 
 edge_words_meets : (draft : Drafted) (row : Row) (id : NodeId) (a b : Placed) → Meets (IsDeclared draft) (edge_words draft row id a b)
 unfolding edge_words
@@ -271,19 +118,19 @@ site_line_meets : (draft : Drafted) (row : Row) (first : Placed) (rest : List Pl
 unfolding site_line
 site_line_meets draft row first rest = if_meets _ _ _ _ (λ few. site_counted_meets draft row _ rest (below 512 (length draft.scenario.sites) few))
 
-iface_rules_meets : (draft : Drafted) (row : Row) (id : IfaceId) (c : Placed) (iface : Iface) → length draft.scenario.ifaces < 1024 → iface.vrf.0 < length draft.scenario.vrfs → iface.site.0 < length draft.scenario.sites → IsFree draft iface.name → Meets (IsDeclared draft) (iface_rules draft row id c iface)
+iface_rules_meets : (draft : Drafted) (row : Row) (id : IfaceId) (c : Placed) (iface : Iface) → length draft.scenario.ifaces < 1024 → iface.vrf.0 < length draft.scenario.vrfs → iface.site.0 < length draft.scenario.sites → IsIpv4 iface.addr → IsFree draft iface.name → Meets (IsDeclared draft) (iface_rules draft row id c iface)
 unfolding iface_rules
-iface_rules_meets draft row id c iface few vrf site free = if_meets _ (list_any (is_mixed draft.scenario iface) draft.scenario.ifaces) _ _ (λ together. if_meets _ (list_any (is_taken draft.scenario iface) draft.scenario.ifaces) _ _ (λ _. let facts : (length draft.scenario.ifaces < 1024) × IfaceFacts draft.scenario iface × IsFree draft iface.name = (few, record { vrf = vrf; site = site; together = together }, free) in ok_meets _ _ facts))
+iface_rules_meets draft row id c iface few vrf site ipv4 free = if_meets _ (list_any (is_mixed draft.scenario iface) draft.scenario.ifaces) _ _ (λ together. if_meets _ (list_any (is_taken draft.scenario iface) draft.scenario.ifaces) _ _ (λ _. let facts : (length draft.scenario.ifaces < 1024) × IfaceFacts draft.scenario iface × IsFree draft iface.name = (few, record { vrf = vrf; site = site; ipv4 = ipv4; together = together }, free) in ok_meets _ _ facts))
 
-iface_parts_meets : (draft : Drafted) (row : Row) (a b c d : Placed) → Meets (λ iface. (iface.vrf.0 < length draft.scenario.vrfs) × (iface.site.0 < length draft.scenario.sites) × IsFree draft iface.name) (iface_parts draft row a b c d)
+iface_parts_meets : (draft : Drafted) (row : Row) (a b c d : Placed) → Meets (λ iface. (iface.vrf.0 < length draft.scenario.vrfs) × (iface.site.0 < length draft.scenario.sites) × IsIpv4 iface.addr × IsFree draft iface.name) (iface_parts draft row a b c d)
 unfolding iface_parts
 iface_parts_meets draft row a b c d =
-    bind_meets _ (new_name draft row a) _ (λ name n. bind_meets _ (vrf_at draft row b) _ (λ vrf v. bind_meets _ (site_at draft row c) _ (λ site s. bind_meets _ (addr_at row d) _ (λ addr _. let facts : (vrf.0 < length draft.scenario.vrfs) × (site.0 < length draft.scenario.sites) × IsFree draft name = ((vrf_meets draft row b).holds vrf v, (site_meets draft row c).holds site s, (name_meets draft row a).holds name n) in ok_meets _ _ facts))))
+    bind_meets _ (new_name draft row a) _ (λ name n. bind_meets _ (vrf_at draft row b) _ (λ vrf v. bind_meets _ (site_at draft row c) _ (λ site s. bind_meets _ (addr_at row d) _ (λ addr p. let facts : (vrf.0 < length draft.scenario.vrfs) × (site.0 < length draft.scenario.sites) × IsIpv4 addr × IsFree draft name = ((vrf_meets draft row b).holds vrf v, (site_meets draft row c).holds site s, (addr_meets row d).holds addr p, (name_meets draft row a).holds name n) in ok_meets _ _ facts))))
 
 iface_words_meets : (draft : Drafted) (row : Row) (id : IfaceId) (a b c d : Placed) → length draft.scenario.ifaces < 1024 → Meets (IsDeclared draft) (iface_words draft row id a b c d)
 unfolding iface_words
 iface_words_meets draft row id a b c d few =
-    bind_meets _ (iface_parts draft row a b c d) _ (λ iface i. let known = (iface_parts_meets draft row a b c d).holds iface i in iface_rules_meets draft row id c iface few known.0 known.1 known.2)
+    bind_meets _ (iface_parts draft row a b c d) _ (λ iface i. let known = (iface_parts_meets draft row a b c d).holds iface i in iface_rules_meets draft row id c iface few known.0 known.1 known.2 known.3)
 
 iface_counted_meets : (draft : Drafted) (row : Row) (id : IfaceId) (words : List Placed) → length draft.scenario.ifaces < 1024 → Meets (IsDeclared draft) (iface_counted draft row id words)
 unfolding iface_counted
@@ -317,60 +164,6 @@ scenario_words_meets draft row scenario_kinds.Events first rest = events_line_me
 scenario_line_meets : (draft : Drafted) (row : Row) (first : Placed) (rest : List Placed) → Meets (IsDeclared draft) (scenario_line draft row first rest)
 unfolding scenario_line
 scenario_line_meets draft row first rest = bind_meets _ (scenario_word row first) _ (λ kind _. scenario_words_meets draft row kind first rest)
-
--- Events.
-join_words_meets : (draft : Drafted) (row : Row) (a b c : Placed) → Meets (IsTold draft) (join_words draft row a b c)
-unfolding join_words
-join_words_meets draft row a b c =
-    bind_meets _ (iface_at draft row a) _ (λ iface i. bind_meets _ (source_at row b) _ (λ source s. bind_meets _ (group_at row c) _ (λ group g. let facts : (iface.0 < length draft.scenario.ifaces) × IsSource source × IsGroup group = ((iface_meets draft row a).holds iface i, (source_meets row b).holds source s, (group_meets row c).holds group g) in ok_meets _ _ facts)))
-
-join_line_meets : (draft : Drafted) (row : Row) (words : List Placed) → Meets (IsTold draft) (join_line draft row words)
-unfolding join_line
-join_line_meets draft row [] = err_meets _ _
-join_line_meets draft row (a ∷ []) = err_meets _ _
-join_line_meets draft row (a ∷ b ∷ []) = err_meets _ _
-join_line_meets draft row (a ∷ b ∷ c ∷ []) = join_words_meets draft row a b c
-join_line_meets draft row (a ∷ b ∷ c ∷ d ∷ more) = err_meets _ _
-
-send_head_meets : (draft : Drafted) (row : Row) (a b c : Placed) → Meets (λ head. (head.site.0 < length draft.scenario.sites) × IsSource head.source × IsGroup head.group) (send_head draft row a b c)
-unfolding send_head
-send_head_meets draft row a b c =
-    bind_meets _ (site_at draft row a) _ (λ site i. bind_meets _ (source_at row b) _ (λ source s. bind_meets _ (group_at row c) _ (λ group g. let facts : (site.0 < length draft.scenario.sites) × IsSource source × IsGroup group = ((site_meets draft row a).holds site i, (source_meets row b).holds source s, (group_meets row c).holds group g) in ok_meets _ _ facts)))
-
-send_words_meets : (draft : Drafted) (row : Row) (a b c d : Placed) → length d.text ≤ 4096 → Meets (IsTold draft) (send_words draft row a b c d)
-unfolding send_words
-send_words_meets draft row a b c d short =
-    bind_meets _ (send_head draft row a b c) _ (λ head h. bind_meets _ (payload_at row d) _ (λ payload p. let facts = (send_head_meets draft row a b c).holds head h in let all : (head.site.0 < length draft.scenario.sites) × IsSource head.source × IsGroup head.group × (length payload ≤ 2048) = (facts.0, facts.1, facts.2, (payload_meets row d short).holds payload p) in ok_meets _ _ all))
-
-send_line_meets : (draft : Drafted) (row : Row) (words : List Placed) → AllByRecursion (λ w. length w.text ≤ 4096) words → Meets (IsTold draft) (send_line draft row words)
-unfolding send_line
-send_line_meets draft row [] h = err_meets _ _
-send_line_meets draft row (a ∷ []) h = err_meets _ _
-send_line_meets draft row (a ∷ b ∷ []) h = err_meets _ _
-send_line_meets draft row (a ∷ b ∷ c ∷ []) h = err_meets _ _
-send_line_meets draft row (a ∷ b ∷ c ∷ d ∷ []) h = send_words_meets draft row a b c d (h.1.1.1.0)
-send_line_meets draft row (a ∷ b ∷ c ∷ d ∷ e ∷ more) h = err_meets _ _
-
-bare_line_meets : (P : Line → Type 0) (row : Row) (said : Line) (words : List Placed) → P said → Meets P (bare_line row said words)
-unfolding bare_line
-bare_line_meets P row said [] h = ok_meets P said h
-bare_line_meets P row said (a ∷ more) h = err_meets P _
-
-event_words_meets : (draft : Drafted) (row : Row) (kind : EventWord) (rest : List Placed) → AllByRecursion (λ w. length w.text ≤ 4096) rest → Meets (IsTold draft) (event_words draft row kind rest)
-unfolding event_words
-event_words_meets draft row event_kinds.Join rest h = join_line_meets draft row rest
-event_words_meets draft row event_kinds.Send rest h = send_line_meets draft row rest h
-event_words_meets draft row event_kinds.Drain rest h = bare_line_meets (IsTold draft) row _ rest tt
-event_words_meets draft row event_kinds.State rest h = bare_line_meets (IsTold draft) row _ rest tt
-
--- What a line of an event keeps to, with their number.
-abbrev pub IsToldBelow : Drafted → Line → Type 0
-IsToldBelow draft said = (length draft.events < 200000) × IsTold draft said
-
-event_line_meets : (draft : Drafted) (row : Row) (first : Placed) (rest : List Placed) → AllByRecursion (λ w. length w.text ≤ 4096) rest → Meets (IsToldBelow draft) (event_line draft row first rest)
-unfolding event_line
-event_line_meets draft row first rest h =
-    bind_meets _ (event_word row first rest) _ (λ kind _. if_meets _ _ _ _ (λ few. record { holds = λ said e. (below 200000 (length draft.events) few, (event_words_meets draft row kind rest h).holds said e) }))
 
 -- What a line keeps to: it says nothing, is of the scenario, or is of an event.
 abbrev pub IsSaid : Drafted → Line → Type 0

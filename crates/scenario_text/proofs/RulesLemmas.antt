@@ -16,7 +16,7 @@ use Rattle.scenario_defs.specs.declared.scenario.Scenario.{Scenario}
 use Rattle.scenario_defs.specs.declared.event.Timed.{Timed}
 use Rattle.scenario_defs.specs.declared.event.Script.{Script}
 use Rattle.scenario_defs.specs.Vpn.{targets_of, same_vpn}
-use Rattle.scenario_defs.specs.Rules.{ScriptRules, Rises, IsEventOf}
+use Rattle.scenario_defs.specs.Rules.{ScriptRules, Rises, IsIpv4, IsEventOf}
 use Rattle.scenario_text.specs.declared.line.Line.{Line}
 use Rattle.scenario_text.specs.declared.line.Line.TheVariants as says
 use Rattle.scenario_text.specs.Drafted.{Drafted}
@@ -24,7 +24,8 @@ use Rattle.scenario_text.specs.ScenarioGrammar.{is_vpn_at, is_mixed}
 use Rattle.scenario_text.specs.Grammar.{added, empty_draft, script_at, script_from, script_of}
 use Rattle.scenario_text.specs.Faults.{Says}
 use Rattle.scenario_text.proofs.FaultsLemmas.{read_text, short_text}
-use Rattle.scenario_text.proofs.LineFacts.{line_meets, IsSaid, IsDeclared, IsToldBelow, VrfFacts, IfaceFacts}
+use Rattle.scenario_text.proofs.EventFacts.{IsToldBelow}
+use Rattle.scenario_text.proofs.LineFacts.{line_meets, IsSaid, IsDeclared, VrfFacts, IfaceFacts}
 
 -- One more at the end: each place has what it had, or the new one is there.
 snoc_get : {X : Type 0} (xs : List X) (y : X) (k : ℕ) (z : X) → slice_get (xs ++ y ∷ []) k ≡ Some z → ((k < length xs) × (slice_get xs k ≡ Some z)) ⊎ ((k ≡ length xs) × (y ≡ z))
@@ -66,6 +67,7 @@ record RulesSoFar (scenario : Scenario) : Type 0 where
   vpn : (v w : ℕ) (vrf other : Vrf) → v < w → slice_get scenario.vrfs v ≡ Some vrf → slice_get scenario.vrfs w ≡ Some other → vrf.edge.0 ≡ other.edge.0 → same vrf.targets other.targets ≡ false
   vrf_known : (i : ℕ) (iface : Iface) → slice_get scenario.ifaces i ≡ Some iface → iface.vrf.0 < length scenario.vrfs
   site_known : (i : ℕ) (iface : Iface) → slice_get scenario.ifaces i ≡ Some iface → iface.site.0 < length scenario.sites
+  iface_ipv4 : (i : ℕ) (iface : Iface) → slice_get scenario.ifaces i ≡ Some iface → IsIpv4 iface.addr
   mixed : (i j : ℕ) (iface other : Iface) → i < j → slice_get scenario.ifaces i ≡ Some iface → slice_get scenario.ifaces j ≡ Some other → iface.site.0 ≡ other.site.0 → same_vpn scenario iface.vrf other.vrf ≡ true
 
 empty_rules : RulesSoFar empty_draft.scenario
@@ -78,6 +80,7 @@ empty_rules = record {
   vpn = λ v w vrf other l h k e. absurd cc;
   vrf_known = λ i iface h. absurd cc;
   site_known = λ i iface h. absurd cc;
+  iface_ipv4 = λ i iface h. absurd cc;
   mixed = λ i j iface other l h k e. absurd cc;
 }
 
@@ -94,6 +97,7 @@ with_node s node r = record {
   vpn = r.vpn;
   vrf_known = r.vrf_known;
   site_known = r.site_known;
+  iface_ipv4 = r.iface_ipv4;
   mixed = r.mixed;
 }
 
@@ -107,6 +111,7 @@ with_site s site few r = record {
   vpn = r.vpn;
   vrf_known = r.vrf_known;
   site_known = λ i iface h. omega (arith, r.site_known i iface h, longer s.sites site);
+  iface_ipv4 = r.iface_ipv4;
   mixed = r.mixed;
 }
 
@@ -147,6 +152,7 @@ with_vrf s vrf few f r = record {
   vpn = new_vpn s vrf f r;
   vrf_known = λ i iface h. omega (arith, r.vrf_known i iface h, longer s.vrfs vrf);
   site_known = r.site_known;
+  iface_ipv4 = r.iface_ipv4;
   mixed = λ i j iface other l h k e. known_vpn s vrf iface.vrf other.vrf (r.vrf_known i iface h) (r.vrf_known j other k) ∙ r.mixed i j iface other l h k e;
 }
 
@@ -155,6 +161,9 @@ new_vrf s iface f r i z h = elim (snoc_get s.ifaces iface i z h) [ inl old ↦ r
 
 new_site : (s : Scenario) (iface : Iface) → IfaceFacts s iface → RulesSoFar s → (i : ℕ) (z : Iface) → slice_get (s.ifaces ++ iface ∷ []) i ≡ Some z → z.site.0 < length s.sites
 new_site s iface f r i z h = elim (snoc_get s.ifaces iface i z h) [ inl old ↦ r.site_known i z old.1 | inr new ↦ subst (λ (x : Iface). x.site.0 < length s.sites) new.1 f.site ]
+
+new_ipv4 : (s : Scenario) (iface : Iface) → IfaceFacts s iface → RulesSoFar s → (i : ℕ) (z : Iface) → slice_get (s.ifaces ++ iface ∷ []) i ≡ Some z → IsIpv4 z.addr
+new_ipv4 s iface f r i z h = elim (snoc_get s.ifaces iface i z h) [ inl old ↦ r.iface_ipv4 i z old.1 | inr new ↦ subst (λ (x : Iface). IsIpv4 x.addr) new.1 f.ipv4 ]
 
 one_vpn : (a b : ℕ) (t : Bool) → (a == b && not t) ≡ false → a ≡ b → t ≡ true
 one_vpn a b t h e = not_false t (other_edge a b (not t) h e)
@@ -178,6 +187,7 @@ with_iface s iface few f r = record {
   vpn = r.vpn;
   vrf_known = new_vrf s iface f r;
   site_known = new_site s iface f r;
+  iface_ipv4 = new_ipv4 s iface f r;
   mixed = new_mixed s iface f r;
 }
 
@@ -303,6 +313,7 @@ script_rules draft number h b = record {
     vpn = h.rules.vpn;
     vrf_known = h.rules.vrf_known;
     site_known = h.rules.site_known;
+    iface_ipv4 = h.rules.iface_ipv4;
     mixed = h.rules.mixed;
   };
   events = h.events;

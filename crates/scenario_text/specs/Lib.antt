@@ -1,6 +1,7 @@
 pub mod Drafted
 pub mod Naming
 pub mod ScenarioGrammar
+pub mod JoinGrammar
 pub mod EventGrammar
 pub mod Grammar
 pub mod Faults

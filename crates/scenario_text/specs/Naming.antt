@@ -46,6 +46,10 @@ iface_of other = None
 abbrev pub named : Drafted → List ℕ → Option Thing
 named draft text = if is_name text then lookup (pointwise nat_eq text) draft.names else None
 
+-- the node that a text names
+unfoldable pub node_named : Drafted → List ℕ → Option NodeId
+node_named draft text = named draft text >>? λ thing. node_of thing >>? λ id. slice_get draft.scenario.nodes id.0 >>? λ found. Some id
+
 -- the edge that a text names
 unfoldable pub edge_named : Drafted → List ℕ → Option NodeId
 edge_named draft text = named draft text >>? λ thing. node_of thing >>? λ id. slice_get draft.scenario.nodes id.0 >>? λ node. only_if node.edge id
@@ -66,6 +70,10 @@ iface_named draft text = named draft text >>? λ thing. iface_of thing >>? λ id
 unfoldable pub new_name : Drafted → Row → Placed → Result (List ℕ) TextFault
 new_name draft row word =
     if is_name word.text then elim (named draft word.text) [ None ↦ Ok word.text | Some thing ↦ fault row.number word.column reasons.Again ] else fault row.number word.column reasons.Name
+
+-- a word that names a node
+unfoldable pub node_at : Drafted → Row → Placed → Result NodeId TextFault
+node_at draft row word = or_fault (node_named draft word.text) row word reasons.Unknown
 
 -- a word that names an edge
 unfoldable pub edge_at : Drafted → Row → Placed → Result NodeId TextFault

@@ -1,12 +1,15 @@
 //! The text of a scenario and its script.
 #![tactic(auto)]
 
+mod clock_lines;
 mod draft;
 mod event_lines;
+mod join_lines;
 mod laws;
 mod line;
 mod lists;
 mod naming;
+mod payload_lines;
 mod reader;
 mod scenario_lines;
 #[cfg(test)]

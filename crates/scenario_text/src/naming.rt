@@ -2,7 +2,7 @@
 ghost use Rattle.std.specs.Prelude.{◌≡◌};
 ghost use Rattle.std.specs.List.{list_any};
 ghost use Rattle.line_words.specs.Words.{placed_word};
-ghost use Rattle.scenario_text.specs.Naming.{edge_named, vrf_named, site_named, iface_named, new_name, edge_at, vrf_at, site_at, iface_at, is_at, node_addr_at, has_number, vrf_number_at, has_rd, rd_at};
+ghost use Rattle.scenario_text.specs.Naming.{node_named, edge_named, vrf_named, site_named, iface_named, new_name, node_at, edge_at, vrf_at, site_at, iface_at, is_at, node_addr_at, has_number, vrf_number_at, has_rd, rd_at};
 
 use crate::draft::Draft;
 use line_words::{
@@ -11,6 +11,15 @@ use line_words::{
 };
 use mv_base::{Addr, IfaceId, NodeId, Rd, SiteId, VrfId};
 use scenario_defs::{Name, Node, Vrf};
+
+#[tactic(auto, unfolding(crate::specs::Naming::node_named))]
+fn node_named(draft: &Draft, text: &[u8]) -> Option<NodeId>
+    ensures { result ≡ node_named draft.now text.now }
+{
+    let id = draft.named(text)?.node()?;
+    let _node = draft.scenario().nodes.as_slice().get(usize::from(id.0))?;
+    Some(id)
+}
 
 #[tactic(auto, unfolding(crate::specs::Naming::edge_named))]
 fn edge_named(draft: &Draft, text: &[u8]) -> Option<NodeId>
@@ -63,6 +72,14 @@ pub fn new_name(draft: &Draft, row: Row, word: &Word) -> Result<Name, TextFault>
         Some(name) => Ok(name),
         None => unreachable!(),
     }
+}
+
+/// The node that a word names, or `Unknown`.
+#[tactic(auto, unfolding(crate::specs::Naming::node_at))]
+pub fn node_at(draft: &Draft, row: Row, word: &Word) -> Result<NodeId, TextFault>
+    ensures { result ≡ node_at draft.now row (placed_word word.now) }
+{
+    or_fault(node_named(draft, word.text), row, word, Reason::Unknown)
 }
 
 /// The edge that a word names, or `Unknown`.

@@ -1,2 +1,3 @@
 pub mod Codes
+pub mod Plan
 pub mod Changes

@@ -1,6 +1,15 @@
 //! A message that an interface takes.
-ghost use Rattle.std.specs.Prelude.{◌≡◌, ◌<◌, ◌^◌, IfOk};
+ghost use Rattle.std.specs.Prelude.{◌≡◌, ◌<◌, ◌^◌, ◌||◌, [], ◌∷◌, IfOk, OnOk};
+ghost use Rattle.std.specs.List.{list_any};
 ghost use Rattle.std.specs.FinMap.{from_entries};
+ghost use Rattle.indexmap.specs.IndexMap.{get, keys, IsUnique};
+ghost use Rattle.scenario_defs.specs.declared.event.JoinEntry.{JoinEntry};
+ghost use Rattle.pim_joinprune.specs.declared.message.JoinPrune.{JoinPrune};
+ghost use Rattle.pim_defs.specs.declared.entry.IfaceEntry.{IfaceEntry};
+ghost use Rattle.pim_defs.specs.Mention.{lists};
+ghost use Rattle.pim_defs.specs.Entries.{applied};
+ghost use Rattle.pim_state.specs.Changes.{changed_by};
+ghost use Rattle.pim_state.specs.Plan.{is_among, is_at, is_named, is_shared, may_end, ends_among, mention_in, then_of, told_at, Tells};
 
 use crate::changes::Changes;
 use indexmap::{IndexMap, IndexSet};
@@ -15,7 +24,9 @@ fn add_named(
     entries: &mut IndexSet<JoinEntry>,
     group: Addr,
     sources: &[JpSource],
-) -> Result<(), NoMemory> {
+) -> Result<(), NoMemory>
+    ensures { (entry : JoinEntry) → OnOk result (is_among entries.new.keys entry ≡ (is_among entries.old.keys entry || lists group sources.now entry)) }
+{
     for source in sources {
         entries.insert(entry_of(group, source))?;
     }
@@ -23,7 +34,9 @@ fn add_named(
 }
 
 /// The entries that the groups join.
-fn joined(alloc: Global, groups: &[Group]) -> Result<IndexSet<JoinEntry>, NoMemory> {
+fn joined(alloc: Global, groups: &[Group]) -> Result<IndexSet<JoinEntry>, NoMemory>
+    ensures { (entry : JoinEntry) → IfOk result (λ entries. is_among entries.keys entry ≡ list_any (λ group. lists group.group group.joins entry) groups.now) }
+{
     let mut entries = IndexSet::new(alloc);
     for group in groups {
         add_named(&mut entries, group.group, group.joins.as_slice())?;
@@ -32,7 +45,9 @@ fn joined(alloc: Global, groups: &[Group]) -> Result<IndexSet<JoinEntry>, NoMemo
 }
 
 /// The entries that the groups prune.
-fn pruned(alloc: Global, groups: &[Group]) -> Result<IndexSet<JoinEntry>, NoMemory> {
+fn pruned(alloc: Global, groups: &[Group]) -> Result<IndexSet<JoinEntry>, NoMemory>
+    ensures { (entry : JoinEntry) → IfOk result (λ entries. is_among entries.keys entry ≡ list_any (λ group. lists group.group group.prunes entry) groups.now) }
+{
     let mut entries = IndexSet::new(alloc);
     for group in groups {
         add_named(&mut entries, group.group, group.prunes.as_slice())?;
@@ -56,7 +71,9 @@ impl Arrival {
         iface: IfaceId,
         message: &JoinPrune,
         clock: u64,
-    ) -> Result<Arrival, NoMemory> {
+    ) -> Result<Arrival, NoMemory>
+        ensures { IfOk result (λ arrival. (arrival.iface ≡ iface) × (arrival.clock ≡ clock) × Tells arrival message.now) }
+    {
         let groups = message.groups.as_slice();
         let joins = joined(alloc, groups)?;
         let prunes = pruned(alloc, groups)?;
@@ -70,7 +87,9 @@ impl Arrival {
     }
 
     /// What the message says of the entry.
-    fn mention_of(&self, entry: &JoinEntry) -> Mention {
+    fn mention_of(&self, entry: &JoinEntry) -> Mention
+        ensures { result ≡ mention_in self.now.joins.keys self.now.prunes.keys entry.now }
+    {
         let shared = JoinEntry::Star {
             group: group_of(entry),
         };
@@ -82,7 +101,10 @@ impl Arrival {
     }
 
     /// The expiry of the entry behind the message.
-    fn expiry_then(&self, entry: &JoinEntry, old: Option<Expiry>) -> Option<Expiry> {
+    fn expiry_then(&self, entry: &JoinEntry, old: Option<Expiry>) -> Option<Expiry>
+        requires { self.now.clock < 2 ^ 63 }
+        ensures { result ≡ then_of self.now entry.now old }
+    {
         expiry_after(
             entry,
             self.mention_of(entry),
@@ -98,7 +120,12 @@ impl Arrival {
         entries: &IndexMap<IfaceEntry, Expiry>,
         entry: JoinEntry,
         changes: &mut Changes,
-    ) -> Result<(), NoMemory> {
+    ) -> Result<(), NoMemory>
+        requires clock { self.now.clock < 2 ^ 63 }
+        requires unique { IsUnique is_at changes.old }
+        ensures each { (at : IfaceEntry) → OnOk result (get is_at changes.new at ≡ told_at self.now entries.now (is_named self.now (entry ∷ []) at) (get is_at changes.old at) at) }
+        ensures unique { IsUnique is_at changes.new }
+    {
         let at = IfaceEntry {
             iface: self.iface,
             entry,
@@ -114,7 +141,12 @@ impl Arrival {
         entries: &IndexMap<IfaceEntry, Expiry>,
         named: &[JoinEntry],
         changes: &mut Changes,
-    ) -> Result<(), NoMemory> {
+    ) -> Result<(), NoMemory>
+        requires clock { self.now.clock < 2 ^ 63 }
+        requires unique { IsUnique is_at changes.old }
+        ensures each { (at : IfaceEntry) → OnOk result (get is_at changes.new at ≡ told_at self.now entries.now (is_named self.now named.now at) (get is_at changes.old at) at) }
+        ensures unique { IsUnique is_at changes.new }
+    {
         for entry in named {
             self.plan(entries, *entry, changes)?;
         }
@@ -122,7 +154,9 @@ impl Arrival {
     }
 
     /// Whether the entry is an (S,G,rpt) prune of the interface whose group the message joins by (*,G).
-    fn may_end(&self, at: &IfaceEntry) -> bool {
+    fn may_end(&self, at: &IfaceEntry) -> bool
+        ensures { result ≡ may_end self.now at.now }
+    {
         match at.entry {
             JoinEntry::Rpt { source: _, group } => {
                 at.iface == self.iface && self.joins.contains(&JoinEntry::Star { group })
@@ -137,7 +171,12 @@ impl Arrival {
         entries: &IndexMap<IfaceEntry, Expiry>,
         at: &IfaceEntry,
         changes: &mut Changes,
-    ) -> Result<(), NoMemory> {
+    ) -> Result<(), NoMemory>
+        requires clock { self.now.clock < 2 ^ 63 }
+        requires unique { IsUnique is_at changes.old }
+        ensures each { (other : IfaceEntry) → OnOk result (get is_at changes.new other ≡ told_at self.now entries.now (ends_among self.now (at.now ∷ []) other) (get is_at changes.old other) other) }
+        ensures unique { IsUnique is_at changes.new }
+    {
         if self.may_end(at) {
             self.plan(entries, at.entry, changes)
         } else {
@@ -150,7 +189,12 @@ impl Arrival {
         &self,
         entries: &IndexMap<IfaceEntry, Expiry>,
         changes: &mut Changes,
-    ) -> Result<(), NoMemory> {
+    ) -> Result<(), NoMemory>
+        requires clock { self.now.clock < 2 ^ 63 }
+        requires unique { IsUnique is_at changes.old }
+        ensures each { (at : IfaceEntry) → OnOk result (get is_at changes.new at ≡ told_at self.now entries.now (ends_among self.now (keys entries.now) at) (get is_at changes.old at) at) }
+        ensures unique { IsUnique is_at changes.new }
+    {
         let present = entries.keys().as_slice();
         for at in present {
             self.plan_ended(entries, at, changes)?;
@@ -159,11 +203,31 @@ impl Arrival {
     }
 
     /// Whether the message joins the shared tree of some group.
-    fn joins_shared(&self) -> bool {
+    fn joins_shared(&self) -> bool
+        ensures { result ≡ list_any is_shared self.now.joins.keys }
+    {
         self.joins
             .as_slice()
             .iter()
             .any(|entry| matches!(entry, JoinEntry::Star { group: _ }))
+    }
+
+    /// Plans what becomes of the entries that the message may end without naming them, which are none without a join (*,G).
+    fn plan_unnamed(
+        &self,
+        entries: &IndexMap<IfaceEntry, Expiry>,
+        changes: &mut Changes,
+    ) -> Result<(), NoMemory>
+        requires clock { self.now.clock < 2 ^ 63 }
+        requires unique { IsUnique is_at changes.old }
+        ensures each { (at : IfaceEntry) → OnOk result (get is_at changes.new at ≡ told_at self.now entries.now (ends_among self.now (keys entries.now) at) (get is_at changes.old at) at) }
+        ensures unique { IsUnique is_at changes.new }
+    {
+        if self.joins_shared() {
+            self.plan_all_ended(entries, changes)
+        } else {
+            Ok(())
+        }
     }
 
     /// What the message changes, each entry that it may change once.
@@ -171,13 +235,14 @@ impl Arrival {
         &self,
         alloc: Global,
         entries: &IndexMap<IfaceEntry, Expiry>,
-    ) -> Result<Changes, NoMemory> {
+    ) -> Result<Changes, NoMemory>
+        requires { self.now.clock < 2 ^ 63 }
+        ensures { (message : JoinPrune) → Tells self.now message → IfOk result (λ changes. changed_by (from_entries entries.now.entries) changes.entries ≡ applied (from_entries entries.now.entries) self.now.iface message self.now.clock) }
+    {
         let mut changes = IndexMap::new(alloc);
         self.plan_named(entries, self.joins.as_slice(), &mut changes)?;
         self.plan_named(entries, self.prunes.as_slice(), &mut changes)?;
-        if self.joins_shared() {
-            self.plan_all_ended(entries, &mut changes)?;
-        }
+        self.plan_unnamed(entries, &mut changes)?;
         Ok(changes)
     }
 }

@@ -1,8 +1,10 @@
 //! What a message changes, each entry once.
-ghost use Rattle.std.specs.Prelude.{◌≡◌, ◌≤◌, is_some, count_by, OnOk, OnErr};
+ghost use Rattle.std.specs.Prelude.{◌≡◌, ◌<◌, ◌≤◌, ◌+◌, ◌^◌, if◌then◌else◌, is_some, count_by, OnOk, OnErr};
 ghost use Rattle.std.specs.FinMap.{from_entries, len};
-ghost use Rattle.indexmap.specs.IndexMap.{spare};
-ghost use Rattle.pim_state.specs.Changes.{changed_by};
+ghost use Rattle.indexmap.specs.IndexMap.{get, keys, values, spare, IsUnique, Updates};
+ghost use Rattle.pim_defs.specs.declared.entry.IfaceEntry.{IfaceEntry};
+ghost use Rattle.pim_state.specs.Changes.{changed_by, then_at};
+ghost use Rattle.pim_state.specs.Plan.{is_at};
 
 use indexmap::IndexMap;
 use mv_base::NoMemory;
@@ -12,16 +14,22 @@ use pim_defs::{Expiry, IfaceEntry};
 pub(crate) type Changes = IndexMap<IfaceEntry, Option<Expiry>>;
 
 /// How many of the changed entries are there then.
-pub(crate) fn count_kept(changes: &Changes) -> usize
-    ensures { result ≡ count_by (λ change. is_some change.1) changes.now.entries }
+fn count_kept(changes: &Changes) -> usize
+    ensures count { result ≡ count_by is_some (values changes.now) }
+    ensures bound { result < 2 ^ 63 }
 {
-    changes.values().filter(|expiry| expiry.is_some()).count()
+    let expiries = changes.values().as_slice();
+    expiries.iter().filter(|expiry| expiry.is_some()).count()
 }
 
 /// How many of the changed entries are there now.
-fn count_present(entries: &IndexMap<IfaceEntry, Expiry>, changes: &Changes) -> usize {
-    changes
-        .keys()
+fn count_present(entries: &IndexMap<IfaceEntry, Expiry>, changes: &Changes) -> usize
+    ensures count { result ≡ count_by (λ at. is_some (get is_at entries.now at)) (keys changes.now) }
+    ensures unique { IsUnique is_at changes.now }
+{
+    let changed = changes.keys().as_slice();
+    changed
+        .iter()
         .filter(|at| entries.contains_key(*at))
         .count()
 }
@@ -34,7 +42,12 @@ pub(crate) fn count_after(entries: &IndexMap<IfaceEntry, Expiry>, changes: &Chan
 }
 
 /// Gives an entry its expiry, or removes it.
-fn change(entries: &mut IndexMap<IfaceEntry, Expiry>, at: IfaceEntry, expiry: Option<Expiry>) {
+fn change(entries: &mut IndexMap<IfaceEntry, Expiry>, at: IfaceEntry, expiry: Option<Expiry>)
+    requires { (if is_some expiry then 1 else 0) ≤ spare entries.old }
+    ensures updates { Updates is_at entries.old entries.new at expiry }
+    ensures unique { IsUnique is_at entries.new }
+    ensures room { spare entries.old ≤ spare entries.new + (if is_some expiry then 1 else 0) }
+{
     match expiry {
         Some(expiry) => {
             entries.insert(at, expiry).unwrap();
@@ -46,7 +59,12 @@ fn change(entries: &mut IndexMap<IfaceEntry, Expiry>, at: IfaceEntry, expiry: Op
 }
 
 /// Makes the changes. There is room for them.
-fn change_all(entries: &mut IndexMap<IfaceEntry, Expiry>, changes: &Changes) {
+fn change_all(entries: &mut IndexMap<IfaceEntry, Expiry>, changes: &Changes)
+    requires unique { IsUnique is_at entries.old }
+    requires room { count_by is_some (values changes.now) ≤ spare entries.old }
+    ensures unique { IsUnique is_at entries.new }
+    ensures each { (at : IfaceEntry) → get is_at entries.new at ≡ then_at changes.now.entries (get is_at entries.old at) at }
+{
     for (at, expiry) in changes.iter() {
         change(entries, *at, *expiry);
     }
@@ -59,6 +77,7 @@ pub(crate) fn apply(
 ) -> Result<(), NoMemory>
     ensures ok { OnOk result (from_entries entries.new.entries ≡ changed_by (from_entries entries.old.entries) changes.now.entries) }
     ensures err { OnErr result (entries.new.entries ≡ entries.old.entries) }
+    ensures unique { IsUnique is_at entries.new }
 {
     entries.reserve(count_kept(changes))?;
     change_all(entries, changes);

@@ -1,6 +1,7 @@
 //! The entries of an edge's interfaces.
-ghost use Rattle.std.specs.Prelude.{◌≡◌, ◌<◌, ◌^◌, true, false, Err, IfOk, OnOk, OnErr};
+ghost use Rattle.std.specs.Prelude.{◌≡◌, ◌<◌, ◌^◌, true, false, not, count_by, Err, IfOk, OnOk, OnErr};
 ghost use Rattle.std.specs.FinMap.{empty, len};
+ghost use Rattle.pim_defs.specs.Expiry.{is_after};
 ghost use Rattle.pim_defs.specs.Entries.{applied, are_too_many, asks, due, expiry_at, kept_at};
 
 use crate::arrival::Arrival;
@@ -35,6 +36,14 @@ impl From<NoMemory> for TakeFault {
     }
 }
 
+/// How many of the expiries are at or before the clock.
+fn count_due(expiries: &[Expiry], now: u64) -> u64
+    ensures { result ≡ count_by (λ expiry. not (is_after expiry now)) expiries.now }
+{
+    let ended = expiries.iter().filter(|expiry| !expiry.is_after(now));
+    ended.count() as u64
+}
+
 /// The joined and pruned entries of an edge's interfaces (RFC 7761 section 4.1), at most 1,024.
 #[derive(Drop)]
 pub struct Downstream {
@@ -44,14 +53,18 @@ pub struct Downstream {
 
 impl Model for Downstream {
     ghost use Rattle.std.specs.FinMap.{from_entries};
+    ghost use Rattle.indexmap.specs.IndexMap.{IsUnique};
     ghost use Rattle.pim_defs.specs.Entries.{Entries};
     ghost use Rattle.pim_state.specs.Codes.{entries_code};
+    ghost use Rattle.pim_state.specs.Plan.{is_at};
 
     ghost Value = { Entries };
 
     ghost coded = { entries_code };
 
     ghost view = { λ d. from_entries d.entries.entries };
+
+    ghost invariant = { λ d. IsUnique is_at d.entries };
 }
 
 impl Downstream {
@@ -103,9 +116,11 @@ impl Downstream {
     pub fn timers(&mut self, now: u64)
         ensures { self.new ≡ kept_at self.old now }
     {
-        self.entries.retain(|_at: &IfaceEntry, expiry: &mut Expiry| -> bool {
-            expiry.is_after(now)
-        });
+        self.entries.retain(
+            |_at: &IfaceEntry, expiry: &mut Expiry| -> bool
+                ensures { (result ≡ is_after expiry.old now) × (expiry.new ≡ expiry.old) }
+            { expiry.is_after(now) },
+        );
     }
 
     /// Whether the interface asks for (S,G) at the clock, where S is known to send to G or not.
@@ -122,10 +137,7 @@ impl Downstream {
     pub fn due(&self, now: u64) -> u64
         ensures { result ≡ due self.now now }
     {
-        self.entries
-            .values()
-            .filter(|expiry| !expiry.is_after(now))
-            .count() as u64
+        count_due(self.entries.values().as_slice(), now)
     }
 
     /// The number of entries.

@@ -1,0 +1,14 @@
+use Rattle.std.proofs.Common.{◌≡◌, ◌≤◌, count_by, is_some}
+use Rattle.std.specs.Map.{values_of}
+use Rattle.indexmap.specs.IndexMap.{get, spare, IsUnique}
+use Rattle.pim_defs.specs.declared.entry.IfaceEntry.{IfaceEntry}
+use Rattle.pim_state.specs.Changes.{then_at}
+use Rattle.pim_state.specs.Plan.{is_at}
+use Rattle.pim_state.proofs.changes.change_all.Given as goal
+
+abbrev pub invariant-loop-at : goal.invariant-loop-at
+invariant-loop-at l = record {
+  each : (at : IfaceEntry) → then_at l.at-iterator (get is_at l.entries at) at ≡ then_at l.changes.entries (get is_at l.initial.entries at) at;
+  room : count_by is_some (values_of l.at-iterator) ≤ spare l.entries;
+  unique : IsUnique is_at l.entries;
+}

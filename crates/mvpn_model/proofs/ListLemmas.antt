@@ -1,9 +1,8 @@
 -- Facts about lists that the laws share.
-use Rattle.std.proofs.Common.{◌≡◌, ℕ, List, [], ◌∷◌, ◌++◌, true, false, Bool, zero, suc, refl, sym, inl, inr}
-use Rattle.std.specs.Prelude.{nat_eq, ◌&&◌, None, Some, slice_get, find}
+use Rattle.std.proofs.Common.{◌≡◌, ℕ, List, [], ◌∷◌, ◌++◌, true, false, Bool, cond, zero, suc, refl, sym, inl, inr}
+use Rattle.std.specs.Prelude.{◌&&◌, None, Some, slice_get, find}
 use Rattle.std.specs.List.{list_any, list_all, AllByRecursion}
-use Rattle.std.specs.Cmp.Lexicographic.{pointwise, other_text}
-use Rattle.std.proofs.lemmas.Bool.{cases_Bool, or_cases, or_left, or_right, or_from, and_from, false_from_ne_true, true_from_ne_false}
+use Rattle.std.proofs.lemmas.Bool.{cases_Bool, or_cases, or_left, or_right, or_from, and_from, false_from_ne_true}
 
 -- Each element of two lists that are joined passes.
 pub all-append : {X : Type 0} (P : X → Type 0) (xs ys : List X) → AllByRecursion P xs → AllByRecursion P ys → AllByRecursion P (xs ++ ys)
@@ -76,12 +75,7 @@ and_swap true false = refl
 and_swap false true = refl
 and_swap false false = refl
 
--- Two tests are one where each is true at the other.
-pub same_tests : (a b : Bool) → (a ≡ true → b ≡ true) → (b ≡ true → a ≡ true) → a ≡ b
-same_tests true b h k = sym (h refl)
-same_tests false true h k = k refl
-same_tests false false h k = refl
-
--- A text is itself.
-pub pointwise-refl : (xs : List ℕ) → pointwise nat_eq xs xs ≡ true
-pointwise-refl xs = true_from_ne_false (pointwise nat_eq xs xs) (λ e. other_text xs xs (sym e) refl)
+-- A choice of nothing and nothing is nothing.
+pub none_either_way : {X : Type 0} (b : Bool) → cond {A = List X} b [] [] ≡ []
+none_either_way true = refl
+none_either_way false = refl

@@ -3,6 +3,8 @@ use Rattle.std.proofs.Common.{◌≡◌, ℕ, ◌+◌, ◌<◌, ◌≤◌, List,
 use Rattle.std.specs.Prelude.{◌==◌, ◌&&◌, Option, None, Some, slice_get, find, option_map}
 use Rattle.std.specs.List.{list_any, list_all}
 use Rattle.std.specs.Option.{option_to_list}
+use Rattle.std.specs.Cmp.{both_ways}
+use Rattle.std.specs.Cmp.Lexicographic.{nat_list_eq_equiv}
 use Rattle.std.proofs.lemmas.Bool.{cases_order, cases_lt, eqb-true, eq-eqb, and_parts, and_from, ne_eqb, cond-true, cond-false, false≢true}
 use Rattle.mv_base.specs.declared.ids.VrfId.{VrfId}
 use Rattle.mv_base.specs.declared.ids.SiteId.{SiteId}
@@ -13,11 +15,11 @@ use Rattle.scenario_defs.specs.declared.scenario.Iface.{Iface}
 use Rattle.scenario_defs.specs.declared.scenario.Scenario.{Scenario}
 use Rattle.scenario_defs.specs.Rules.{Rules}
 use Rattle.scenario_defs.specs.Vpn.{targets_of, admits, same_vpn, is_of_site, is_of_vrf, vrf_of_site, entered, entered_from}
-use Rattle.mvpn_model.proofs.ListLemmas.{passes-from_any, passes-from_find, none-from_find, none-from_each, any-from_at, every-from_each, and_swap, same_tests, pointwise-refl}
+use Rattle.mvpn_model.proofs.ListLemmas.{passes-from_any, passes-from_find, none-from_find, none-from_each, any-from_at, every-from_each, and_swap}
 
 -- A set has the members of itself.
 has-itself : (a : List Target) → list_all (has a) a ≡ true
-has-itself a = every-from_each (has a) a (λ place value e. any-from_at (same_target value) a place value e (pointwise-refl value.0.0))
+has-itself a = every-from_each (has a) a (λ place value e. any-from_at (same_target value) a place value e (nat_list_eq_equiv.refl value.0.0))
 
 -- A set is itself.
 pub same-refl : (a : List Target) → same a a ≡ true
@@ -30,7 +32,7 @@ same-sym a b = and_swap (list_all (has b) a) (list_all (has a) b)
 -- A set that is not empty shares a member with itself.
 pub shares-refl : (a : List Target) → 0 < length a → shares a a ≡ true
 shares-refl [] h = absurd (omega (arith, h))
-shares-refl (target ∷ more) h = any-from_at (has (target ∷ more)) (target ∷ more) 0 target refl (any-from_at (same_target target) (target ∷ more) 0 target refl (pointwise-refl target.0.0))
+shares-refl (target ∷ more) h = any-from_at (has (target ∷ more)) (target ∷ more) 0 target refl (any-from_at (same_target target) (target ∷ more) 0 target refl (nat_list_eq_equiv.refl target.0.0))
 
 -- a VRF of that number
 pub record VrfAt (scenario : Scenario) (number : ℕ) : Type 0 where
@@ -38,7 +40,7 @@ pub record VrfAt (scenario : Scenario) (number : ℕ) : Type 0 where
   pub at : slice_get scenario.vrfs number ≡ Some vrf
 
 -- the element at a place within a list
-element_at : {X : Type 0} (xs : List X) (i : ℕ) → i < length xs → (x : X) × (slice_get xs i ≡ Some x)
+pub element_at : {X : Type 0} (xs : List X) (i : ℕ) → i < length xs → (x : X) × (slice_get xs i ≡ Some x)
 element_at [] i h = absurd (omega (arith, h))
 element_at (x ∷ xs) zero h = (x, refl)
 element_at (x ∷ xs) (suc i) h = element_at xs i (omega (arith, h))
@@ -136,7 +138,7 @@ enters_at scenario site number = list_any (λ iface. is_of_site site iface && is
 
 -- A site has an interface in its own VRF alone.
 enters_in_one : (scenario : Scenario) (site : SiteId) (vrf : VrfId) → IsVrfOfSite scenario site vrf → (number : ℕ) → enters_at scenario site number ≡ (vrf.0 == number)
-enters_in_one scenario site vrf is number = same_tests (enters_at scenario site number) (vrf.0 == number)
+enters_in_one scenario site vrf is number = both_ways (enters_at scenario site number) (vrf.0 == number)
     (λ t.
     let p = passes-from_any (λ iface. is_of_site site iface && is_of_vrf (record { 0 = number }) iface) scenario.ifaces t in
     let both = and_parts (is_of_site site p.value) (is_of_vrf (record { 0 = number }) p.value) p.passes in
@@ -182,6 +184,6 @@ entered-one scenario rules site = found (find (is_of_site site) scenario.ifaces)
 -- An interface is in a VRF where it is of the VRF's VPN.
 pub vrf_is_vpn : (scenario : Scenario) → Rules scenario → (vrf : VrfId) → vrf.0 < length scenario.vrfs → (i : ℕ) (iface : Iface) →
     slice_get scenario.ifaces i ≡ Some iface → is_of_vrf vrf iface ≡ same_vpn scenario vrf iface.vrf
-vrf_is_vpn scenario rules vrf known i iface e = same_tests (is_of_vrf vrf iface) (same_vpn scenario vrf iface.vrf)
+vrf_is_vpn scenario rules vrf known i iface e = both_ways (is_of_vrf vrf iface) (same_vpn scenario vrf iface.vrf)
     (λ t. vpn_of_one scenario vrf iface.vrf (sym (eqb-true iface.vrf.0 vrf.0 t)))
     (λ t. eq-eqb iface.vrf.0 vrf.0 (sym (one_by_vpn scenario rules vrf iface.vrf known (rules.vrf_known i iface e) t)))

@@ -28,7 +28,7 @@ use Rattle.mvpn_model.specs.Messages.{message_of}
 use Rattle.pim_defs.specs.Entries.{Entries, applied}
 use Rattle.net_defs.specs.Network.{Network, refusal, accepted_acts, acts_of, with_message, accepted_after, after, leaves_at, leaves, entering}
 use Rattle.net_defs.specs.Run.{entries_of}
-use Rattle.net_laws.proofs.ListLemmas.{all-append}
+use Rattle.mvpn_model.proofs.ListLemmas.{all-append}
 
 -- ---- refused or not
 

@@ -26,8 +26,8 @@ use Rattle.mvpn_model.specs.Messages.{message_of}
 use Rattle.mvpn_model.specs.Past.{is_accepted, is_of_edge, ticks_of, expiry_given, expiry_by, stands_after}
 use Rattle.mvpn_model.specs.Report.{Datagram, datagrams, sent_by}
 use Rattle.net_defs.specs.Network.{Network, start, refusal, with_message, accepted_after, after}
-use Rattle.net_laws.proofs.ListLemmas.{none_either_way}
-use Rattle.net_laws.proofs.VpnLemmas.{element_at, vrf_at}
+use Rattle.mvpn_model.proofs.ListLemmas.{none_either_way}
+use Rattle.mvpn_model.proofs.VpnLemmas.{element_at, vrf_at}
 use Rattle.net_laws.proofs.FrameLemmas.{quiet-accepted, after-scenario}
 use Rattle.net_laws.proofs.AcceptedLemmas.{is_refused}
 

@@ -1,6 +1,4 @@
-pub mod ListLemmas
 pub mod RunLemmas
-pub mod VpnLemmas
 pub mod FrameLemmas
 pub mod AcceptedLemmas
 pub mod JoinedLemmas

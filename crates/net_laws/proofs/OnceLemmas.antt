@@ -26,9 +26,9 @@ use Rattle.mvpn_model.specs.Report.{Entry, Datagram, datagrams, sent_by, refused
 use Rattle.mvpn_model.specs.Once.{Once}
 use Rattle.net_defs.specs.Network.{Network, start, acts_of, after, leaves_at, leaves, entering, is_asking}
 use Rattle.net_defs.specs.Run.{Run, entries_of}
-use Rattle.net_laws.proofs.ListLemmas.{none_either_way}
+use Rattle.mvpn_model.proofs.ListLemmas.{none_either_way}
 use Rattle.net_laws.proofs.RunLemmas.{report_from, runs_are}
-use Rattle.net_laws.proofs.VpnLemmas.{IsVrfOfSite, vrf_of_site-is, vrf_is_vpn, entered-one}
+use Rattle.mvpn_model.proofs.VpnLemmas.{IsVrfOfSite, vrf_of_site-is, vrf_is_vpn, entered-one}
 use Rattle.net_laws.proofs.FrameLemmas.{quiet-accepted, after-scenario}
 use Rattle.net_laws.proofs.AcceptedLemmas.{is_refused, Agrees, agrees-of_report, send-outs}
 use Rattle.net_laws.proofs.JoinedLemmas.{Tells, tells-start, tells-snoc}

@@ -24,9 +24,9 @@ use Rattle.mvpn_model.specs.Report.{Entry, Datagram, datagrams, refused_lines}
 use Rattle.mvpn_model.specs.Safe.{IsAdmitted, IsSafeOut, IsSafeLine, IsSafeEntry, Safe}
 use Rattle.net_defs.specs.Network.{Network, start, acts_of, after, leaves_at, leaves, entering, is_asking}
 use Rattle.net_defs.specs.Run.{Run, entries_of}
-use Rattle.net_laws.proofs.ListLemmas.{all-append, any-from_at}
+use Rattle.mvpn_model.proofs.ListLemmas.{all-append, any-from_at}
 use Rattle.net_laws.proofs.RunLemmas.{report_from, runs_are}
-use Rattle.net_laws.proofs.VpnLemmas.{IsVrfOfSite, vrf_of_site-is, admits_itself, entered-one}
+use Rattle.mvpn_model.proofs.VpnLemmas.{IsVrfOfSite, vrf_of_site-is, admits_itself, entered-one}
 use Rattle.net_laws.proofs.FrameLemmas.{after-scenario, acts-either, ifaces_where-all, outs-all}
 use Rattle.net_laws.proofs.AcceptedLemmas.{is_refused, Agrees, agrees-of_report}
 use Rattle.net_laws.proofs.JoinedLemmas.{Tells, tells-start, tells-snoc, datagrams-snoc}

@@ -16,7 +16,7 @@ use Rattle.mvpn_tool.specs.declared.stop.Stop.{Stop}
 use Rattle.mvpn_tool.specs.declared.stop.Stop.TheVariants as stops
 use Rattle.mvpn_tool.specs.Input.{IsInput, IsReadUpTo, Taken}
 use Rattle.mvpn_tool.specs.Outcome.{ReplayEnds, Replays, Takes}
-use Rattle.mvpn_tool.specs.WorldState.{WorldState}
+use Rattle.net_world.specs.WorldState.{WorldState}
 use Rattle.decode_text.specs.HexText.{octets_of}
 
 -- Some input that the source may have had says what these octets say.

@@ -1,16 +1,17 @@
 -- Laws of what was replayed so far.
-use Rattle.std.proofs.Common.{◌≡◌, ℕ, ◌+◌, ◌<◌, ◌≤◌, List, [], ◌++◌, length, take, get_or, refl, ap, subst, ◌∙◌}
+use Rattle.std.proofs.Common.{◌≡◌, ℕ, ◌+◌, ◌<◌, ◌≤◌, List, [], ◌++◌, length, take, get_or, refl, sym, ap, subst, ◌∙◌}
 use Rattle.std.proofs.lemmas.List.{take_all}
 use Rattle.std.proofs.lemmas.List.Concat.{flat_map-append}
 use Rattle.std.specs.Prelude.{Option, Result, Ok, Err, OnOk}
-use Rattle.std.specs.List.{flat_map}
+use Rattle.std.specs.List.{flat_map, All}
+use Rattle.std.proofs.lemmas.List.Elements.{All-get_or, All-from_recursion}
 use Rattle.mv_io.specs.Octets.{Appended, AppendedPart}
 use Rattle.mv_io.proofs.OctetsLemmas.{appended-append, appended-nil, part_after, part_of_front, part_whole}
 use Rattle.scenario_defs.specs.declared.scenario.Scenario.{Scenario}
 use Rattle.scenario_defs.specs.declared.event.Timed.{Timed}
 use Rattle.scenario_defs.specs.declared.event.Script.{Script}
 use Rattle.scenario_defs.specs.declared.report.ReportLine.{ReportLine}
-use Rattle.scenario_defs.specs.Rules.{ScriptRules}
+use Rattle.scenario_defs.specs.Rules.{ScriptRules, IsEventOf}
 use Rattle.scenario_defs.specs.Text.{line_text}
 use Rattle.mvpn_model.specs.Report.{Entry, lines_of, report_text}
 use Rattle.net_defs.specs.Network.{Network, start, acts_of, after}
@@ -21,7 +22,7 @@ use Rattle.net_laws.proofs.SafeLemmas.{run_is_safe}
 use Rattle.net_laws.proofs.OnceLemmas.{run_is_once}
 use Rattle.mvpn_tool.specs.declared.stop.Stop.{Stop}
 use Rattle.mvpn_tool.specs.Outcome.{EventReplayed, Replayed, ReplayedPart, event_text}
-use Rattle.mvpn_tool.specs.WorldState.{WorldState, Acts, event_lines}
+use Rattle.net_world.specs.WorldState.{WorldState, Acts, event_lines}
 
 -- The text of two reports is that of the first and then that of the second.
 report_text-append : (scenario : Scenario) (report more : List Entry) → report_text scenario (report ++ more) ≡ report_text scenario report ++ report_text scenario more
@@ -98,3 +99,11 @@ event-replayed world timed old new now before lines (Ok x) b a w = record {
   text = subst (λ (l : List ℕ). Appended old new l) (same_text world timed now before lines b a) w;
 }
 event-replayed world timed old new now before lines (Err e) b a w = tt
+
+-- An event of a script is one of the world's scenario.
+pub event-at : (script : Script) (scenario : Scenario) (timeds : List Timed) (i : ℕ) (default timed : Timed) → ScriptRules script → timeds ≡ script.events → i < length timeds → timed ≡ get_or timeds i default →
+    scenario ≡ script.scenario → IsEventOf scenario timed.event
+event-at script scenario timeds i default timed rules same lt is e =
+    let each = All-from_recursion (λ (t : Timed). IsEventOf script.scenario t.event) script.events rules.events in
+    let here : IsEventOf script.scenario (get_or timeds i default).event = All-get_or (λ (t : Timed). IsEventOf script.scenario t.event) timeds i default lt (subst (λ (l : List Timed). All (λ (t : Timed). IsEventOf script.scenario t.event) l) (sym same) each) in
+    subst (λ (s : Scenario). IsEventOf s timed.event) (sym e) (subst (λ (t : Timed). IsEventOf script.scenario t.event) (sym is) here)

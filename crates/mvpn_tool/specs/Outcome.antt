@@ -16,7 +16,7 @@ use Rattle.net_defs.specs.Run.{Run}
 use Rattle.mvpn_tool.specs.declared.stop.Stop.{Stop}
 use Rattle.mvpn_tool.specs.declared.stop.Stop.TheVariants as stops
 use Rattle.mvpn_tool.specs.Input.{IsInput, Taken}
-use Rattle.mvpn_tool.specs.WorldState.{WorldState, event_lines}
+use Rattle.net_world.specs.WorldState.{WorldState, event_lines}
 
 -- the text of the lines of an event
 abbrev pub event_text : WorldState → Timed → List ℕ

@@ -3,20 +3,13 @@
 
 mod command;
 mod decode;
-mod entering;
-mod entries;
-mod halt;
 mod input;
-mod packet;
 mod replay;
 mod report;
 mod stop;
-mod tables;
 mod top;
-mod world;
 
 pub use command::Command;
-pub use halt::Halt;
+pub use net_world::World;
 pub use stop::Stop;
 pub use top::{End, run};
-pub use world::World;

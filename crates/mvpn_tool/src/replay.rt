@@ -4,7 +4,7 @@ ghost use Rattle.mv_io.specs.Causes.{Rose};
 ghost use Rattle.mv_io.specs.Octets.{Appended, AppendedPart};
 ghost use Rattle.std.specs.List.{flat_map};
 ghost use Rattle.scenario_defs.specs.Text.{line_text, IsLineOf};
-ghost use Rattle.scenario_defs.specs.Rules.{IsEventOf, ScriptRules};
+ghost use Rattle.scenario_defs.specs.Rules.{IsEventOf, ScriptRules, tick_limit};
 ghost use Rattle.line_words.specs.FaultText.{fault_text};
 ghost use Rattle.mvpn_tool.specs.Outcome.{EventReplayed, Replays, ReplayEnds, Takes, event_text};
 ghost use Rattle.mvpn_tool.specs.declared.stop.Stop.TheVariants as stops;
@@ -12,9 +12,9 @@ ghost use Rattle.mvpn_tool.specs.declared.stop.Stop.TheVariants as stops;
 use crate::input::read_all;
 use crate::report::{put_lines, text_of_fault};
 use crate::stop::Stop;
-use crate::{Halt, World};
 use mv_base::Bytes;
 use mv_io::{Sink, Source, write_all};
+use net_world::{Halt, World};
 use scenario_defs::{Lines, Script, Timed};
 use scenario_text::{ReadFault, TextFault, read};
 use std::alloc::Global;
@@ -48,6 +48,7 @@ fn replay_event<K: Sink>(
     sink: &mut K,
 ) -> Result<(), Stop>
     requires event { IsEventOf world.old.network.scenario timed.now.event }
+    requires clock { world.old.network.clock + tick_limit < 2 ^ 63 }
     requires counted { world.old.network.accepted + 1 < 2 ^ 64 }
     requires running { world.old.halt ≡ None }
     ensures ok { OnOk result (EventReplayed world.old timed.now (K.written sink.old) (K.written sink.new) world.new) }

@@ -14,13 +14,13 @@ ghost use Rattle.mvpn_tool.specs.Outcome.{EndsFaulty, EndsEarly, EndsWellSome};
 ghost use Rattle.mvpn_tool.specs.DecodeOutcome.{Decoded, DecodesFaulty, DecodesEarly};
 ghost use Rattle.mvpn_tool.specs.declared.command.Command.TheVariants as commands;
 
-use crate::World;
 use crate::command::{Command, command_of};
 use crate::decode::decode;
 use crate::replay::replay;
 use crate::stop::Stop;
 use decode_text::Format;
 use mv_io::{Sink, Source, write_all};
+use net_world::World;
 use std::alloc::Global;
 
 /// The line that tells the forms of a command.

@@ -11,13 +11,7 @@ use Rattle.mldp_fec.specs.Spelling as fecs
 use Rattle.mldp_fec.specs.FirstFault as fec_faults
 use Rattle.mldp_fec.proofs.CallLemmas as fec_calls
 use Rattle.mldp_fec.proofs.FecLemmas.{fec_again, fails_fec}
-use Rattle.pmsi_attr.specs.declared.pmsi.Pmsi.{Pmsi}
-use Rattle.pmsi_attr.specs.declared.fault.PmsiFault.{PmsiFault}
-use Rattle.pmsi_attr.specs.Spelling as pmsis
-use Rattle.pmsi_attr.specs.FirstFault as pmsi_faults
 use Rattle.pmsi_attr.proofs.PmsiLemmas.{pmsi_again, fails_pmsi}
-use Rattle.pim_joinprune.specs.declared.fault.PimFault.{PimFault}
-use Rattle.pim_joinprune.specs.declared.message.JoinPrune.{JoinPrune}
 use Rattle.pim_joinprune.proofs.Whole.{message_again, fails_message}
 use Rattle.mvpn_nlri.specs.declared.route.Route.{Route}
 use Rattle.mvpn_nlri.specs.declared.route.Afi.TheVariants.{Ipv4}

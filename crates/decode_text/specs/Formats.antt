@@ -64,7 +64,7 @@ of_pmsi = record {
   refusal = λ fault. refused_line fault.place (pmsi_word fault.reason);
 }
 
--- one Join/Prune message, whose fault stands behind its place
+-- one Join/Prune message; a fault is told with its place, which stands first
 abbrev pub of_pim : Single JoinPrune (ℕ × PimFault)
 of_pim = record {
   Spells = joinprunes.Spells;
@@ -81,8 +81,8 @@ of_bgp = record { Spells = SpellsMessage; Faulty = MessageFault; lines = message
 abbrev pub of_ldp : Session LabelMessage LdpFault
 of_ldp = record { Spells = SpellsPdu; Faulty = PduFault; lines = label_message_line; word = ldp_word }
 
--- The octets are whole: FEC elements or routes end to end, one tunnel attribute, one Join/Prune
--- message, or messages or PDUs end to end.
+-- The octets are whole: FEC elements or routes end to end, one tunnel attribute, one Join/Prune message, or messages or
+-- PDUs of a session end to end.
 abbrev pub IsWhole : Format → List ℕ → Type 0
 IsWhole formats.Fec octets = (values : List Fec) × Whole of_fecs octets values
 IsWhole formats.Pmsi octets = (pmsi : Pmsi) × pmsis.Spells pmsi octets

@@ -13,13 +13,13 @@ use Rattle.value_text.specs.ValueText.{addr_text}
 
 -- the word of a kind of source
 abbrev pub source_kind_text : SourceKind → List ℕ
-source_kind_text Sg = codes "sg "
-source_kind_text Star = codes "star "
-source_kind_text Rpt = codes "rpt "
+source_kind_text Sg = codes "sg"
+source_kind_text Star = codes "star"
+source_kind_text Rpt = codes "rpt"
 
 -- the line of a source, behind the word `join` or `prune`
 abbrev pub source_line : List ℕ → JpSource → List ℕ
-source_line word source = word ++ source_kind_text source.kind ++ addr_text source.addr ++ codes "\n"
+source_line word source = word ++ source_kind_text source.kind ++ codes " " ++ addr_text source.addr ++ codes "\n"
 
 -- the line of a group, and then those of its joins and of its prunes
 abbrev pub group_lines : Group → List ℕ

@@ -14,9 +14,9 @@ fn source_kind_word(kind: SourceKind) -> &'static [u8]
     ensures { result.now ≡ source_kind_text kind }
 {
     match kind {
-        SourceKind::Sg => b"sg ",
-        SourceKind::Star => b"star ",
-        SourceKind::Rpt => b"rpt ",
+        SourceKind::Sg => b"sg",
+        SourceKind::Star => b"star",
+        SourceKind::Rpt => b"rpt",
     }
 }
 
@@ -25,6 +25,7 @@ fn put_source(out: &mut Bytes, word: &[u8], source: &JpSource) -> Result<(), NoM
 {
     out.extend(word)?;
     out.extend(source_kind_word(source.kind))?;
+    out.extend(b" ")?;
     put_addr(out, &source.addr)?;
     out.extend(b"\n")
 }

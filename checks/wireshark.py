@@ -3,9 +3,9 @@
 
 Field values are written here as MCAST-VPN routes of AFI 1 (RFC 6514 section 4; the wildcards of RFC 6625 section 2),
 PMSI Tunnel attributes (RFC 6514 section 5) and multipoint FEC elements (RFC 6388 sections 2.2 and 3.2), in messages
-of a pcap file, and as whole messages of BGP (RFC 4271), of LDP (RFC 5036) and Join/Prune of PIM (RFC 7761 section
-4.9.5), in the layout that the writers of the program have. The fields that tshark tells of a message become the lines that the program is to write. The program,
-built without its proofs, gets the octets alone.
+of a pcap file, and as whole messages of BGP (RFC 4271), of LDP (RFC 5036) and of PIM (Join/Prune, RFC 7761 section
+4.9.5), in the layout that the writers of the program have. The fields that tshark tells of a message become the lines
+that the program is to write. The program, built without its proofs, gets the octets alone.
 
 tshark 4.0.17 does not tell all, so the cases keep within this:
 - The key of a leaf route is told as octets. It is a route, so tshark reads them again in a message of their own.

@@ -1,11 +1,11 @@
 #!/usr/bin/env python3
-"""Compares what tshark reads in messages of BGP and LDP with what `mvpn decode` reads in the same octets.
+"""Compares what tshark reads in messages of BGP, LDP and PIM with what `mvpn decode` reads in the same octets.
 
 Field values are written here as MCAST-VPN routes of AFI 1 (RFC 6514 section 4; the wildcards of RFC 6625 section 2),
 PMSI Tunnel attributes (RFC 6514 section 5) and multipoint FEC elements (RFC 6388 sections 2.2 and 3.2), in messages
-of a pcap file, and as whole messages of BGP (RFC 4271) and LDP (RFC 5036), in the layout that the writers of the
-program have. The fields that tshark tells of a message become the lines that the program is to write. The program,
-built without its proofs, gets the octets alone.
+of a pcap file, and as whole messages of BGP (RFC 4271), of LDP (RFC 5036) and of PIM (Join/Prune, RFC 7761 section
+4.9.5), in the layout that the writers of the program have. The fields that tshark tells of a message become the lines
+that the program is to write. The program, built without its proofs, gets the octets alone.
 
 tshark 4.0.17 does not tell all, so the cases keep within this:
 - The key of a leaf route is told as octets. It is a route, so tshark reads them again in a message of their own.
@@ -232,6 +232,57 @@ LDPS = {
 LDPS['all'] = b''.join(LDPS.values())
 
 
+def checksum(octets):
+    """The Internet checksum of an even number of octets (RFC 1071)."""
+    total = sum(struct.unpack(f'>{len(octets) // 2}H', octets))
+    while total > 0xffff:
+        total = (total & 0xffff) + (total >> 16)
+    return number(0xffff - total, 2)
+
+
+def source(kind, address):
+    """An Encoded-Source address (RFC 7761 section 4.9.1)."""
+    return bytes([1, 0, {'sg': 4, 'rpt': 5, 'star': 7}[kind], 32]) + addr(address)
+
+
+def group(address, joins=(), prunes=()):
+    """A group with its joined and pruned sources, each a kind and an address."""
+    counts = number(len(joins), 2) + number(len(prunes), 2)
+    return bytes([1, 0, 0, 32]) + addr(address) + counts + b''.join(source(*s) for s in [*joins, *prunes])
+
+
+def join_prune(neighbour, holdtime, *groups):
+    fields = b'\1\0' + addr(neighbour) + bytes([0, len(groups)]) + number(holdtime, 2) + b''.join(groups)
+    return b'\x23\0' + checksum(b'\x23\0\0\0' + fields) + fields
+
+
+SG, STAR, RPT = ('sg', '10.1.0.9'), ('star', '10.9.9.9'), ('rpt', '10.1.0.8')
+
+JOIN_PRUNES = {
+    'join': join_prune('10.2.0.1', 1, group('232.1.1.1', [SG])),
+    'prune': join_prune('10.2.0.1', 210, group('232.1.1.1', [], [SG])),
+    'shared': join_prune('192.0.2.1', 210, group('239.1.1.1', [STAR], [RPT])),
+    'all-kinds': join_prune(
+        '10.2.0.1',
+        210,
+        group('239.1.1.1', [STAR, SG, RPT], [RPT, STAR, SG]),
+        group('232.1.1.1', [SG], [SG]),
+        group('224.0.1.0', [], [('star', '223.255.255.255')]),
+        group('239.255.255.255', [('rpt', '10.0.0.0')]),
+    ),
+    'holdtime-0': join_prune('10.2.0.1', 0, group('232.1.1.1', [], [SG])),
+    'holdtime-65535': join_prune('10.2.0.1', 65535, group('232.1.1.1', [SG])),
+    'no-groups': join_prune('10.2.0.1', 210),
+    'no-sources': join_prune('10.2.0.1', 210, group('232.1.1.1')),
+    'many-sources': join_prune(
+        '10.2.0.1',
+        210,
+        group('239.1.1.1', [('sg', f'10.1.{i // 256}.{i % 256}') for i in range(300)], [RPT] * 257),
+    ),
+    'many-groups': join_prune('10.2.0.1', 210, *(group(f'232.1.1.{i}', [SG]) for i in range(255))),
+}
+
+
 # ---- messages and packets of one value
 
 def update(flags, kind, value):
@@ -258,14 +309,30 @@ def label_mapping(fecs):
     return number(1, 2) + number(6 + len(message), 2) + addr('192.0.2.1') + number(0, 2) + message
 
 
-def pcap(port, messages):
-    """A pcap file with a packet for each message: Ethernet, IPv4, TCP to the port. Each is a connection of its own."""
-    octets = struct.pack('<IHHiIII', 0xa1b2c3d4, 2, 4, 0, 0, 65535, 1)
-    for place, message in enumerate(messages):
+def ipv4(place, ttl, protocol, target, payload):
+    header = struct.pack('>BBHHHBBH', 0x45, 0, 20 + len(payload), place, 0, ttl, protocol, 0)
+    return header + addr('192.0.2.1') + addr(target) + payload
+
+
+def to_port(port):
+    """Packets of TCP to the port, each of a connection of its own."""
+    def packet(place, message):
         tcp = struct.pack('>HHIIBBHHH', 40000 + place, port, 1, 1, 0x50, 0x18, 65535, 0, 0)
-        ip = struct.pack('>BBHHHBBH', 0x45, 0, 40 + len(message), place, 0, 64, 6, 0)
-        packet = bytes(12) + b'\x08\x00' + ip + addr('192.0.2.1') + addr('192.0.2.2') + tcp + message
-        octets += struct.pack('<IIII', place, 0, len(packet), len(packet)) + packet
+        return ipv4(place, 64, 6, '192.0.2.2', tcp + message)
+    return packet
+
+
+def to_routers(place, message):
+    """A packet to all PIM routers (RFC 7761 section 4.9)."""
+    return ipv4(place, 1, 103, '224.0.0.13', message)
+
+
+def pcap(packets):
+    """A pcap file with these packets of IPv4 on Ethernet."""
+    octets = struct.pack('<IHHiIII', 0xa1b2c3d4, 2, 4, 0, 0, 65535, 1)
+    for place, packet in enumerate(packets):
+        frame = bytes(12) + b'\x08\x00' + packet
+        octets += struct.pack('<IIII', place, 0, len(frame), len(frame)) + frame
     return octets
 
 
@@ -395,20 +462,46 @@ def fec_line(told):
     return f'{word} {told.addr(LDP + "ldp_p2mp.ipv4_rtnodeaddr")} {told.octets(LDP + "ldp_p2mp.opvalue") or "-"}'
 
 
-# by command: its cases, the port and the message that carry them, the first field of a value, the line of its fields
+def inner(field, name):
+    """What the first field of that name inside a field shows."""
+    return field.find(f".//field[@name='{name}']").get('show')
+
+
+def source_line(word, field):
+    """The kind by the flags W and R (RFC 7761 section 4.9.1)."""
+    flags = inner(field, 'pim.source_addr.flags.w') + inner(field, 'pim.source_addr.flags.r')
+    kind = {'00': 'sg', '01': 'rpt', '11': 'star'}[flags]
+    return f'{word} {kind} {inner(field, "pim.source")}'
+
+
+def join_prune_lines(told):
+    if told.number('pim.cksum.status') != 1:
+        return 'tshark: another checksum'
+    lines = [f'joinprune {told.addr("pim.unicast")} {told.number("pim.holdtime")}']
+    for field in told.fields:
+        name = field.get('name')
+        if name == 'pim.group_set':
+            lines.append(f'group {inner(field, "pim.group")}')
+        if name in ('pim.join_ip', 'pim.prune_ip'):
+            lines.append(source_line(name[4:-3], field))
+    return '\n'.join(lines)
+
+
+# by command: its cases, the packet and the message that carry them, the first field of a value, the lines of its fields
 COMMANDS = {
-    'nlri': (ROUTES, 179, reach, NLRI + '_route_type', route_line),
-    'pmsi': (PMSIS, 179, tunnel, PMSI + 'tunnel.flags', pmsi_line),
-    'fec': (FECS, 646, label_mapping, LDP + 'fec.type', fec_line),
-    'bgp': (BGPS, 179, bytes, 'bgp.marker', bgp_line),
-    'ldp': (LDPS, 646, bytes, 'ldp.msg.ubit', ldp_line),
+    'nlri': (ROUTES, to_port(179), reach, NLRI + '_route_type', route_line),
+    'pmsi': (PMSIS, to_port(179), tunnel, PMSI + 'tunnel.flags', pmsi_line),
+    'fec': (FECS, to_port(646), label_mapping, LDP + 'fec.type', fec_line),
+    'bgp': (BGPS, to_port(179), bytes, 'bgp.marker', bgp_line),
+    'ldp': (LDPS, to_port(646), bytes, 'ldp.msg.ubit', ldp_line),
+    'pim': (JOIN_PRUNES, to_routers, bytes, 'pim.version', join_prune_lines),
 }
 
 
-def dissect(port, messages):
-    """What tshark tells of each message: the elements `field`, in their order."""
+def dissect(packets):
+    """What tshark tells of each packet: the elements `field`, in their order."""
     with tempfile.NamedTemporaryFile(suffix='.pcap') as file:
-        file.write(pcap(port, messages))
+        file.write(pcap(packets))
         file.flush()
         run = subprocess.run(['tshark', '-n', '-r', file.name, '-T', 'pdml'], capture_output=True, text=True)
     if run.returncode:
@@ -427,9 +520,9 @@ def line_of(line, told):
 
 def lines_of(command, octets):
     """For each of the octets the lines of what tshark reads in them."""
-    _, port, message, first, line = COMMANDS[command]
+    _, packet, message, first, line = COMMANDS[command]
     lines = []
-    for fields in dissect(port, [message(o) for o in octets]):
+    for fields in dissect(packet(place, message(o)) for place, o in enumerate(octets)):
         values = []
         for field in fields:
             if field.get('name') == first:

@@ -1,10 +1,10 @@
 #!/usr/bin/env python3
-"""Compares what the program's writers make of changes and label messages with the octets that tshark reads.
+"""Compares what the program's writers make of changes, label messages and Join/Prune messages with the octets that
+tshark reads.
 
-checks/wireshark.py lays messages of BGP and LDP out in its own way, and tshark reads them without a fault. Here the
-streams read each of these messages, the writers write again what it says, and the octets have to be the same. The
-streams and writers are called by a small program, which is written here and built without proofs in a copy of the
-crates.
+checks/wireshark.py lays messages of BGP, LDP and PIM out in its own way, and tshark reads them without a fault. Here
+the program's readers read each of these messages, its writers write again what it says, and the octets have to be the
+same. They are called by a small program, which is written here and built without proofs in a copy of the crates.
 
 Prints the cases that differ, and then 'N passed, M failed'.
 """
@@ -64,6 +64,14 @@ fn ldp(rt: &HostRuntime, name: &str, id: u32, octets: &[u8]) {
     }
 }
 
+fn pim(rt: &HostRuntime, name: &str, octets: &[u8]) {
+    if let Ok(message) = pim_joinprune::decode(rt.alloc(), octets) {
+        let written = pim_joinprune::encode(rt.alloc(), &message).unwrap();
+        let same = written.as_slice() == octets;
+        let _ = println!(rt; "case {name} {same}");
+    }
+}
+
 fn main(rt: HostRuntime) -> std::io::Result<()> {
 CALLS
     Ok(())
@@ -85,6 +93,7 @@ def updates():
 def program():
     calls = [f'    bgp(&rt, "bgp-{name}", &{array(octets)});' for name, octets in updates().items()]
     calls += [f'    ldp(&rt, "ldp-{name}", {id}, &{array(wireshark.LDPS[name])});' for name, id in LABEL_IDS.items()]
+    calls += [f'    pim(&rt, "pim-{name}", &{array(octets)});' for name, octets in wireshark.JOIN_PRUNES.items()]
     return PROGRAM.replace('CALLS', '\n'.join(calls))
 
 
@@ -94,13 +103,14 @@ def main():
     with tempfile.TemporaryDirectory() as folder:
         copy = pathlib.Path(folder) / 'copy'
         shutil.copytree(TOP / 'crates', copy / 'crates', ignore=shutil.ignore_patterns('out'))
-        (copy / 'crates.txt').write_text(f'{crates}writers: {libraries} bgp_update mldp_msgs\n')
+        (copy / 'crates.txt').write_text(f'{crates}writers: {libraries} bgp_update mldp_msgs pim_joinprune\n')
         source = copy / 'crates' / 'writers' / 'src'
         source.mkdir(parents=True)
         (source / 'main.rt').write_text(program())
         run = subprocess.run(['rt', 'try'], cwd=source.parent, stdout=subprocess.PIPE, stderr=subprocess.STDOUT, text=True)
     told = dict(re.findall(r'^case (\S+) (true|false)$', run.stdout, re.MULTILINE))
     wanted = [f'bgp-{name}' for name in updates()] + [f'ldp-{name}' for name in LABEL_IDS]
+    wanted += [f'pim-{name}' for name in wireshark.JOIN_PRUNES]
     wrong = [name for name in wanted if told.get(name) != 'true']
     if wrong:
         print(run.stdout)

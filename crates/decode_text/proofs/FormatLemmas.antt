@@ -11,11 +11,8 @@ use Rattle.mldp_fec.specs.Spelling as fecs
 use Rattle.mldp_fec.specs.FirstFault as fec_faults
 use Rattle.mldp_fec.proofs.CallLemmas as fec_calls
 use Rattle.mldp_fec.proofs.FecLemmas.{fec_again, fails_fec}
-use Rattle.pmsi_attr.specs.declared.pmsi.Pmsi.{Pmsi}
-use Rattle.pmsi_attr.specs.declared.fault.PmsiFault.{PmsiFault}
-use Rattle.pmsi_attr.specs.Spelling as pmsis
-use Rattle.pmsi_attr.specs.FirstFault as pmsi_faults
 use Rattle.pmsi_attr.proofs.PmsiLemmas.{pmsi_again, fails_pmsi}
+use Rattle.pim_joinprune.proofs.Whole.{message_again, fails_message}
 use Rattle.mvpn_nlri.specs.declared.route.Route.{Route}
 use Rattle.mvpn_nlri.specs.declared.route.Afi.TheVariants.{Ipv4}
 use Rattle.mvpn_nlri.specs.declared.fault.RouteFault.{RouteFault}
@@ -30,7 +27,8 @@ use Rattle.bgp_update.proofs.Messages.{message_format}
 use Rattle.decode_text.specs.declared.format.Format.{Format}
 use Rattle.decode_text.specs.declared.format.Format.TheVariants as formats
 use Rattle.decode_text.specs.declared.telling.Told.{Told}
-use Rattle.decode_text.specs.Formats.{of_fecs, of_routes, of_bgp, of_ldp, IsWhole, HasFault, Tells}
+use Rattle.decode_text.specs.Formats.{of_fecs, of_routes, of_pmsi, of_pim, of_bgp, of_ldp, IsWhole, HasFault, Tells}
+use Rattle.decode_text.specs.Single.{Single, TellsOne}
 use Rattle.decode_text.specs.Values.{Stands}
 use Rattle.decode_text.proofs.TellLemmas.{IsApart, whole_told, fault_told}
 use Rattle.decode_text.proofs.SessionLemmas.{units_told, stop_told}
@@ -58,8 +56,27 @@ routes_apart = record {
   not_both = route_or_fault;
 }
 
-pmsi_or_fault : (octets : List ℕ) (pmsi : Pmsi) (fault : PmsiFault) → IsOctets octets → pmsis.Spells pmsi octets → pmsi_faults.FirstFault octets fault → ⊥
+-- No octets are a value and have a fault.
+abbrev IsValueOrFault : {V F : Type 0} → Single V F → Type 0
+IsValueOrFault {V} {F} s = (octets : List ℕ) (value : V) (fault : F) → IsOctets octets → s.Spells value octets → s.First octets fault → ⊥
+
+pmsi_or_fault : IsValueOrFault of_pmsi
 pmsi_or_fault octets pmsi fault fits spells first = ok_or_err pmsi fault (sym (pmsi_again pmsi octets spells) ∙ fails_pmsi octets fault fits first)
+
+joinprune_or_fault : IsValueOrFault of_pim
+joinprune_or_fault octets message fault fits spells first =
+    let answered = fails_message octets fault.0 fault.1 fits first in
+    ok_or_err message (answered.0, fault.1) (sym (message_again message octets spells) ∙ answered.1)
+
+-- Octets that are a value have no line of a fault.
+value_told : {V F : Type 0} (s : Single V F) → IsValueOrFault s → (refused : Bool) (octets told : List ℕ) → IsOctets octets → TellsOne s refused octets told → (value : V) → s.Spells value octets → refused ≡ false
+value_told s law false octets told fits tells value spells = refl
+value_told s law true octets told fits tells value spells = absurd (law octets value tells.0 fits spells tells.1)
+
+-- Octets that have a fault have its line.
+refusal_told : {V F : Type 0} (s : Single V F) → IsValueOrFault s → (refused : Bool) (octets told : List ℕ) → IsOctets octets → TellsOne s refused octets told → (fault : F) → s.First octets fault → refused ≡ true
+refusal_told s law true octets told fits tells fault first = refl
+refusal_told s law false octets told fits tells fault first = absurd (law octets tells.0 fault fits tells.1 first)
 
 -- Octets that are whole have no line of a fault.
 whole_format : (format : Format) (refused : Bool) (octets told : List ℕ) → IsOctets octets → IsWhole format octets → Tells format refused octets told → refused ≡ false
@@ -67,8 +84,8 @@ whole_format formats.Fec refused octets told fits whole tells = whole_told of_fe
 whole_format formats.Nlri refused octets told fits whole tells = whole_told of_routes routes_apart refused octets told fits tells whole.0 whole.1
 whole_format formats.Bgp refused octets told fits whole tells = units_told message_front of_bgp 4096 message_format refused octets told whole.0 fits whole.1 tells
 whole_format formats.Ldp refused octets told fits whole tells = units_told pdu_front of_ldp 4100 pdu_format refused octets told whole.0 fits whole.1 tells
-whole_format formats.Pmsi false octets told fits whole tells = refl
-whole_format formats.Pmsi true octets told fits whole tells = absurd (pmsi_or_fault octets whole.0 tells.0 fits whole.1 tells.1)
+whole_format formats.Pmsi refused octets told fits whole tells = value_told of_pmsi pmsi_or_fault refused octets told fits tells whole.0 whole.1
+whole_format formats.Pim refused octets told fits whole tells = value_told of_pim joinprune_or_fault refused octets told fits tells whole.0 whole.1
 
 -- Octets with a first fault have its line.
 fault_format : (format : Format) (refused : Bool) (octets told : List ℕ) → IsOctets octets → HasFault format octets → Tells format refused octets told → refused ≡ true
@@ -76,8 +93,8 @@ fault_format formats.Fec refused octets told fits has tells = fault_told of_fecs
 fault_format formats.Nlri refused octets told fits has tells = fault_told of_routes routes_apart refused octets told fits tells has.0 has.1 has.2
 fault_format formats.Bgp refused octets told fits has tells = stop_told message_front of_bgp 4096 message_format refused octets told has.0 has.1 has.2 fits has.3 tells
 fault_format formats.Ldp refused octets told fits has tells = stop_told pdu_front of_ldp 4100 pdu_format refused octets told has.0 has.1 has.2 fits has.3 tells
-fault_format formats.Pmsi true octets told fits has tells = refl
-fault_format formats.Pmsi false octets told fits has tells = absurd (pmsi_or_fault octets tells.0 has.0 fits tells.1 has.1)
+fault_format formats.Pmsi refused octets told fits has tells = refusal_told of_pmsi pmsi_or_fault refused octets told fits tells has.0 has.1
+fault_format formats.Pim refused octets told fits has tells = refusal_told of_pim joinprune_or_fault refused octets told fits tells (has.0, has.1) has.2
 
 -- ---- what is read stands at the front
 

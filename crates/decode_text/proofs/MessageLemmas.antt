@@ -16,6 +16,7 @@ use Rattle.bgp_attributes.specs.Spelling.{SpellsAttribute, IsNew, Spells, pmsi_o
 use Rattle.bgp_update.specs.Spelling.{SpellsMessage, Means}
 use Rattle.mldp_msgs.specs.declared.message.LabelMessage.{LabelMessage}
 use Rattle.value_text.specs.MessageText.{HasOctets, IsTellable}
+use Rattle.decode_text.proofs.TellLemmas.{all_append}
 
 -- the tunnel among attributes that are spelled has octets
 tunnel_has : (before : List Attribute) (octets : List ℕ) (attributes : List Attribute) (rest : List ℕ) → ArePartsAfter SpellsAttribute IsNew before octets attributes rest → HasOctets (pmsi_of attributes)
@@ -25,10 +26,6 @@ tunnel_has before octets (Reach r ∷ attributes) rest (text, after, spells, is,
 tunnel_has before octets (Unreach ks ∷ attributes) rest (text, after, spells, is, parts, more) = tunnel_has (before ++ Unreach ks ∷ []) after attributes rest more
 tunnel_has before octets (Communities comms ∷ attributes) rest (text, after, spells, is, parts, more) = tunnel_has (before ++ Communities comms ∷ []) after attributes rest more
 tunnel_has before octets (Passed kind ∷ attributes) rest (text, after, spells, is, parts, more) = tunnel_has (before ++ Passed kind ∷ []) after attributes rest more
-
-all_append : {A : Type 0} (P : A → Type 0) (xs ys : List A) → AllByRecursion P xs → AllByRecursion P ys → AllByRecursion P (xs ++ ys)
-all_append P [] ys h k = k
-all_append P (x ∷ xs) ys h k = (h.0, all_append P xs ys h.1 k)
 
 keys_have : (next_hop : _) (comms : List ExtComm) (pmsi : Option Pmsi) (ks : List Key) → HasOctets pmsi → AllByRecursion (λ (a : Advert). HasOctets a.pmsi) (adverts_in comms pmsi (Reach (Some (record { next_hop = next_hop; keys = ks }))))
 keys_have next_hop comms pmsi [] h = tt
@@ -52,7 +49,7 @@ update_tellable u octets (attributes, are, is) =
 
 message_tellable : (m : Message) (kind : ℕ) (body : List ℕ) → Means m kind body → IsTellable m
 message_tellable (messages.Update u) kind body h = update_tellable u h.1.list h.1.spelled
-message_tellable (messages.Other k) kind body h = tt
+message_tellable (messages.Other k) kind body h = subst (λ (n : ℕ). IsTellable (messages.Other n)) h.0 h.1
 
 -- Messages of BGP that are spelled can be told.
 pub bgp_tellable : (ms : List Message) (text : List ℕ) → SpellsMessage ms text → AllByRecursion IsTellable ms

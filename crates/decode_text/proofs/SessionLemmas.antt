@@ -13,6 +13,7 @@ use Rattle.framing.proofs.Feedings.{IsFormat, whole_rest, whole_fails}
 use Rattle.value_text.specs.ValueText.{refused_line}
 use Rattle.decode_text.specs.Sessions.{Session, AreUnits, StopsAt, TellsSession, TellsFed, end_text, is_some}
 use Rattle.decode_text.specs.Sessions.StopsAt.{faulty, inside}
+use Rattle.decode_text.proofs.TellLemmas.{all_append}
 
 -- a place in octets that are not too many
 near_place : (n : ℕ) → n < 2 ^ 64 → further 0 n ≡ n
@@ -56,10 +57,6 @@ fed_told s limit octets (Err faults.Failed) d refused told fits f t = absurd t
 fed_told s limit octets (Err faults.NoMemory) d refused told fits f t = absurd t
 
 -- ---- the messages that wait
-
-all_append : {A : Type 0} (P : A → Type 0) (xs ys : List A) → AllByRecursion P xs → AllByRecursion P ys → AllByRecursion P (xs ++ ys)
-all_append P [] ys h k = k
-all_append P (x ∷ xs) ys h k = (h.0, all_append P xs ys h.1 k)
 
 all_carried : {M : Type 0} (P : M → Type 0) (Spells : List M → List ℕ → Type 0) → ((ms : List M) (text : List ℕ) → Spells ms text → AllByRecursion P ms) → (units : List (Spelled M)) → AreSpelled Spells units → AllByRecursion P (messages_of units)
 all_carried P Spells each [] h = tt

@@ -25,9 +25,10 @@ pub record Passed {T F : Type 0} (t : Telling T F) (octets told : List ℕ) (pla
 pub none_passed : {T F : Type 0} (t : Telling T F) (octets : List ℕ) → Passed t octets [] 0
 none_passed t octets = record { values = []; spelled = tt; front = refl; passed = refl; lines = refl }
 
-all_further : {T : Type 0} (P : T → Type 0) (xs : List T) (x : T) → AllByRecursion P xs → P x → AllByRecursion P (xs ++ x ∷ [])
-all_further P [] x h p = (p, tt)
-all_further P (y ∷ ys) x h p = (h.0, all_further P ys x h.1 p)
+-- What elements of two lists meet, those of both end to end meet.
+pub all_append : {T : Type 0} (P : T → Type 0) (xs ys : List T) → AllByRecursion P xs → AllByRecursion P ys → AllByRecursion P (xs ++ ys)
+all_append P [] ys h k = k
+all_append P (x ∷ xs) ys h k = (h.0, all_append P xs ys h.1 k)
 
 -- the text of one more value
 one_more : {T : Type 0} (f : T → List ℕ) (xs : List T) (x : T) → flat_map f (xs ++ x ∷ []) ≡ flat_map f xs ++ f x
@@ -47,7 +48,7 @@ one_passed t octets told place value len p s =
     let len_is : length (t.text value) ≡ len = ap (λ (xs : List ℕ). length xs) (sym s.text) ∙ length-take-le len rest s.within in
     record {
       values = p.values ++ value ∷ [];
-      spelled = all_further t.Is p.values value p.spelled s.is;
+      spelled = all_append t.Is p.values (value ∷ []) p.spelled (s.is, tt);
       front = whole;
       passed = omega (arith, size, len_is, p.passed);
       lines = ap (λ (xs : List ℕ). xs ++ t.line value) p.lines ∙ sym (one_more t.line p.values value);

@@ -1,5 +1,5 @@
 -- The formats of `decode`: which octets are whole, where they have a fault, and what is told of them.
-use Rattle.std.specs.Prelude.{◌≡◌, ℕ, ◌+◌, Bool, true, false, List}
+use Rattle.std.specs.Prelude.{ℕ, ◌+◌, Bool, List}
 use Rattle.mv_base.specs.Cursor.{start}
 use Rattle.mldp_fec.specs.declared.fault.FecFault.{FecFault}
 use Rattle.mldp_fec.specs.declared.fec.Fec.{Fec}
@@ -9,6 +9,10 @@ use Rattle.pmsi_attr.specs.declared.fault.PmsiFault.{PmsiFault}
 use Rattle.pmsi_attr.specs.declared.pmsi.Pmsi.{Pmsi}
 use Rattle.pmsi_attr.specs.FirstFault as pmsi_faults
 use Rattle.pmsi_attr.specs.Spelling as pmsis
+use Rattle.pim_joinprune.specs.declared.fault.PimFault.{PimFault}
+use Rattle.pim_joinprune.specs.declared.message.JoinPrune.{JoinPrune}
+use Rattle.pim_joinprune.specs.FirstFault as joinprune_faults
+use Rattle.pim_joinprune.specs.Spelling as joinprunes
 use Rattle.mvpn_nlri.specs.declared.fault.RouteFault.{RouteFault}
 use Rattle.mvpn_nlri.specs.declared.route.Route.{Route}
 use Rattle.mvpn_nlri.specs.declared.route.Afi.TheVariants.{Ipv4}
@@ -23,10 +27,12 @@ use Rattle.mldp_msgs.specs.declared.message.LabelMessage.{LabelMessage}
 use Rattle.mldp_msgs.specs.FirstFault.{PduFault}
 use Rattle.mldp_msgs.specs.Spelling.{SpellsPdu}
 use Rattle.value_text.specs.MessageText.{message_lines, bgp_word, label_message_line, ldp_word}
+use Rattle.value_text.specs.JoinPruneText.{joinprune_lines, pim_word}
 use Rattle.decode_text.specs.declared.format.Format.{Format}
 use Rattle.decode_text.specs.declared.format.Format.TheVariants as formats
 use Rattle.value_text.specs.ValueText.{fec_line, fec_word, pmsi_line, pmsi_word, route_line, route_word, refused_line}
 use Rattle.decode_text.specs.Values.{Telling, Whole, Stop, TellsEach}
+use Rattle.decode_text.specs.Single.{Single, TellsOne}
 use Rattle.decode_text.specs.Sessions.{Session, AreUnits, StopsAt, TellsSession}
 
 -- FEC elements
@@ -49,6 +55,24 @@ of_routes = record {
   refusal = λ behind fault. refused_line (behind + fault.place) (route_word fault.reason);
 }
 
+-- one tunnel attribute
+abbrev pub of_pmsi : Single Pmsi PmsiFault
+of_pmsi = record {
+  Spells = pmsis.Spells;
+  First = pmsi_faults.FirstFault;
+  lines = pmsi_line;
+  refusal = λ fault. refused_line fault.place (pmsi_word fault.reason);
+}
+
+-- one Join/Prune message; a fault is told with its place, which stands first
+abbrev pub of_pim : Single JoinPrune (ℕ × PimFault)
+of_pim = record {
+  Spells = joinprunes.Spells;
+  First = λ octets fault. joinprune_faults.FirstFault octets fault.0 fault.1;
+  lines = joinprune_lines;
+  refusal = λ fault. refused_line fault.0 (pim_word fault.1);
+}
+
 -- messages of BGP
 abbrev pub of_bgp : Session Message StreamFault
 of_bgp = record { Spells = SpellsMessage; Faulty = MessageFault; lines = message_lines; word = bgp_word }
@@ -57,13 +81,15 @@ of_bgp = record { Spells = SpellsMessage; Faulty = MessageFault; lines = message
 abbrev pub of_ldp : Session LabelMessage LdpFault
 of_ldp = record { Spells = SpellsPdu; Faulty = PduFault; lines = label_message_line; word = ldp_word }
 
--- The octets are whole: FEC elements or routes end to end, one tunnel attribute, or messages or PDUs end to end.
+-- The octets are whole: FEC elements or routes end to end, one tunnel attribute, one Join/Prune message, or messages or
+-- PDUs of a session end to end.
 abbrev pub IsWhole : Format → List ℕ → Type 0
 IsWhole formats.Fec octets = (values : List Fec) × Whole of_fecs octets values
 IsWhole formats.Pmsi octets = (pmsi : Pmsi) × pmsis.Spells pmsi octets
 IsWhole formats.Nlri octets = (values : List Route) × Whole of_routes octets values
 IsWhole formats.Bgp octets = (messages : List Message) × AreUnits of_bgp octets messages
 IsWhole formats.Ldp octets = (messages : List LabelMessage) × AreUnits of_ldp octets messages
+IsWhole formats.Pim octets = (message : JoinPrune) × joinprunes.Spells message octets
 
 -- The octets have a first fault, behind the values before it; those of a session may also end inside a message or PDU.
 abbrev pub HasFault : Format → List ℕ → Type 0
@@ -72,16 +98,13 @@ HasFault formats.Pmsi octets = (fault : PmsiFault) × pmsi_faults.FirstFault oct
 HasFault formats.Nlri octets = (values : List Route) × (fault : RouteFault) × Stop of_routes octets values fault
 HasFault formats.Bgp octets = (messages : List Message) × (place : ℕ) × (word : List ℕ) × StopsAt of_bgp octets messages place word
 HasFault formats.Ldp octets = (messages : List LabelMessage) × (place : ℕ) × (word : List ℕ) × StopsAt of_ldp octets messages place word
-
--- what a text tells of octets as one tunnel attribute, by whether a fault was met
-abbrev pub TellsPmsi : Bool → List ℕ → List ℕ → Type 0
-TellsPmsi false octets told = (pmsi : Pmsi) × pmsis.Spells pmsi octets × (told ≡ pmsi_line pmsi)
-TellsPmsi true octets told = (fault : PmsiFault) × pmsi_faults.FirstFault octets fault × (told ≡ refused_line fault.place (pmsi_word fault.reason))
+HasFault formats.Pim octets = (place : ℕ) × (fault : PimFault) × joinprune_faults.FirstFault octets place fault
 
 -- what a text tells of octets, by whether a fault was met
 abbrev pub Tells : Format → Bool → List ℕ → List ℕ → Type 0
 Tells formats.Fec refused octets told = TellsEach of_fecs refused octets told
-Tells formats.Pmsi refused octets told = TellsPmsi refused octets told
+Tells formats.Pmsi refused octets told = TellsOne of_pmsi refused octets told
 Tells formats.Nlri refused octets told = TellsEach of_routes refused octets told
 Tells formats.Bgp refused octets told = TellsSession of_bgp refused octets told
 Tells formats.Ldp refused octets told = TellsSession of_ldp refused octets told
+Tells formats.Pim refused octets told = TellsOne of_pim refused octets told

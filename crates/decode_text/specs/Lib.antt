@@ -1,5 +1,6 @@
 pub mod HexText
 pub mod HexLaws
 pub mod Values
+pub mod Single
 pub mod Sessions
 pub mod Formats

@@ -13,4 +13,6 @@ pub enum Format {
     Bgp,
     /// PDUs of an LDP session, end to end (RFC 5036 section 3.1).
     Ldp,
+    /// One Join/Prune message of PIM (RFC 7761 section 4.9.5).
+    Pim,
 }

@@ -1,6 +1,7 @@
 //! The lines of octets, by their format.
 ghost use Rattle.std.specs.Prelude.{◌≡◌, IfOk, true, false};
-ghost use Rattle.decode_text.specs.Formats.{Tells, TellsPmsi, IsWhole, HasFault};
+ghost use Rattle.decode_text.specs.Formats.{of_pmsi, of_pim, Tells, IsWhole, HasFault};
+ghost use Rattle.decode_text.specs.Single.{TellsOne};
 ghost use Rattle.decode_text.specs.Values.{TellsEach};
 
 use crate::format::Format;
@@ -9,8 +10,9 @@ use crate::value::Value;
 use mldp_fec::Fec;
 use mv_base::{Bytes, NoMemory};
 use mvpn_nlri::Route;
+use pim_joinprune::DecodeFault;
 use std::alloc::Global;
-use value_text::{put_pmsi_fault, put_pmsi_line};
+use value_text::{put_joinprune_fault, put_joinprune_lines, put_pmsi_fault, put_pmsi_line};
 
 /// The lines of values, and whether they end with the line of a fault.
 #[derive(Debug, Drop)]
@@ -48,7 +50,7 @@ fn tell_values<V: Value>(alloc: Global, octets: &[u8]) -> Result<Told, NoMemory>
 
 /// The line of one tunnel attribute.
 fn tell_pmsi(alloc: Global, octets: &[u8]) -> Result<Told, NoMemory>
-    ensures { IfOk result (λ told. TellsPmsi told.refused octets.now told.text) }
+    ensures { IfOk result (λ told. TellsOne of_pmsi told.refused octets.now told.text) }
 {
     let mut text = Bytes::new(alloc);
     match pmsi_attr::decode(octets) {
@@ -69,6 +71,30 @@ fn tell_pmsi(alloc: Global, octets: &[u8]) -> Result<Told, NoMemory>
     }
 }
 
+/// The lines of one Join/Prune message.
+fn tell_pim(alloc: Global, octets: &[u8]) -> Result<Told, NoMemory>
+    ensures { IfOk result (λ told. TellsOne of_pim told.refused octets.now told.text) }
+{
+    let mut text = Bytes::new(alloc);
+    match pim_joinprune::decode(alloc, octets) {
+        Ok(message) => {
+            put_joinprune_lines(&mut text, &message)?;
+            Ok(Told {
+                text,
+                refused: false,
+            })
+        }
+        Err(DecodeFault::Bad { place, fault }) => {
+            put_joinprune_fault(&mut text, place, fault)?;
+            Ok(Told {
+                text,
+                refused: true,
+            })
+        }
+        Err(DecodeFault::NoMemory) => Err(NoMemory),
+    }
+}
+
 fn tell_format(alloc: Global, format: Format, octets: &[u8]) -> Result<Told, NoMemory>
     ensures { IfOk result (λ told. Tells format told.refused octets.now told.text) }
 {
@@ -78,6 +104,7 @@ fn tell_format(alloc: Global, format: Format, octets: &[u8]) -> Result<Told, NoM
         Format::Nlri => tell_values::<Route>(alloc, octets),
         Format::Bgp => tell_bgp(alloc, octets),
         Format::Ldp => tell_ldp(alloc, octets),
+        Format::Pim => tell_pim(alloc, octets),
     }
 }
 

@@ -63,3 +63,35 @@ fn lines_of_fec_elements(rt: HostRuntime) -> Result<(), Fail> {
     }
     Ok(())
 }
+
+/// (10.1.0.9, 232.1.1.1) is joined, at neighbour 10.2.0.1, for a second.
+const JOIN: [u8; 34] = [
+    0x23, 0, 0xd8, 0xac, 1, 0, 10, 2, 0, 1, 0, 1, 0, 1, 1, 0, 0, 32, 232, 1, 1, 1, 0, 1, 0, 0, 1,
+    0, 4, 32, 10, 1, 0, 9,
+];
+
+#[test]
+fn lines_of_a_join_prune_message(rt: HostRuntime) -> Result<(), Fail> {
+    let mut unsummed = JOIN;
+    unsummed[2] = 0;
+    unsummed[3] = 0;
+    let mut longer = [0; 35];
+    longer[..34].copy_from_slice(&JOIN);
+    let cases: [(&[u8], &[u8], bool); 5] = [
+        (&[0x23], b"refused 1 short\n", true),
+        (&[0x13, 0, 0, 0], b"refused 0 version\n", true),
+        (
+            &JOIN,
+            b"joinprune 10.2.0.1 1\ngroup 232.1.1.1\njoin sg 10.1.0.9\n",
+            false,
+        ),
+        (&unsummed, b"refused 2 checksum\n", true),
+        (&longer, b"refused 34 trailing\n", true),
+    ];
+    for (octets, lines, refused) in cases.iter() {
+        let told = tell(rt.alloc(), Format::Pim, octets)?;
+        assert_eq!(rt; told.text.as_slice(), *lines);
+        assert_eq!(rt; told.refused, *refused);
+    }
+    Ok(())
+}

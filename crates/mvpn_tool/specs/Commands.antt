@@ -13,7 +13,8 @@ format_of word =
     if pointwise nat_eq word (codes "pmsi") then Some formats.Pmsi else
     if pointwise nat_eq word (codes "fec") then Some formats.Fec else
     if pointwise nat_eq word (codes "bgp") then Some formats.Bgp else
-    if pointwise nat_eq word (codes "ldp") then Some formats.Ldp else None
+    if pointwise nat_eq word (codes "ldp") then Some formats.Ldp else
+    if pointwise nat_eq word (codes "pim") then Some formats.Pim else None
 
 -- the command that the words name: `replay`, or `decode` and a format
 abbrev pub command_of : List (List ℕ) → Option Command

@@ -23,6 +23,7 @@ fn format_of(word: &str) -> Option<Format>
         "fec" => Some(Format::Fec),
         "bgp" => Some(Format::Bgp),
         "ldp" => Some(Format::Ldp),
+        "pim" => Some(Format::Pim),
         _ => None,
     }
 }

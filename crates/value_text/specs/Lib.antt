@@ -1,2 +1,3 @@
 pub mod ValueText
 pub mod MessageText
+pub mod JoinPruneText

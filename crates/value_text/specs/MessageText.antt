@@ -1,5 +1,5 @@
 -- The text of messages of sessions: the lines of each message, and the words of faults.
-use Rattle.std.specs.Prelude.{ℕ, List, [], ◌∷◌, ◌++◌, codes, Option, None, Some, ◌==◌, if◌then◌else◌, ⊤}
+use Rattle.std.specs.Prelude.{◌≡◌, ◌⊎◌, ℕ, List, [], ◌∷◌, ◌++◌, codes, Option, None, Some, ◌==◌, if◌then◌else◌, ⊤}
 use Rattle.std.specs.List.{flat_map, AllByRecursion}
 use Rattle.std.specs.Fmt.{decimal}
 use Rattle.hex.specs.Hex.{encode_lower}
@@ -83,10 +83,10 @@ abbrev pub HasOctets : Option Pmsi → Type 0
 HasOctets None = ⊤
 HasOctets (Some pmsi) = pmsis.Spells pmsi (pmsis.written pmsi)
 
--- the tunnels of a message have octets
+-- the tunnels of an UPDATE have octets, and any other message is of a type that has a line
 abbrev pub IsTellable : Message → Type 0
 IsTellable (messages.Update u) = AllByRecursion (λ a. HasOctets a.pmsi) u.reach
-IsTellable (messages.Other kind) = ⊤
+IsTellable (messages.Other kind) = (kind ≡ 1) ⊎ ((kind ≡ 3) ⊎ ((kind ≡ 4) ⊎ (kind ≡ 5)))
 
 -- the word of a fault
 abbrev pub bgp_word : StreamFault → List ℕ

@@ -1,4 +1,5 @@
 pub mod HomeLemmas
 pub mod ListLemmas
 pub mod LongestLemmas
+pub mod TicksLemmas
 pub mod VpnLemmas

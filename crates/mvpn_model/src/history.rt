@@ -1,9 +1,9 @@
 //! Histories of events, and what they mean.
 ghost use Rattle.std.specs.Prelude.{◌≡◌, ◌<◌, ◌≤◌, ◌^◌, length, IfOk, IfSome, IfNone};
-ghost use Rattle.scenario_defs.specs.Rules.{Rules};
+ghost use Rattle.scenario_defs.specs.Rules.{Rules, ScriptRules};
 ghost use Rattle.scenario_defs.specs.Home.{home, routes, IsLongest, IsUncovered};
 ghost use Rattle.scenario_defs.specs.Vpn.{ifaces_where};
-ghost use Rattle.mvpn_model.specs.Past.{past_of, ticks_in, standing, asks, receives, receivers, is_home};
+ghost use Rattle.mvpn_model.specs.Past.{past_of, standing, asks, receives, receivers, is_home};
 
 use crate::routing::longest_route;
 use crate::standing::{Followed, Standing, stand_behind};
@@ -53,8 +53,8 @@ fn stands(
     iface: IfaceId,
     entry: JoinEntry,
 ) -> Result<Standing, NoMemory>
+    requires rules { ScriptRules history.now.script.now }
     requires upto { history.now.upto ≤ length history.now.script.now.events }
-    requires clock { ticks_in (past_of history.now).events < 2 ^ 63 }
     ensures { IfOk result (λ found. found ≡ standing (past_of history.now) iface entry) }
 {
     let events = &history.script.events.as_slice()[..history.upto as usize];
@@ -75,8 +75,8 @@ pub fn asks(
     source: Addr,
     group: Addr,
 ) -> Result<bool, NoMemory>
+    requires rules { ScriptRules history.now.script.now }
     requires upto { history.now.upto ≤ length history.now.script.now.events }
-    requires clock { ticks_in (past_of history.now).events < 2 ^ 63 }
     ensures { IfOk result (λ answer. answer ≡ asks (past_of history.now) iface source group) }
 {
     let joined = stands(alloc, history, iface, JoinEntry::Source { source, group })?;
@@ -113,8 +113,8 @@ fn receives(
     number: IfaceId,
     iface: &Iface,
 ) -> Result<bool, NoMemory>
+    requires rules { ScriptRules history.now.script.now }
     requires upto { history.now.upto ≤ length history.now.script.now.events }
-    requires clock { ticks_in (past_of history.now).events < 2 ^ 63 }
     ensures { IfOk result (λ answer. answer ≡ receives (past_of history.now) vrf site source group number iface.now) }
 {
     let elsewhere = same_vpn(&history.script.scenario, vrf, iface.vrf) && iface.site.0 != site.0;
@@ -133,9 +133,8 @@ pub fn receivers(
     source: Addr,
     group: Addr,
 ) -> Result<IfaceList, NoMemory>
-    requires rules { Rules history.now.script.now.scenario }
+    requires rules { ScriptRules history.now.script.now }
     requires upto { history.now.upto ≤ length history.now.script.now.events }
-    requires clock { ticks_in (past_of history.now).events < 2 ^ 63 }
     ensures { IfOk result (λ ifaces. ifaces ≡ receivers (past_of history.now) site source group) }
 {
     match vrf_of_site(&history.script.scenario, site) {
@@ -155,9 +154,8 @@ fn receiving(
     source: Addr,
     group: Addr,
 ) -> Result<IfaceList, NoMemory>
-    requires rules { Rules history.now.script.now.scenario }
+    requires rules { ScriptRules history.now.script.now }
     requires upto { history.now.upto ≤ length history.now.script.now.events }
-    requires clock { ticks_in (past_of history.now).events < 2 ^ 63 }
     ensures { IfOk result (λ ifaces. ifaces ≡ ifaces_where (receives (past_of history.now) vrf site source group) 0 history.now.script.now.scenario.ifaces) }
 {
     let mut found = Seq::new(alloc);

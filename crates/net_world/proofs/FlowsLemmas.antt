@@ -1,6 +1,7 @@
 -- Laws of the table of flows, and of the interfaces at which a datagram leaves.
 use Rattle.std.proofs.Common.{◌≡◌, ℕ, ◌+◌, Bool, true, false, List, [], ◌∷◌, ◌++◌, map, filter, refl, sym, ap, ◌∙◌, cond, subst, suc, arith, Option, None, Some}
 use Rattle.std.specs.Prelude.{◌&&◌, not, slice_get, unwrap_or, is_some}
+use Rattle.std.proofs.lemmas.Bool.{and_parts}
 use Rattle.indexmap.specs.IndexMap.{IsEmpty, get}
 use Rattle.mv_base.specs.declared.ids.IfaceId.{IfaceId}
 use Rattle.mv_base.specs.declared.ids.SiteId.{SiteId}
@@ -22,20 +23,6 @@ use Rattle.net_world.specs.Flows.{FlowTable, members, same_flow, asking, AreKept
 pub keeps_none : (flows : FlowTable) (entries : Entries) (clock : ℕ) (ifaces : List Iface) → IsEmpty flows → Keeps flows entries clock ifaces
 keeps_none flows entries clock ifaces h source group = rw h tt
 
--- What the table has for a flow it tells as its members.
-pub kept_members : (flows : FlowTable) (entries : Entries) (clock : ℕ) (ifaces : List Iface) (source group : Addr) → Keeps flows entries clock ifaces → is_some (get same_flow flows (record { source = source; group = group })) ≡ true →
-    members flows source group ≡ asking entries clock ifaces source group
-kept_members flows entries clock ifaces source group keeps h = found (get same_flow flows (record { source = source; group = group })) (keeps source group) h
-  where
-    found : (o : Option (List IfaceId)) → AreKept (asking entries clock ifaces source group) o → is_some o ≡ true → unwrap_or o [] ≡ asking entries clock ifaces source group
-    found None k e = absurd cc
-    found (Some list) k e = k
-
-and_parts : (a b : Bool) → (a && b) ≡ true → (a ≡ true) × (b ≡ true)
-and_parts true true h = (refl, refl)
-and_parts true false h = absurd cc
-and_parts false b h = absurd cc
-
 same_flow_equal : (a b : Flow) → same_flow a b ≡ true → a ≡ b
 same_flow_equal a b h =
     let both = and_parts (same_addr a.source b.source) (same_addr a.group b.group) h in
@@ -53,10 +40,6 @@ keeps_more old new entries clock ifaces flow list told updates keeps source grou
     by : (b : Bool) → same_flow flow (record { source = source; group = group }) ≡ b → AreKept (asking entries clock ifaces source group) (cond b (Some list) (get same_flow old (record { source = source; group = group })))
     by true h = told ∙ ap (λ (f : Flow). asking entries clock ifaces f.source f.group) (same_flow_equal flow (record { source = source; group = group }) h)
     by false h = keeps source group
-
--- The table has the flow that was put into it.
-pub put_members : (new : FlowTable) (flow : Flow) (list : List IfaceId) → get same_flow new flow ≡ Some list → members new flow.source flow.group ≡ list
-put_members new flow list h = ap (λ (o : Option (List IfaceId)). unwrap_or o []) h
 
 outside_cond : (b t : Bool) (id : IfaceId) (xs : List IfaceId) → cond t (cond b (id ∷ xs) xs) xs ≡ cond (b && t) (id ∷ xs) xs
 outside_cond true true id xs = refl

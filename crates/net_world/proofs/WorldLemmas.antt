@@ -50,32 +50,10 @@ is_home-some scenario vrf source site found h = rw (h, is_home) refl
 pub is_home-none : (scenario : Scenario) (vrf : VrfId) (source : Addr) (site : SiteId) → home scenario vrf source ≡ None → false ≡ is_home scenario vrf source site
 is_home-none scenario vrf source site h = rw (h, is_home) refl
 
--- A datagram leaves nowhere where the site is not the source's home.
-pub not_home : (network : Network) (site : SiteId) (source group : Addr) (payload : List ℕ) (vrf : VrfId) → is_home network.scenario vrf source site ≡ false → entering network site source group payload vrf ≡ []
-not_home network site source group payload vrf h = rw (h, entering, leaves) refl
-
 -- The lines of a send are those of its entering at the VRF of its site.
 pub send_lines : (network : Network) (line : ℕ) (site : SiteId) (source group : Addr) (payload : List ℕ) (found : Option VrfId) (vrf : VrfId) → entered network.scenario site ≡ option_to_list found → found ≡ Some vrf → entering network site source group payload vrf ≡ event_lines network line (events.Send site source group payload)
 send_lines network line site source group payload found vrf e h =
     sym (ap (λ (vrfs : List VrfId). flat_map (λ act. act) (map (entering network site source group payload) vrfs)) (e ∙ ap option_to_list h) ∙ append-nil (entering network site source group payload vrf))
-
--- A send from a site without an interface gives no lines.
-pub send_nowhere : (network : Network) (line : ℕ) (site : SiteId) (source group : Addr) (payload : List ℕ) (found : Option VrfId) → entered network.scenario site ≡ option_to_list found → found ≡ None → [] ≡ event_lines network line (events.Send site source group payload)
-send_nowhere network line site source group payload found e h =
-    sym (ap (λ (vrfs : List VrfId). flat_map (λ act. act) (map (entering network site source group payload) vrfs)) (e ∙ ap option_to_list h))
-
--- Nothing is appended where there are no lines.
-pub append_none : (old all : List ReportLine) → [] ≡ all → old ≡ old ++ all
-append_none old all h = sym (append-nil old) ∙ ap (λ (l : List ReportLine). old ++ l) h
-
--- What holds of an answer that is no error, and of one that is.
-pub on_ok : {T E : Type 0} {P : Type 0} (r : Result T E) → is_err r ≡ false → OnOk r P → P
-on_ok (Ok x) h p = p
-on_ok (Err e) h p = absurd cc
-
-pub on_err : {T E : Type 0} {P : Type 0} (r : Result T E) → is_err r ≡ true → OnErr r P → P
-on_err (Ok x) h p = absurd cc
-on_err (Err e) h p = p
 
 -- What follows from what holds of an answer holds of it too.
 pub ok_then : {T E : Type 0} {P Q : Type 0} (r : Result T E) → OnOk r P → (P → Q) → OnOk r Q

@@ -1,9 +1,10 @@
 -- What stands in the entries behind a message, and behind a run of the timers.
-use Rattle.std.proofs.Common.{◌≡◌, ℕ, ◌==◌, ◌&&◌, ◌||◌, Bool, true, false, cond, List, [], ◌∷◌, ◌++◌, map, Option, None, Some, refl, sym, ap, subst, ◌∙◌, arith}
+use Rattle.std.proofs.Common.{◌≡◌, ℕ, ◌==◌, ◌&&◌, ◌||◌, Bool, true, false, cond, List, [], ◌∷◌, ◌++◌, map, Option, None, Some, inl, inr, refl, sym, ap, subst, ◌∙◌, arith}
 use Rattle.std.specs.Prelude.{is_some}
 use Rattle.std.specs.List.{list_any, flat_map}
 use Rattle.std.specs.Ordering.{eq_by_cmp}
 use Rattle.std.specs.FinMap.{get, keys, find, contains_key-keys, get-from_entries, get-retain_keys}
+use Rattle.std.proofs.lemmas.Bool.{or_left, or_right, or_cases, or_parts, false_from_ne_true, false≢true}
 use Rattle.std.proofs.lemmas.Bool.Decides.{nat_tests}
 use Rattle.std.proofs.lemmas.List.{map-append}
 use Rattle.std.proofs.lemmas.List.Folds.{list_any-append}
@@ -65,17 +66,8 @@ tie-named iface group source entry h =
     let at : IfaceEntry = record { iface = iface; entry = entry } in
     subst (λ (x : JoinEntry). eq_by_cmp entry_cmp at (record { iface = iface; entry = x }) ≡ true) (sym one) (ties-same at at ∙ same_at_itself at)
 
-or_left : (a b : Bool) → a ≡ true → (a || b) ≡ true
-or_left true b h = refl
-or_left false b h = absurd cc
-
-or_right : (a b : Bool) → b ≡ true → (a || b) ≡ true
-or_right true b h = refl
-or_right false b h = h
-
-or_cases : (a b : Bool) (P : Type 0) → (a ≡ true → P) → (b ≡ true → P) → (a || b) ≡ true → P
-or_cases true b P f g h = f refl
-or_cases false b P f g h = g h
+by_either : (a b : Bool) (P : Type 0) → (a ≡ true → P) → (b ≡ true → P) → (a || b) ≡ true → P
+by_either a b P f g h = elim (or_cases a b h) [ inl e ↦ f e | inr e ↦ g e ]
 
 abbrev named_of : IfaceId → Addr → List JpSource → List IfaceEntry
 named_of iface group sources = map (λ source. record { iface = iface; entry = entry_of group source }) sources
@@ -84,7 +76,7 @@ listed-named : (iface : IfaceId) (group : Addr) (sources : List JpSource) (entry
     is_among (named_of iface group sources) (record { iface = iface; entry = entry }) ≡ true
 listed-named iface group [] entry h = absurd cc
 listed-named iface group (source ∷ more) entry h =
-    or_cases (same_entry (entry_of group source) entry) (lists group more entry) (is_among (named_of iface group (source ∷ more)) (record { iface = iface; entry = entry }) ≡ true)
+    by_either (same_entry (entry_of group source) entry) (lists group more entry) (is_among (named_of iface group (source ∷ more)) (record { iface = iface; entry = entry }) ≡ true)
     (λ e. or_left _ _ (tie-named iface group source entry e))
     (λ e. or_right _ _ (listed-named iface group more entry e))
     h
@@ -98,7 +90,7 @@ group-named iface group entry h =
     let at : IfaceEntry = record { iface = iface; entry = entry } in
     let split = map-append (λ (source : JpSource). record { iface = iface; entry = entry_of group.group source }) group.joins group.prunes in
     ap (λ (l : List IfaceEntry). is_among l at) split ∙ list_any-append (eq_by_cmp entry_cmp at) (named_of iface group.group group.joins) (named_of iface group.group group.prunes)
-    ∙ or_cases (lists group.group group.joins entry) (lists group.group group.prunes entry) ((is_among (named_of iface group.group group.joins) at || is_among (named_of iface group.group group.prunes) at) ≡ true)
+    ∙ by_either (lists group.group group.joins entry) (lists group.group group.prunes entry) ((is_among (named_of iface group.group group.joins) at || is_among (named_of iface group.group group.prunes) at) ≡ true)
     (λ e. or_left _ _ (listed-named iface group.group group.joins entry e))
     (λ e. or_right _ _ (listed-named iface group.group group.prunes entry e))
     h
@@ -109,7 +101,7 @@ joined-named iface [] entry h = absurd cc
 joined-named iface (group ∷ more) entry h =
     let at : IfaceEntry = record { iface = iface; entry = entry } in
     list_any-append (eq_by_cmp entry_cmp at) (named_of iface group.group (group.joins ++ group.prunes)) (named_by iface more)
-    ∙ or_cases (lists group.group group.joins entry) (list_any (λ other. lists other.group other.joins entry) more) ((is_among (named_of iface group.group (group.joins ++ group.prunes)) at || is_among (named_by iface more) at) ≡ true)
+    ∙ by_either (lists group.group group.joins entry) (list_any (λ other. lists other.group other.joins entry) more) ((is_among (named_of iface group.group (group.joins ++ group.prunes)) at || is_among (named_by iface more) at) ≡ true)
     (λ e. or_left _ _ (group-named iface group entry (or_left _ _ e)))
     (λ e. or_right _ _ (joined-named iface more entry e))
     h
@@ -120,7 +112,7 @@ pruned-named iface [] entry h = absurd cc
 pruned-named iface (group ∷ more) entry h =
     let at : IfaceEntry = record { iface = iface; entry = entry } in
     list_any-append (eq_by_cmp entry_cmp at) (named_of iface group.group (group.joins ++ group.prunes)) (named_by iface more)
-    ∙ or_cases (lists group.group group.prunes entry) (list_any (λ other. lists other.group other.prunes entry) more) ((is_among (named_of iface group.group (group.joins ++ group.prunes)) at || is_among (named_by iface more) at) ≡ true)
+    ∙ by_either (lists group.group group.prunes entry) (list_any (λ other. lists other.group other.prunes entry) more) ((is_among (named_of iface group.group (group.joins ++ group.prunes)) at || is_among (named_by iface more) at) ≡ true)
     (λ e. or_left _ _ (group-named iface group entry (or_right _ _ e)))
     (λ e. or_right _ _ (pruned-named iface more entry e))
     h
@@ -137,32 +129,16 @@ unnamed (Rpt source group) mention clock holdtime j p = rw (p, j) (nothing (ment
     nothing true = refl
     nothing false = refl
 
-not_true : (b : Bool) → (b ≡ true → ⊥) → b ≡ false
-not_true true h = absurd (h refl)
-not_true false h = refl
-
-true_not_false : (b : Bool) → b ≡ true → b ≡ false → ⊥
-true_not_false true h k = absurd cc
-true_not_false false h k = absurd cc
-
 -- What the message does not name it neither joins nor prunes.
 unjoined : (iface : IfaceId) (message : JoinPrune) (entry : JoinEntry) → is_among (named_in iface message) (record { iface = iface; entry = entry }) ≡ false → joins message entry ≡ false
-unjoined iface message entry h = not_true (joins message entry) (λ j. true_not_false _ (joined-named iface message.groups entry j) h)
+unjoined iface message entry h = false_from_ne_true (joins message entry) (λ j. false≢true (sym h ∙ joined-named iface message.groups entry j))
 
 unpruned : (iface : IfaceId) (message : JoinPrune) (entry : JoinEntry) → is_among (named_in iface message) (record { iface = iface; entry = entry }) ≡ false → prunes message entry ≡ false
-unpruned iface message entry h = not_true (prunes message entry) (λ j. true_not_false _ (pruned-named iface message.groups entry j) h)
+unpruned iface message entry h = false_from_ne_true (prunes message entry) (λ j. false≢true (sym h ∙ pruned-named iface message.groups entry j))
 
 is_absent : (o : Option Expiry) → is_some o ≡ false → o ≡ None
 is_absent None h = refl
 is_absent (Some x) h = absurd cc
-
-left_false : (a b : Bool) → (a || b) ≡ false → a ≡ false
-left_false true b h = absurd cc
-left_false false b h = refl
-
-right_false : (a b : Bool) → (a || b) ≡ false → b ≡ false
-right_false true b h = absurd cc
-right_false false b h = h
 
 -- An entry that was not there and is not named is not there behind the message.
 then_none : (entries : Entries) (iface : IfaceId) (message : JoinPrune) (clock : ℕ) (at : IfaceEntry) →
@@ -190,8 +166,8 @@ get-applied entries iface message clock at =
     found : (b : Bool) → is_among (keys entries ++ named_in iface message) at ≡ b → cond b (expiry_then entries iface message clock at) None ≡ expiry_then entries iface message clock at
     found true e = refl
     found false e =
-        let none = sym (list_any-append (eq_by_cmp entry_cmp at) (keys entries) (named_in iface message)) ∙ e in
-        sym (then_none entries iface message clock at (left_false _ _ none) (right_false _ _ none))
+        let none = or_parts _ _ (sym (list_any-append (eq_by_cmp entry_cmp at) (keys entries) (named_in iface message)) ∙ e) in
+        sym (then_none entries iface message clock at none.0 none.1)
 
 -- Behind a run of the timers the entries that ended are gone.
 pub get-kept : (entries : Entries) (clock : ℕ) (at : IfaceEntry) → get (kept_at entries clock) at ≡ remaining clock (get entries at)

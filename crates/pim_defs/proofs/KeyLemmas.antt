@@ -6,7 +6,9 @@ use Rattle.std.specs.Cmp.{IsTotalOrder, tied_itself, both_ways, Equal-is}
 use Rattle.std.specs.Cmp.Lexicographic.{nat_list_cmp_total}
 use Rattle.std.specs.FinMap.{IsAntisymmetric, nat_cmp-IsAntisymmetric, slice_cmp-IsAntisymmetric}
 use Rattle.std.proofs.lemmas.Cmp.{on_total}
+use Rattle.std.proofs.lemmas.Bool.{and_parts}
 use Rattle.std.proofs.lemmas.Bool.Decides.{nat_tests}
+use Rattle.std.proofs.lemmas.List.{append-nil}
 use Rattle.mv_base.specs.declared.addr.Addr.{Addr}
 use Rattle.mv_base.specs.declared.addr.Addr.TheVariants.{V4, V6}
 use Rattle.mv_base.specs.Address.{same_addr, same_addr_equiv, same_addr_equal}
@@ -45,12 +47,8 @@ addr_fronts (V6 xs) (V6 ys) us vs e =
 addr_fronts (V4 xs) (V6 ys) us vs e = absurd cc
 addr_fronts (V6 xs) (V4 ys) us vs e = absurd cc
 
-append_none : (xs : List ℕ) → xs ++ [] ≡ xs
-append_none [] = refl
-append_none (x ∷ xs) = ap (λ (l : List ℕ). x ∷ l) (append_none xs)
-
 one_addr : (a b : Addr) → addr_key a ≡ addr_key b → a ≡ b
-one_addr a b e = (addr_fronts a b [] [] (append_none (addr_key a) ∙ e ∙ sym (append_none (addr_key b)))).0
+one_addr a b e = (addr_fronts a b [] [] (append-nil (addr_key a) ∙ e ∙ sym (append-nil (addr_key b)))).0
 
 two_addrs : (a b c d : Addr) → addr_key a ++ addr_key c ≡ addr_key b ++ addr_key d → (a ≡ b) × (c ≡ d)
 two_addrs a b c d e =
@@ -86,20 +84,15 @@ one_at a b e =
 pub entry_cmp_exact : IsAntisymmetric entry_cmp
 entry_cmp_exact a b h = one_at a b (slice_cmp-IsAntisymmetric nat_cmp-IsAntisymmetric (iface_entry_key a) (iface_entry_key b) h)
 
-both_true : (a b : Bool) → (a && b) ≡ true → (a ≡ true) × (b ≡ true)
-both_true true true h = (refl, refl)
-both_true true false h = absurd cc
-both_true false b h = absurd cc
-
 pub same_entry_equal : (a b : JoinEntry) → same_entry a b ≡ true → a ≡ b
 same_entry_equal (Star g) (Star h) e = ap (λ (x : Addr). Star x) (same_addr_equal g h e)
 same_entry_equal (Source s g) (Source t h) e =
-    let both = both_true (same_addr s t) (same_addr g h) e in
+    let both = and_parts (same_addr s t) (same_addr g h) e in
     let source = same_addr_equal s t both.0 in
     let group = same_addr_equal g h both.1 in
     λ i. Source (source i) (group i)
 same_entry_equal (Rpt s g) (Rpt t h) e =
-    let both = both_true (same_addr s t) (same_addr g h) e in
+    let both = and_parts (same_addr s t) (same_addr g h) e in
     let source = same_addr_equal s t both.0 in
     let group = same_addr_equal g h both.1 in
     λ i. Rpt (source i) (group i)
@@ -121,7 +114,7 @@ same_at a b = (a.iface.0 == b.iface.0) && same_entry a.entry b.entry
 
 pub same_at_equal : (a b : IfaceEntry) → same_at a b ≡ true → a ≡ b
 same_at_equal a b h =
-    let both = both_true (a.iface.0 == b.iface.0) (same_entry a.entry b.entry) h in
+    let both = and_parts (a.iface.0 == b.iface.0) (same_entry a.entry b.entry) h in
     let number : a.iface.0 ≡ b.iface.0 = grind (arith, nat_tests) in
     let entry = same_entry_equal a.entry b.entry both.1 in
     λ i. record { iface = record { 0 = number i }; entry = entry i }

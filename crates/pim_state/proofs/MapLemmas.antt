@@ -1,10 +1,8 @@
 -- A list of entries with distinct keys, and the finite map of them.
-use Rattle.std.proofs.Common.{◌≡◌, ℕ, ◌+◌, ◌==◌, suc, Bool, true, false, cond, ◌&&◌, not, List, [], ◌∷◌, map, filter, length, Option, None, Some, count_by, sum_by, is_some, refl, sym, ap, subst, ◌∙◌, arith, T}
+use Rattle.std.proofs.Common.{◌≡◌, ℕ, ◌+◌, ◌==◌, suc, Bool, true, false, cond, ◌&&◌, List, [], ◌∷◌, filter, length, None, Some, count_by, is_some, refl, sym, ap, subst, ◌∙◌, arith}
 use Rattle.std.specs.List.{AllByRecursion, IsDistinct}
 use Rattle.std.specs.Ordering.{eq_by_cmp, is_eq}
-use Rattle.std.specs.declared.cmp.Ordering.{Ordering}
 use Rattle.std.specs.declared.cmp.Ordering.TheVariants.{Less, Equal, Greater}
-use Rattle.std.specs.Cmp.{IsTotalOrder}
 use Rattle.std.specs.FinMap.{get, find, put, len, entries, values, from_entries, entries-insert, get-entries, get-from_entries, len-entries, len-empty, same_map}
 use Rattle.std.specs.FinMap as finite
 use Rattle.std.specs.Map.{lookup, keys_of, values_of}
@@ -15,7 +13,7 @@ use Rattle.scenario_defs.specs.declared.event.JoinEntry.TheVariants.{Star, Sourc
 use Rattle.pim_defs.specs.declared.entry.IfaceEntry.{IfaceEntry}
 use Rattle.pim_defs.specs.declared.expiry.Expiry.{Expiry}
 use Rattle.pim_defs.specs.Mention.{same_entry}
-use Rattle.pim_defs.specs.Expiry.{is_after, counts, remaining}
+use Rattle.pim_defs.specs.Expiry.{is_after, remaining}
 use Rattle.pim_defs.specs.Entries.{entry_cmp, Entries, kept_at}
 use Rattle.pim_defs.proofs.KeyLemmas.{entry_cmp_total, entry_cmp_exact, same_at, same_at_equal, same_at_itself, ties-same}
 use Rattle.pim_defs.proofs.EntriesLemmas.{get-kept}
@@ -46,11 +44,11 @@ at-equal a b h = same_at_equal a b (sym (at-same a b) ∙ h)
 pub at-itself : (a : IfaceEntry) → is_at a a ≡ true
 at-itself a = at-same a a ∙ same_at_itself a
 
-not_both : (b : Bool) → b ≡ true → b ≡ false → ⊥
+pub not_both : (b : Bool) → b ≡ true → b ≡ false → ⊥
 not_both true h k = absurd cc
 not_both false h k = absurd cc
 
-is_false : (b : Bool) → (b ≡ true → ⊥) → b ≡ false
+pub is_false : (b : Bool) → (b ≡ true → ⊥) → b ≡ false
 is_false true h = absurd (h refl)
 is_false false h = refl
 

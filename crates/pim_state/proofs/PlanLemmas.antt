@@ -1,14 +1,13 @@
 -- The plan of a message: what it says of each entry is what the message makes of it.
-use Rattle.std.proofs.Common.{◌≡◌, ℕ, ◌+◌, ◌<◌, ◌==◌, Bool, true, false, cond, ◌&&◌, ◌||◌, not, List, [], ◌∷◌, Option, None, Some, length, get_or, take, is_some, unwrap_or, if◌then◌else◌, refl, sym, ap, subst, ◌∙◌, arith}
+use Rattle.std.proofs.Common.{◌≡◌, ℕ, ◌+◌, ◌<◌, ◌==◌, Bool, true, false, cond, ◌&&◌, ◌||◌, List, [], ◌∷◌, Option, None, Some, length, get_or, take, is_some, unwrap_or, refl, sym, ap, subst, ◌∙◌, arith}
 use Rattle.std.specs.List.{AllByRecursion, IsDistinct, list_any}
-use Rattle.std.specs.FinMap.{FinMap, from_entries, same_map}
+use Rattle.std.specs.FinMap.{from_entries, same_map}
 use Rattle.std.specs.FinMap as finite
 use Rattle.std.specs.Map.{lookup, keys_of}
 use Rattle.std.proofs.lemmas.Bool.Decides.{nat_tests}
 use Rattle.std.proofs.lemmas.List.Folds.{list_any_more}
 use Rattle.std.proofs.lemmas.Map.Keys.{IsDistinct-head, IsDistinct-tail}
 use Rattle.indexmap.specs.IndexMap.{get}
-use Rattle.mv_base.specs.declared.ids.IfaceId.{IfaceId}
 use Rattle.mv_base.specs.declared.addr.Addr.{Addr}
 use Rattle.scenario_defs.specs.declared.event.JoinEntry.{JoinEntry}
 use Rattle.scenario_defs.specs.declared.event.JoinEntry.TheVariants.{Star, Source, Rpt}
@@ -16,15 +15,14 @@ use Rattle.pim_joinprune.specs.declared.source.JpSource.{JpSource}
 use Rattle.pim_joinprune.specs.declared.message.JoinPrune.{JoinPrune}
 use Rattle.pim_defs.specs.declared.entry.IfaceEntry.{IfaceEntry}
 use Rattle.pim_defs.specs.declared.expiry.Expiry.{Expiry}
-use Rattle.pim_defs.specs.declared.mention.Mention.{Mention}
 use Rattle.pim_defs.specs.Mention.{entry_of, same_entry, lists, group_of, mention_of, expiry_after}
-use Rattle.pim_defs.specs.Entries.{entry_cmp, Entries, applied, expiry_then}
+use Rattle.pim_defs.specs.Entries.{Entries, applied}
 use Rattle.pim_defs.proofs.KeyLemmas.{entry_cmp_total, entry_cmp_exact}
 use Rattle.pim_defs.proofs.EntriesLemmas.{get-applied}
 use Rattle.pim_state.specs.declared.arrival.Arrival.{Arrival}
-use Rattle.pim_state.specs.Plan.{is_entry, is_at, is_among, is_named, is_ended, is_shared, may_end, ends_among, mention_in, then_of, planned, told_at, Expiries, Tells}
+use Rattle.pim_state.specs.Plan.{is_entry, is_at, is_among, is_named, is_ended, is_shared, may_end, ends_among, then_of, planned, told_at, Expiries, Tells}
 use Rattle.pim_state.specs.Changes.{changed_by, then_at}
-use Rattle.pim_state.proofs.MapLemmas.{entry-same, at-equal, at-itself, at-symmetric, get-lookup}
+use Rattle.pim_state.proofs.MapLemmas.{not_both, is_false, entry-same, at-equal, at-symmetric, get-lookup}
 use Rattle.pim_state.proofs.ChangesLemmas.{get-changed_by}
 
 -- ---- the entries that sources name
@@ -66,14 +64,6 @@ plan-one arrival entries entry next old new at t n = n ∙ (by (is_at (own arriv
     by : (b : Bool) → is_at (own arrival entry) at ≡ b → cond b (Some next) old ≡ told_at arrival entries b old at
     by true h = subst (λ (x : IfaceEntry). Some next ≡ Some (planned arrival entries x)) (at-equal (own arrival entry) at h) (ap (λ (o : Option Expiry). Some o) t)
     by false h = refl
-
-is_false : (b : Bool) → (b ≡ true → ⊥) → b ≡ false
-is_false true h = absurd (h refl)
-is_false false h = refl
-
-not_both : (b : Bool) → b ≡ true → b ≡ false → ⊥
-not_both true h k = absurd cc
-not_both false h k = absurd cc
 
 both_true : (a b : Bool) → (a && b) ≡ true → (a ≡ true) × (b ≡ true)
 both_true true true h = (refl, refl)

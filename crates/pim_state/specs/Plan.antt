@@ -1,12 +1,11 @@
 -- What becomes of the entries of an interface behind a message, by what the message joins and prunes.
-use Rattle.std.specs.Prelude.{◌≡◌, ℕ, ◌==◌, ◌&&◌, ◌||◌, Bool, true, false, List, [], ◌∷◌, Option, None, Some, if◌then◌else◌}
+use Rattle.std.specs.Prelude.{◌≡◌, ◌==◌, ◌&&◌, Bool, true, false, List, Option, Some, if◌then◌else◌}
 use Rattle.std.specs.List.{list_any}
 use Rattle.std.specs.declared.hash.FoldHasher.{FoldHasher}
 use Rattle.std.specs.declared.hash.BuildHasherDefault.{BuildHasherDefault}
 use Rattle.indexmap.specs.IndexMap.{IndexMap, get}
-use Rattle.mv_base.specs.declared.addr.Addr.{Addr}
 use Rattle.scenario_defs.specs.declared.event.JoinEntry.{JoinEntry}
-use Rattle.scenario_defs.specs.declared.event.JoinEntry.TheVariants.{Star, Source, Rpt}
+use Rattle.scenario_defs.specs.declared.event.JoinEntry.TheVariants.{Star, Rpt}
 use Rattle.scenario_defs.specs.contracts.event.JoinEntryPartialEq.TheImpl as entries_equal
 use Rattle.pim_joinprune.specs.declared.message.JoinPrune.{JoinPrune}
 use Rattle.pim_defs.specs.declared.entry.IfaceEntry.{IfaceEntry}

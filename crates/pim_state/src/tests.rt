@@ -1,4 +1,6 @@
 //! Joined state by single messages.
+ghost use Rattle.std.specs.Prelude.{◌<◌, ◌^◌};
+
 use super::*;
 use mv_base::{Addr, IfaceId};
 use pim_defs::{join_of, prune_of};
@@ -14,27 +16,21 @@ const SOURCE: Addr = Addr::V4([10, 1, 0, 9]);
 
 const GROUP: Addr = Addr::V4([232, 1, 1, 1]);
 
-fn join(
-    alloc: Global,
-    state: &mut Downstream,
-    entry: JoinEntry,
-    now: u64,
-) -> Result<(), TakeFault> {
+fn join(alloc: Global, state: &mut Downstream, entry: JoinEntry, now: u64) -> Result<(), TakeFault>
+    requires { now < 2 ^ 63 }
+{
     let message = join_of(alloc, NEIGHBOUR, &entry)?;
     state.take(IFACE, &message, now)
 }
 
-fn prune(
-    alloc: Global,
-    state: &mut Downstream,
-    entry: JoinEntry,
-    now: u64,
-) -> Result<(), TakeFault> {
+fn prune(alloc: Global, state: &mut Downstream, entry: JoinEntry, now: u64) -> Result<(), TakeFault>
+    requires { now < 2 ^ 63 }
+{
     let message = prune_of(alloc, NEIGHBOUR, &entry)?;
     state.take(IFACE, &message, now)
 }
 
-/// A join of (S,G) is held for 210 seconds, and timers remove it then.
+/// A join of (S,G) is held for 210 seconds from the last one on, and timers remove it then.
 #[test]
 fn holds_and_ends(rt: HostRuntime) -> Result<(), Fail> {
     let alloc = rt.alloc();
@@ -43,6 +39,7 @@ fn holds_and_ends(rt: HostRuntime) -> Result<(), Fail> {
         source: SOURCE,
         group: GROUP,
     };
+    join(alloc, &mut state, entry, 1).ok().ok_or("taken")?;
     join(alloc, &mut state, entry, 5).ok().ok_or("taken")?;
     assert!(rt; state.asks(IFACE, SOURCE, GROUP, false, 214));
     assert!(rt; !state.asks(IFACE, SOURCE, GROUP, false, 215));
@@ -92,5 +89,24 @@ fn prunes_at_once(rt: HostRuntime) -> Result<(), Fail> {
     prune(alloc, &mut state, entry, 1).ok().ok_or("taken")?;
     assert!(rt; !state.asks(IFACE, SOURCE, GROUP, true, 1));
     assert!(rt; state.asks(IfaceId(4), SOURCE, GROUP, true, 1));
+    Ok(())
+}
+
+/// An edge holds 1,024 entries, and a message that would make one more changes nothing.
+#[test]
+fn full(rt: HostRuntime) -> Result<(), Fail> {
+    let alloc = rt.alloc();
+    let mut state = Downstream::of(alloc);
+    for n in 0..1024u16 {
+        let [high, low] = n.to_be_bytes();
+        let entry = JoinEntry::Source {
+            source: Addr::V4([10, 1, high, low]),
+            group: GROUP,
+        };
+        join(alloc, &mut state, entry, 0).ok().ok_or("taken")?;
+    }
+    let refused = join(alloc, &mut state, JoinEntry::Star { group: GROUP }, 0);
+    assert_eq!(rt; refused.err(), Some(TakeFault::Full));
+    assert_eq!(rt; state.len(), 1024);
     Ok(())
 }

@@ -1,7 +1,4 @@
-use Rattle.std.proofs.Common.{◌≡◌, ◌+◌, arith}
-use Rattle.std.specs.FinMap.{from_entries, len}
-use Rattle.pim_defs.specs.Entries.{entry_cmp}
-use Rattle.pim_state.specs.Changes.{changed_by}
+use Rattle.std.proofs.Common.{arith}
 use Rattle.pim_state.proofs.ChangesLemmas.{count-behind}
 use Rattle.pim_state.proofs.changes.count_after.Goals as goal
 

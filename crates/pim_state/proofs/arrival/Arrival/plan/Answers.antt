@@ -1,8 +1,8 @@
-use Rattle.std.proofs.Common.{◌≡◌, sym, ◌∙◌, ap}
+use Rattle.std.proofs.Common.{◌∙◌, ap}
 use Rattle.pim_defs.specs.declared.expiry.Expiry.{Expiry}
 use Rattle.std.specs.Prelude.{Option}
 use Rattle.pim_state.specs.Plan.{then_of}
-use Rattle.pim_state.proofs.PlanLemmas.{plan-one, plan-applied}
+use Rattle.pim_state.proofs.PlanLemmas.{plan-one}
 use Rattle.pim_state.proofs.arrival.Arrival.plan.Goals as goal
 
 pub returns-clause-each : goal.returns-clause-each

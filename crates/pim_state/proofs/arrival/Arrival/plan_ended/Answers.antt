@@ -1,6 +1,5 @@
-use Rattle.std.proofs.Common.{◌≡◌, Bool, Option, OnOk, sym, ap, subst, ◌∙◌}
+use Rattle.std.proofs.Common.{◌≡◌, Bool, OnOk, sym, ap, subst, ◌∙◌}
 use Rattle.indexmap.specs.IndexMap.{get}
-use Rattle.pim_defs.specs.declared.expiry.Expiry.{Expiry}
 use Rattle.pim_state.specs.Plan.{is_at, told_at}
 use Rattle.pim_state.proofs.PlanLemmas.{ended-one, kept-one}
 use Rattle.pim_state.proofs.arrival.Arrival.plan_ended.Goals as goal

@@ -1,4 +1,4 @@
-use Rattle.std.proofs.Common.{◌≡◌, Bool, sym, ap, ◌∙◌}
+use Rattle.std.proofs.Common.{Bool, sym, ap, ◌∙◌}
 use Rattle.indexmap.specs.IndexMap.{get, keys}
 use Rattle.pim_state.specs.Plan.{is_at, told_at}
 use Rattle.pim_state.proofs.PlanLemmas.{none-ended}

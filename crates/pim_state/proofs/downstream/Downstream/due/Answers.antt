@@ -1,4 +1,4 @@
-use Rattle.std.proofs.Common.{◌≡◌, List, ap, sym, ◌∙◌, not, count_by}
+use Rattle.std.proofs.Common.{List, ap, sym, ◌∙◌, not, count_by}
 use Rattle.pim_defs.specs.declared.expiry.Expiry.{Expiry}
 use Rattle.pim_defs.specs.Expiry.{is_after}
 use Rattle.pim_defs.specs.Entries.{Entries, due}

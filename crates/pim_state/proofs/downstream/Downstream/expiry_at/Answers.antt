@@ -1,5 +1,4 @@
-use Rattle.std.proofs.Common.{◌≡◌, ap, sym, ◌∙◌}
-use Rattle.std.specs.FinMap.{get}
+use Rattle.std.proofs.Common.{ap, sym, ◌∙◌}
 use Rattle.pim_defs.specs.Entries.{Entries, expiry_at}
 use Rattle.pim_state.proofs.MapLemmas.{get-lookup}
 use Rattle.pim_state.proofs.downstream.Downstream.expiry_at.Goals as goal

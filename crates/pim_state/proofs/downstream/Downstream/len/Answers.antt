@@ -1,4 +1,4 @@
-use Rattle.std.proofs.Common.{◌≡◌, ap, sym, ◌∙◌}
+use Rattle.std.proofs.Common.{ap, sym, ◌∙◌}
 use Rattle.std.specs.FinMap.{len}
 use Rattle.pim_defs.specs.Entries.{Entries}
 use Rattle.pim_state.proofs.MapLemmas.{length-map}

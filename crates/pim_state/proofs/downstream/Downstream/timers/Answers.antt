@@ -1,7 +1,6 @@
-use Rattle.std.proofs.Common.{rules, ◌≡◌, ap, sym, ◌∙◌}
+use Rattle.std.proofs.Common.{rules, ◌≡◌, ap, ◌∙◌}
 use Rattle.std.specs.FinMap.{from_entries}
 use Rattle.indexmap.proofs.CallerLemmas.{filter-RetainsPairs}
-use Rattle.pim_defs.specs.Expiry.{is_after}
 use Rattle.pim_defs.specs.Entries.{entry_cmp, Entries, kept_at}
 use Rattle.pim_state.proofs.MapLemmas.{left-kept, left_at}
 use Rattle.pim_state.proofs.downstream.Downstream.timers.Goals as goal

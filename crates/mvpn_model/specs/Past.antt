@@ -84,7 +84,7 @@ abbrev pub is_active : Past → IfaceId → Addr → Addr → Bool
 is_active past iface source group = false
 
 -- Whether the interface asks for (S,G): (S,G) is joined there; or (*,G) is joined, (S,G) is not pruned off the shared
--- tree, and S is known to send to G (RFC 7761 section 4.1.6).
+-- tree, and S is known to send to G (RFC 7761 section 4.1.5).
 abbrev pub asks : Past → IfaceId → Addr → Addr → Bool
 asks past iface source group =
     let joined = standing past iface (entries.Source source group) in

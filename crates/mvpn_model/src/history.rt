@@ -67,7 +67,7 @@ fn stands(
     stand_behind(alloc, &followed, events)
 }
 
-/// Whether the interface asks for (S,G) (RFC 7761 section 4.1.6).
+/// Whether the interface asks for (S,G) (RFC 7761 section 4.1.5).
 pub fn asks(
     alloc: Global,
     history: &History<'_>,

@@ -6,7 +6,7 @@ use std::alloc::Global;
 use std::test::Fail;
 
 /// One edge with one VPN of two sites.
-const ONE_VPN: &str =
+pub(crate) const ONE_VPN: &str =
     "edge E1 192.0.2.1\nvrf V1 E1 1 65000:1 65000:1 highest\nsite X 10.1.0.0/16\nsite Y 10.2.0.0/16\niface X1 V1 X 10.1.0.1\niface Y1 V1 Y 10.2.0.1\n";
 
 /// A second VPN at the edge, with the addresses of the first.
@@ -55,7 +55,7 @@ fn outcome(alloc: Global, words: &[&str], input: &[&str]) -> Result<(u8, Bytes),
 }
 
 /// Whether a run of the words over the input ends with that status and writes exactly that text.
-fn gives(
+pub(crate) fn gives(
     alloc: Global,
     words: &[&str],
     input: &[&str],

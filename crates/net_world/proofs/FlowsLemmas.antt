@@ -1,6 +1,6 @@
 -- Laws of the table of flows, and of the interfaces at which a datagram leaves.
-use Rattle.std.proofs.Common.{◌≡◌, ℕ, ◌+◌, Bool, true, false, List, [], ◌∷◌, ◌++◌, map, filter, refl, sym, ap, ◌∙◌, cond, subst, suc, arith, Option, None, Some}
-use Rattle.std.specs.Prelude.{◌&&◌, not, slice_get, unwrap_or, is_some}
+use Rattle.std.proofs.Common.{◌≡◌, ℕ, ◌+◌, Bool, true, false, List, [], ◌∷◌, map, filter, refl, sym, ap, ◌∙◌, cond, subst, suc, arith, Some}
+use Rattle.std.specs.Prelude.{◌&&◌, not, slice_get}
 use Rattle.std.proofs.lemmas.Bool.{and_parts}
 use Rattle.indexmap.specs.IndexMap.{IsEmpty, get}
 use Rattle.mv_base.specs.declared.ids.IfaceId.{IfaceId}
@@ -17,7 +17,7 @@ use Rattle.mvpn_model.specs.Packet.{packet}
 use Rattle.net_defs.specs.Network.{Network, entering, leaves}
 use Rattle.net_world.specs.declared.flows.Flow.{Flow}
 use Rattle.net_world.specs.Entering.{is_outside, outs}
-use Rattle.net_world.specs.Flows.{FlowTable, members, same_flow, asking, AreKept, Keeps}
+use Rattle.net_world.specs.Flows.{FlowTable, same_flow, asking, AreKept, Keeps}
 
 -- An empty table tells nothing.
 pub keeps_none : (flows : FlowTable) (entries : Entries) (clock : ℕ) (ifaces : List Iface) → IsEmpty flows → Keeps flows entries clock ifaces

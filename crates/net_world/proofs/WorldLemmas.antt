@@ -1,7 +1,6 @@
 -- Laws of the tables of a world, and of the lines of a send.
-use Rattle.std.proofs.Common.{◌≡◌, ℕ, ◌<◌, true, false, List, [], ◌∷◌, ◌++◌, length, get_or, map, refl, sym, ap, ◌∙◌, suc, zero, arith, length-append, inl, inr, eqb}
+use Rattle.std.proofs.Common.{◌≡◌, ℕ, ◌<◌, false, List, [], ◌∷◌, ◌++◌, length, get_or, map, refl, sym, ap, ◌∙◌, suc, zero, arith, length-append, inl, inr, eqb}
 use Rattle.std.specs.Prelude.{Option, None, Some, IfSome, Result, Ok, Err, OnOk, OnErr}
-use Rattle.std.specs.Result.{is_err}
 use Rattle.std.specs.Option.{option_to_list}
 use Rattle.std.specs.List.{flat_map}
 use Rattle.std.proofs.lemmas.List.{append-nil, get_or_append_left}
@@ -11,13 +10,12 @@ use Rattle.mv_base.specs.declared.ids.VrfId.{VrfId}
 use Rattle.mv_base.specs.declared.ids.SiteId.{SiteId}
 use Rattle.mv_base.specs.declared.addr.Addr.{Addr}
 use Rattle.scenario_defs.specs.declared.scenario.Scenario.{Scenario}
-use Rattle.scenario_defs.specs.declared.report.ReportLine.{ReportLine}
 use Rattle.scenario_defs.specs.declared.event.Event.TheVariants as events
 use Rattle.scenario_defs.specs.Rules.{Rules}
 use Rattle.scenario_defs.specs.Vpn.{vrf_of_site, entered}
 use Rattle.scenario_defs.specs.Home.{home}
 use Rattle.mvpn_model.specs.Past.{is_home}
-use Rattle.net_defs.specs.Network.{Network, entering, leaves}
+use Rattle.net_defs.specs.Network.{Network, entering}
 use Rattle.mvpn_model.proofs.VpnLemmas.{vrf_of_site-is}
 use Rattle.net_world.specs.Tables.{upto}
 use Rattle.net_world.specs.WorldState.{event_lines}

@@ -1,4 +1,4 @@
--- Which flows an interface asks for (RFC 7761 section 4.1.6).
+-- Which flows an interface asks for (RFC 7761 section 4.1.5).
 use Rattle.std.specs.Prelude.{ℕ, ◌||◌, ◌&&◌, not, Bool, Option}
 use Rattle.pim_defs.specs.declared.expiry.Expiry.{Expiry}
 use Rattle.pim_defs.specs.Expiry.{counts}

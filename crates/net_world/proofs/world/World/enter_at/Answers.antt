@@ -1,5 +1,5 @@
 use Rattle.std.proofs.Common.{◌≡◌, ◌++◌, List, true, sym, ap, subst, ◌∙◌}
-use Rattle.std.specs.Prelude.{None, OnOk, OnErr}
+use Rattle.std.specs.Prelude.{OnOk, OnErr}
 use Rattle.scenario_defs.specs.declared.report.ReportLine.{ReportLine}
 use Rattle.mvpn_model.specs.Past.{is_home}
 use Rattle.net_defs.specs.Network.{Network, entering}

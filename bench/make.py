@@ -7,13 +7,16 @@
     joins       a scenario with 1,000 interfaces, then about SIZE octets of joins, their words padded with spaces
     events      a scenario with 1,000 interfaces, then SIZE events: joins and sends in turn, each datagram leaving at
                 ten interfaces
+    messages    SIZE events: Join/Prune messages of one source at an interface with 1,000 entries, joins and prunes in turn
+    shared      SIZE events: joins of the shared tree at an interface that has pruned 500 sources off it
+    groups      SIZE events: Join/Prune messages of 45 groups with four sources each
     late-fault  SIZE octets of comments, of which the last line is faulty
     decode      SIZE octets of hexadecimal text, which writes multipoint FEC elements end to end, one on each line
     decode-nlri SIZE octets of hexadecimal text, which writes MCAST-VPN routes of AFI 1 end to end, one on each line
     decode-bgp  SIZE octets of hexadecimal text, which writes BGP messages end to end, one on each line
     decode-ldp  SIZE octets of hexadecimal text, which writes LDP PDUs end to end, one on each line
 
-The first four are inputs of `replay`, `decode` is one of `decode fec`, and `decode-NAME` one of `decode NAME`. The input
+The first seven are inputs of `replay`, `decode` is one of `decode fec`, and `decode-NAME` one of `decode NAME`. The input
 is within the limits: 16,777,216 octets, 200,000 events, 1,024 interfaces and entries, 4,096 octets a line.
 """
 
@@ -82,6 +85,54 @@ def events(size):
         else:
             site = number // 2 % SITES
             yield 'send S%d %s aabb\n' % (site, flow(site))
+
+
+def two_sites():
+    yield 'edge E1 192.0.2.1\nvrf V1 E1 1 65000:1 65000:1 highest\nsite X 10.1.0.0/16\nsite Y 10.2.0.0/16\n'
+    yield 'iface X1 V1 X 10.1.0.1\niface Y1 V1 Y 10.2.0.1\nevents\n'
+
+
+def source(number):
+    return '10.1.%d.%d' % divmod(number % 1000, 250)
+
+
+def messages(size):
+    yield from two_sites()
+    for number in range(1000):
+        yield 'join Y1 %s 232.1.1.1\n' % source(number)
+    for number in range(min(EVENT_LIMIT, size) - 1000):
+        yield '%s Y1 %s 232.1.1.1\n' % (('prune', 'join')[number % 2], source(number // 2))
+
+
+def shared(size):
+    yield from two_sites()
+    for number in range(500):
+        yield 'prune Y1 %s 232.1.1.1 rpt\n' % source(number)
+    for number in range(min(EVENT_LIMIT, size) - 500):
+        yield 'join Y1 * 232.1.2.%d\n' % (number % 20 + 1)
+
+
+def ones_sum(octets):
+    """The checksum of RFC 1071."""
+    total = sum(int.from_bytes(octets[i:i + 2], 'big') for i in range(0, len(octets), 2))
+    while total >> 16:
+        total = (total & 0xffff) + (total >> 16)
+    return ~total & 0xffff
+
+
+def sourced(flags, place):
+    return bytes([1, 0, flags, 32, 10, 1, 0, place])
+
+
+def groups(size):
+    yield from two_sites()
+    fields = bytes([1, 0, 10, 2, 0, 1, 0, 45]) + (210).to_bytes(2, 'big')
+    for number in range(45):
+        fields += bytes([1, 0, 0, 32, 232, 2, 1, number + 1, 0, 2, 0, 2])
+        fields += sourced(4, 1) + sourced(4, 2) + sourced(5, 3) + sourced(4, 4)
+    sum_ = ones_sum(bytes([0x23, 0, 0, 0]) + fields).to_bytes(2, 'big')
+    line = 'pim Y1 %s\n' % (bytes([0x23, 0]) + sum_ + fields).hex()
+    yield from (line for _ in range(size))
 
 
 def numbered(number):
@@ -166,6 +217,9 @@ KINDS = {
     'comments': lambda size: [*comments(size), *small()],
     'joins': joins,
     'events': events,
+    'messages': messages,
+    'shared': shared,
+    'groups': groups,
     'late-fault': lambda size: [*comments(size - len('edgy\n')), 'edgy\n'],
     'decode': lambda size: hexadecimal(fec, size),
     'decode-nlri': lambda size: hexadecimal(route, size),

@@ -222,13 +222,19 @@ const UPDATE: &str =
 const MAPPING: &str =
     "0001002bc0000202000004000021000000010100001106000104c0000201000701000400100000020000040000";
 
+/// A Join/Prune message of one join, and its lines.
+const JOIN: &str = "2300d8ac01000a0200010001000101000020e801010100010000010004200a010009";
+
+const JOIN_LINES: &str = "joinprune 10.2.0.1 1\ngroup 232.1.1.1\njoin sg 10.1.0.9\n";
+
 #[test]
 fn messages_are_decoded(rt: HostRuntime) -> Result<(), Fail> {
     let reach =
         "update\nreach 192.0.2.2 0102c00002010001 - ipv4 source 0000fde800000001 65000 10.1.0.9 232.1.1.1\n";
     let mapping = "mapping 16 p2mp 192.0.2.1 01000400100000\n";
-    let rows: [(&str, &[&str], u8, &str); 4] = [
+    let rows: [(&str, &[&str], u8, &str); 5] = [
         ("bgp", &[UPDATE], 0, reach),
+        ("pim", &[JOIN], 0, JOIN_LINES),
         (
             "bgp",
             &["ffffffffffffffffffffffffffffffff001304 ff"],

@@ -1,3 +1,4 @@
 pub mod EnteringLemmas
 pub mod FlowsLemmas
 pub mod WorldLemmas
+pub mod ForgetLemmas

@@ -1,5 +1,6 @@
 -- The interfaces that are kept for a flow.
-use Rattle.std.specs.Prelude.{◌≡◌, ℕ, ◌&&◌, Bool, false, List, [], Option, None, Some, unwrap_or, ⊤}
+use Rattle.std.specs.Prelude.{◌≡◌, ℕ, ◌&&◌, ◌||◌, Bool, false, List, [], Option, None, Some, unwrap_or, ⊤, if◌then◌else◌}
+use Rattle.std.specs.List.{list_any}
 use Rattle.std.specs.declared.hash.FoldHasher.{FoldHasher}
 use Rattle.std.specs.declared.hash.BuildHasherDefault.{BuildHasherDefault}
 use Rattle.indexmap.specs.IndexMap.{IndexMap, get}
@@ -8,6 +9,8 @@ use Rattle.mv_base.specs.declared.addr.Addr.{Addr}
 use Rattle.mv_base.specs.Address.{same_addr}
 use Rattle.scenario_defs.specs.declared.scenario.Iface.{Iface}
 use Rattle.scenario_defs.specs.Vpn.{ifaces_where}
+use Rattle.pim_joinprune.specs.declared.source.JpSource.{JpSource}
+use Rattle.pim_joinprune.specs.declared.group.Group.{Group}
 use Rattle.pim_defs.specs.Entries.{Entries, asks}
 use Rattle.net_world.specs.declared.flows.Flow.{Flow}
 
@@ -35,3 +38,21 @@ AreKept ifaces (Some found) = found ≡ ifaces
 -- For each flow that the table has, it tells the interfaces that ask for it.
 abbrev pub Keeps : FlowTable → Entries → ℕ → List Iface → Type 0
 Keeps flows entries clock ifaces = (source group : Addr) → AreKept (asking entries clock ifaces source group) (get same_flow flows (record { source = source; group = group }))
+
+-- ---- flows that a message names
+
+-- the flow that a source of a group names
+abbrev pub flow_of : Addr → JpSource → Flow
+flow_of group source = record { source = source.addr; group = group }
+
+-- whether one of the sources of a group names the flow
+abbrev pub names : Addr → List JpSource → Flow → Bool
+names group sources flow = list_any (λ source. same_flow (flow_of group source) flow) sources
+
+-- whether a group of a message names the flow
+abbrev pub names_in : Group → Flow → Bool
+names_in group flow = names group.group group.joins flow || names group.group group.prunes flow
+
+-- what is kept, unless it is named
+abbrev pub unless : Bool → Option (List IfaceId) → Option (List IfaceId)
+unless named kept = if named then None else kept

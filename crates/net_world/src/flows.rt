@@ -1,11 +1,15 @@
-//! The interfaces that ask for a flow, kept for each flow since the last event that may have changed them.
+//! The interfaces that ask for a flow, kept for each flow until an event may change them.
 ghost use Rattle.std.specs.Prelude.{◌≡◌, ◌≤◌, ◌^◌, false, length, IfOk, OnOk};
 ghost use Rattle.scenario_defs.specs.Vpn.{ifaces_where};
 ghost use Rattle.pim_defs.specs.Entries.{asks};
-ghost use Rattle.net_world.specs.Flows.{members, Keeps};
+ghost use Rattle.std.specs.List.{list_any};
+ghost use Rattle.indexmap.specs.IndexMap.{get};
+ghost use Rattle.net_world.specs.declared.flows.Flow.{Flow};
+ghost use Rattle.net_world.specs.Flows.{members, same_flow, Keeps, flow_of, names, names_in, unless};
 
 use indexmap::IndexMap;
 use mv_base::{Addr, IfaceId, NoMemory, Seq};
+use pim_joinprune::{Group, JpSource};
 use pim_state::Downstream;
 use scenario_defs::{Iface, IfaceList};
 use std::alloc::Global;
@@ -74,4 +78,40 @@ pub(crate) fn look_up(
     let ifaces = asking(alloc, moment, flow)?;
     flows.insert(flow, ifaces)?;
     Ok(())
+}
+
+/// The flow that a source of a group in a message names, whatever it says of it.
+fn flow_of(group: Addr, source: &JpSource) -> Flow
+    ensures { result ≡ flow_of group source.now }
+{
+    Flow {
+        source: source.addr,
+        group,
+    }
+}
+
+/// Forgets the flows that the sources of a group name.
+fn forget_sources(flows: &mut IndexMap<Flow, IfaceList>, group: Addr, sources: &[JpSource])
+    ensures { (flow : Flow) → get same_flow flows.new flow ≡ unless (names group sources.now flow) (get same_flow flows.old flow) }
+{
+    for source in sources {
+        flows.swap_remove(&flow_of(group, source));
+    }
+}
+
+/// Forgets the flows that a group of a message names.
+fn forget_group(flows: &mut IndexMap<Flow, IfaceList>, group: &Group)
+    ensures { (flow : Flow) → get same_flow flows.new flow ≡ unless (names_in group.now flow) (get same_flow flows.old flow) }
+{
+    forget_sources(flows, group.group, group.joins.as_slice());
+    forget_sources(flows, group.group, group.prunes.as_slice());
+}
+
+/// Forgets the flows that a message names: other flows are asked for as before it.
+pub(crate) fn forget(flows: &mut IndexMap<Flow, IfaceList>, groups: &[Group])
+    ensures { (flow : Flow) → get same_flow flows.new flow ≡ unless (list_any (λ group. names_in group flow) groups.now) (get same_flow flows.old flow) }
+{
+    for group in groups {
+        forget_group(flows, group);
+    }
 }

@@ -11,7 +11,7 @@ ghost use Rattle.net_defs.specs.Network.{sessions, entering};
 
 use crate::Halt;
 use crate::entering::{Entering, enter as enter_vrf};
-use crate::flows::{Flow, Moment, look_up, members};
+use crate::flows::{Flow, Moment, forget, look_up, members};
 use crate::packet::packet;
 use crate::tables::{routes_of_vrfs, vrfs_of_sites};
 use indexmap::IndexMap;
@@ -126,7 +126,7 @@ impl World {
         }
         match self.downstream.take(iface, &message, self.clock) {
             Ok(()) => {
-                self.flows.clear();
+                forget(&mut self.flows, message.groups.as_slice());
                 Ok(())
             }
             Err(TakeFault::Full) => self.refuse(line, Refusal::Full, lines),

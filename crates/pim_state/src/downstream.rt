@@ -1,14 +1,16 @@
 //! The entries of an edge's interfaces.
-ghost use Rattle.std.specs.Prelude.{◌≡◌, ◌<◌, ◌^◌, true, false, not, count_by, Err, IfOk, OnOk, OnErr};
+ghost use Rattle.std.specs.Prelude.{◌≡◌, ◌<◌, ◌^◌, ◌&&◌, not, true, false, not, count_by, Err, IfOk, OnOk, OnErr};
 ghost use Rattle.std.specs.FinMap.{empty, len};
 ghost use Rattle.pim_defs.specs.Expiry.{is_after};
+ghost use Rattle.scenario_defs.specs.declared.event.JoinEntry.TheVariants as entries;
+ghost use Rattle.pim_defs.specs.Expiry.{counts};
 ghost use Rattle.pim_defs.specs.Entries.{applied, are_too_many, asks, due, expiry_at, kept_at};
 
 use crate::arrival::Arrival;
 use crate::changes::{apply, count_after};
 use indexmap::IndexMap;
 use mv_base::{Addr, IfaceId, NoMemory};
-use pim_defs::{Expiry, IfaceEntry, asks_by};
+use pim_defs::{Expiry, IfaceEntry, counts};
 use pim_joinprune::JoinPrune;
 use scenario_defs::JoinEntry;
 use std::alloc::Global;
@@ -128,9 +130,15 @@ impl Downstream {
         ensures { result ≡ asks self.now iface source group active now }
     {
         let joined = self.expiry_at(iface, JoinEntry::Source { source, group });
-        let shared = self.expiry_at(iface, JoinEntry::Star { group });
-        let pruned = self.expiry_at(iface, JoinEntry::Rpt { source, group });
-        asks_by(now, active, joined, shared, pruned)
+        counts(now, joined) || (active && self.asks_shared(iface, source, group, now))
+    }
+
+    /// Whether the interface has joined the shared tree of the group and has not pruned the source off it.
+    fn asks_shared(&self, iface: IfaceId, source: Addr, group: Addr, now: u64) -> bool
+        ensures { result ≡ (counts now (expiry_at self.now iface (entries.Star group)) && not (counts now (expiry_at self.now iface (entries.Rpt source group)))) }
+    {
+        counts(now, self.expiry_at(iface, JoinEntry::Star { group }))
+            && !counts(now, self.expiry_at(iface, JoinEntry::Rpt { source, group }))
     }
 
     /// How many entries end at or before the clock.

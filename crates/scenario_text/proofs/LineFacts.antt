@@ -1,5 +1,5 @@
 -- What a line that is without fault keeps to.
-use Rattle.std.proofs.Common.{◌≡◌, ℕ, ◌+◌, ◌<◌, ◌≤◌, ◌==◌, ◌⊎◌, inl, inr, Bool, true, false, List, [], ◌∷◌, length, refl, sym, subst, cond, arith, nat_lt, nat_le, Option, Some, None}
+use Rattle.std.proofs.Common.{◌≡◌, ℕ, ◌+◌, ◌<◌, ◌≤◌, ◌==◌, ◌⊎◌, inl, inr, ◌&&◌, Bool, true, false, List, [], ◌∷◌, length, refl, sym, subst, cond, arith, nat_lt, nat_le, Option, Some, None}
 use Rattle.std.specs.Prelude.{Result, Ok, Err}
 use Rattle.std.specs.List.{AllByRecursion, list_any, slice_split}
 use Rattle.std.proofs.lemmas.Bool.Decides.{nat_tests}
@@ -7,26 +7,30 @@ use Rattle.mv_base.specs.declared.ids.NodeId.{NodeId}
 use Rattle.mv_base.specs.declared.ids.VrfId.{VrfId}
 use Rattle.mv_base.specs.declared.ids.SiteId.{SiteId}
 use Rattle.mv_base.specs.declared.ids.IfaceId.{IfaceId}
+use Rattle.mv_base.specs.Number.{number_of}
 use Rattle.scenario_defs.specs.declared.scenario.Vrf.{Vrf}
 use Rattle.scenario_defs.specs.declared.scenario.Iface.{Iface}
 use Rattle.scenario_defs.specs.declared.scenario.Scenario.{Scenario}
 use Rattle.scenario_defs.specs.Rules.{IsIpv4}
 use Rattle.line_words.specs.declared.fault.TextFault.{TextFault}
+use Rattle.line_words.specs.declared.fault.Reason.TheVariants as reasons
 use Rattle.line_words.specs.declared.words.Row.{Row}
 use Rattle.line_words.specs.Words.{Placed, placed, words_of}
-use Rattle.line_words.specs.Forms.{addr_at, prefix_at, rule_at, targets_at}
+use Rattle.line_words.specs.Forms.{or_fault, addr_at, prefix_at, rule_at, targets_at}
 use Rattle.line_words.proofs.WordsLemmas.{total, total-slice_split}
 use Rattle.scenario_text.specs.declared.line.Line.{Line}
 use Rattle.scenario_text.specs.declared.line.Line.TheVariants as says
 use Rattle.scenario_text.specs.declared.vrf_lines.VrfHead.{VrfHead}
 use Rattle.scenario_text.specs.declared.vrf_lines.VrfTail.{VrfTail}
+use Rattle.scenario_text.specs.declared.setting.Setting.{Setting}
 use Rattle.scenario_text.specs.declared.scenario_lines.ScenarioWord.{ScenarioWord}
 use Rattle.scenario_text.specs.declared.scenario_lines.ScenarioWord.TheVariants as scenario_kinds
 use Rattle.scenario_text.specs.Drafted.{Drafted}
 use Rattle.scenario_text.specs.Naming.{new_name, node_addr_at, vrf_number_at, rd_at, edge_at, vrf_at, site_at}
+use Rattle.scenario_text.specs.SettingGrammar.{highest, is_given, value_of, setting_words, setting_line}
 use Rattle.scenario_text.specs.ScenarioGrammar.{edge_words, edge_counted, edge_line, vrf_head, vrf_tail, vrf_rules, vrf_words, vrf_counted, vrf_line, site_words, site_counted, site_line, iface_rules, iface_parts, iface_words, iface_counted, iface_line, events_line, scenario_word, scenario_words, scenario_line, overlaps, is_vpn_at, is_mixed, is_taken}
 use Rattle.scenario_text.specs.Grammar.{line_of, words_line, row_of, IsFree, IsNew}
-use Rattle.scenario_text.proofs.WordFacts.{Meets, ok_meets, err_meets, bind_meets, if_meets, name_meets, edge_meets, vrf_meets, site_meets, addr_meets, targets_meets, below}
+use Rattle.scenario_text.proofs.WordFacts.{Meets, Finds, ok_meets, err_meets, bind_meets, if_meets, bind_finds, only_finds, or_fault_meets, within, name_meets, edge_meets, vrf_meets, site_meets, addr_meets, targets_meets, below}
 use Rattle.scenario_text.proofs.EventFacts.{IsTold, IsToldBelow, event_line_meets}
 
 -- What a line of a VRF keeps to.
@@ -48,6 +52,7 @@ IsDeclared draft (says.Edge id node) = IsFree draft node.name
 IsDeclared draft (says.Vrf id vrf) = (length draft.scenario.vrfs < 256) × VrfFacts draft.scenario vrf × IsFree draft vrf.name
 IsDeclared draft (says.Site id name prefix) = (length draft.scenario.sites < 512) × IsFree draft name
 IsDeclared draft (says.Iface id iface) = (length draft.scenario.ifaces < 1024) × IfaceFacts draft.scenario iface × IsFree draft iface.name
+IsDeclared draft (says.Setting setting value) = (is_given draft.given setting ≡ false) × (value ≤ highest setting)
 IsDeclared draft says.Events = length draft.scenario.nodes ≤ 1
 IsDeclared draft says.Blank = ⊥
 IsDeclared draft (says.Event event) = ⊥
@@ -145,6 +150,22 @@ iface_line_meets : (draft : Drafted) (row : Row) (first : Placed) (rest : List P
 unfolding iface_line
 iface_line_meets draft row first rest = if_meets _ _ _ _ (λ few. iface_counted_meets draft row _ rest (below 1024 (length draft.scenario.ifaces) few))
 
+value_finds : (setting : Setting) (text : List ℕ) → Finds (λ value. value ≤ highest setting) (value_of setting text)
+unfolding value_of
+value_finds setting text = bind_finds _ (number_of text) _ (λ value _. only_finds _ (nat_le 1 value && nat_le value (highest setting)) value (λ b. (within value 1 (highest setting) b).1))
+
+setting_words_meets : (draft : Drafted) (row : Row) (setting : Setting) (first a : Placed) → Meets (IsDeclared draft) (setting_words draft row setting first a)
+unfolding setting_words
+setting_words_meets draft row setting first a =
+    if_meets _ (is_given draft.given setting) _ _ (λ new. bind_meets _ (or_fault (value_of setting a.text) row a reasons.Number) _ (λ value v.
+    let facts : (is_given draft.given setting ≡ false) × (value ≤ highest setting) = (new, (or_fault_meets _ (value_of setting a.text) row a reasons.Number (value_finds setting a.text)).holds value v) in ok_meets _ _ facts))
+
+setting_line_meets : (draft : Drafted) (row : Row) (setting : Setting) (first : Placed) (rest : List Placed) → Meets (IsDeclared draft) (setting_line draft row setting first rest)
+unfolding setting_line
+setting_line_meets draft row setting first [] = err_meets _ _
+setting_line_meets draft row setting first (a ∷ []) = setting_words_meets draft row setting first a
+setting_line_meets draft row setting first (a ∷ b ∷ more) = err_meets _ _
+
 at_most : (n : ℕ) → nat_lt 1 n ≡ false → n ≤ 1
 at_most n h = grind (arith, nat_tests)
 
@@ -159,6 +180,7 @@ scenario_words_meets draft row scenario_kinds.Edge first rest = edge_line_meets 
 scenario_words_meets draft row scenario_kinds.Vrf first rest = vrf_line_meets draft row first rest
 scenario_words_meets draft row scenario_kinds.Site first rest = site_line_meets draft row first rest
 scenario_words_meets draft row scenario_kinds.Iface first rest = iface_line_meets draft row first rest
+scenario_words_meets draft row (scenario_kinds.Setting setting) first rest = setting_line_meets draft row setting first rest
 scenario_words_meets draft row scenario_kinds.Events first rest = events_line_meets draft row rest
 
 scenario_line_meets : (draft : Drafted) (row : Row) (first : Placed) (rest : List Placed) → Meets (IsDeclared draft) (scenario_line draft row first rest)
@@ -213,12 +235,14 @@ declared_new draft (says.Edge id node) h = h
 declared_new draft (says.Vrf id vrf) h = h.2
 declared_new draft (says.Site id name prefix) h = h.1
 declared_new draft (says.Iface id iface) h = h.2
+declared_new draft (says.Setting setting value) h = h
 declared_new draft says.Events h = tt
 declared_new draft says.Blank h = tt
 declared_new draft (says.Event event) h = tt
 
 told_new : (draft : Drafted) (said : Line) → IsTold draft said → IsNew draft said
 told_new draft (says.Event event) h = tt
+told_new draft (says.Setting setting value) h = absurd h
 told_new draft says.Events h = absurd h
 told_new draft says.Blank h = absurd h
 told_new draft (says.Edge id node) h = absurd h

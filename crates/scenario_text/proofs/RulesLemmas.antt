@@ -19,7 +19,10 @@ use Rattle.scenario_defs.specs.Vpn.{targets_of, same_vpn}
 use Rattle.scenario_defs.specs.Rules.{ScriptRules, Rises, IsIpv4, IsEventOf}
 use Rattle.scenario_text.specs.declared.line.Line.{Line}
 use Rattle.scenario_text.specs.declared.line.Line.TheVariants as says
+use Rattle.scenario_text.specs.declared.setting.Setting.{Setting}
+use Rattle.scenario_text.specs.declared.setting.Setting.TheVariants as settings
 use Rattle.scenario_text.specs.Drafted.{Drafted}
+use Rattle.scenario_text.specs.SettingGrammar.{with_setting}
 use Rattle.scenario_text.specs.ScenarioGrammar.{is_vpn_at, is_mixed}
 use Rattle.scenario_text.specs.Grammar.{added, empty_draft, script_at, script_from, script_of}
 use Rattle.scenario_text.specs.Faults.{Says}
@@ -86,6 +89,26 @@ empty_rules = record {
 
 longer : {X : Type 0} (xs : List X) (y : X) → length (xs ++ y ∷ []) ≡ length xs + 1
 longer xs y = length-append xs (y ∷ [])
+
+with_numbers : (s : Scenario) (life delay labels system : ℕ) → RulesSoFar s → RulesSoFar (record s { life = life; delay = delay; labels = labels; system = system })
+with_numbers s life delay labels system r = record {
+  few_vrfs = r.few_vrfs;
+  few_sites = r.few_sites;
+  few_ifaces = r.few_ifaces;
+  edge_known = r.edge_known;
+  has_targets = r.has_targets;
+  vpn = r.vpn;
+  vrf_known = r.vrf_known;
+  site_known = r.site_known;
+  iface_ipv4 = r.iface_ipv4;
+  mixed = r.mixed;
+}
+
+with_value : (s : Scenario) (setting : Setting) (value : ℕ) → RulesSoFar s → RulesSoFar (with_setting s setting value)
+with_value s settings.Life value r = with_numbers s value s.delay s.labels s.system r
+with_value s settings.Delay value r = with_numbers s s.life value s.labels s.system r
+with_value s settings.Labels value r = with_numbers s s.life s.delay value s.system r
+with_value s settings.System value r = with_numbers s s.life s.delay s.labels value r
 
 with_node : (s : Scenario) (node : Node) → RulesSoFar s → RulesSoFar (record s { nodes = s.nodes ++ node ∷ [] })
 with_node s node r = record {
@@ -242,6 +265,7 @@ declared_holds draft number (says.Edge id node) h b f = quiet_holds draft _ numb
 declared_holds draft number (says.Vrf id vrf) h b f = quiet_holds draft _ number h b b refl (with_vrf draft.scenario vrf f.0 f.1 h.rules)
 declared_holds draft number (says.Site id name prefix) h b f = quiet_holds draft _ number h b b refl (with_site draft.scenario (record { name = name; prefixes = prefix ∷ [] }) f.0 h.rules)
 declared_holds draft number (says.Iface id iface) h b f = quiet_holds draft _ number h b b refl (with_iface draft.scenario iface f.0 f.1 h.rules)
+declared_holds draft number (says.Setting setting value) h b f = quiet_holds draft _ number h b b refl (with_value draft.scenario setting value h.rules)
 declared_holds draft number says.Events h b f = record {
   rules = h.rules;
   connected = λ _. f;
@@ -273,6 +297,7 @@ told_holds draft number (says.Edge id node) h b f = absurd f.1
 told_holds draft number (says.Vrf id vrf) h b f = absurd f.1
 told_holds draft number (says.Site id name prefix) h b f = absurd f.1
 told_holds draft number (says.Iface id iface) h b f = absurd f.1
+told_holds draft number (says.Setting setting value) h b f = absurd f.1
 told_holds draft number says.Events h b f = absurd f.1
 told_holds draft number says.Blank h b f = absurd f.1
 

@@ -3,10 +3,12 @@ use Rattle.std.specs.Prelude.{ℕ, Bool, List}
 use Rattle.scenario_defs.specs.declared.scenario.Scenario.{Scenario}
 use Rattle.scenario_defs.specs.declared.event.Timed.{Timed}
 use Rattle.scenario_text.specs.declared.draft.Thing.{Thing}
+use Rattle.scenario_text.specs.declared.setting.Given.{Given}
 
--- the scenario, whether it has ended, the events, and what each name stands for
+-- the scenario, which settings were given, whether it has ended, the events, and what each name stands for
 pub record Drafted : Type 0 where
   pub scenario : Scenario
+  pub given : Given
   pub begun : Bool
   pub events : List Timed
   pub names : List (List ℕ × Thing)

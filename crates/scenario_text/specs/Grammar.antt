@@ -1,5 +1,5 @@
 -- The grammar of a text: what each line says, given what the lines before it declared, or its first fault.
-use Rattle.std.specs.Prelude.{◌≡◌, ℕ, ◌+◌, ◌==◌, ◌||◌, Bool, true, false, nat_eq, nat_lt, List, [], ◌∷◌, ◌++◌, length, None, Some, Result, Ok, if◌then◌else◌, position}
+use Rattle.std.specs.Prelude.{◌≡◌, ℕ, ◌+◌, ◌==◌, ◌||◌, ◌≤◌, Bool, true, false, nat_eq, nat_lt, List, [], ◌∷◌, ◌++◌, length, None, Some, Result, Ok, if◌then◌else◌, position}
 use Rattle.std.specs.List.{list_any, list_all}
 use Rattle.std.specs.Map.{lookup}
 use Rattle.std.specs.Str.Lines.{lines}
@@ -14,6 +14,7 @@ use Rattle.scenario_text.specs.declared.draft.Thing.TheVariants as things
 use Rattle.scenario_text.specs.declared.line.Line.{Line}
 use Rattle.scenario_text.specs.declared.line.Line.TheVariants as says
 use Rattle.scenario_text.specs.Drafted.{Drafted}
+use Rattle.scenario_text.specs.SettingGrammar.{highest, none_given, is_given, with_given, with_setting}
 use Rattle.scenario_text.specs.ScenarioGrammar.{scenario_line}
 use Rattle.scenario_text.specs.EventGrammar.{event_line}
 
@@ -49,8 +50,9 @@ line_of draft number octets =
 abbrev pub IsFree : Drafted → List ℕ → Type 0
 IsFree draft name = lookup (pointwise nat_eq name) draft.names ≡ None
 
--- The name that a line declares is new.
+-- The name that a line declares is new, and so is a setting, whose value is within its bounds.
 abbrev pub IsNew : Drafted → Line → Type 0
+IsNew draft (says.Setting setting value) = (is_given draft.given setting ≡ false) × (value ≤ highest setting)
 IsNew draft (says.Edge id node) = IsFree draft node.name
 IsNew draft (says.Vrf id vrf) = IsFree draft vrf.name
 IsNew draft (says.Site id name prefix) = IsFree draft name
@@ -60,6 +62,7 @@ IsNew draft other = Unit {0}
 -- what is declared, with what the line of that number says
 abbrev pub added : Drafted → ℕ → Line → Drafted
 added draft number says.Blank = draft
+added draft number (says.Setting setting value) = record draft { scenario = with_setting draft.scenario setting value; given = with_given draft.given setting }
 added draft number (says.Edge id node) = record draft { scenario = record draft.scenario { nodes = draft.scenario.nodes ++ node ∷ [] }; names = draft.names ++ (node.name, (things.Node id)) ∷ [] }
 added draft number (says.Vrf id vrf) = record draft { scenario = record draft.scenario { vrfs = draft.scenario.vrfs ++ vrf ∷ [] }; names = draft.names ++ (vrf.name, (things.Vrf id)) ∷ [] }
 added draft number (says.Site id name prefix) = record draft { scenario = record draft.scenario { sites = draft.scenario.sites ++ (record { name = name; prefixes = prefix ∷ [] }) ∷ [] }; names = draft.names ++ (name, (things.Site id)) ∷ [] }
@@ -78,7 +81,7 @@ script_from draft number (octets ∷ more) = line_of draft number octets >>= λ 
 
 -- nothing is declared
 abbrev pub empty_draft : Drafted
-empty_draft = record { scenario = record { life = 2; delay = 3; labels = 4096; system = 65000; nodes = []; links = []; vrfs = []; sites = []; ifaces = [] }; begun = false; events = []; names = [] }
+empty_draft = record { scenario = record { life = 2; delay = 3; labels = 4096; system = 65000; nodes = []; links = []; vrfs = []; sites = []; ifaces = [] }; given = none_given; begun = false; events = []; names = [] }
 
 -- what a text says, or its first fault: it has at most 16,777,216 octets
 abbrev pub script_of : List ℕ → Result Script TextFault

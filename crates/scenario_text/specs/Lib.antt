@@ -1,5 +1,6 @@
 pub mod Drafted
 pub mod Naming
+pub mod SettingGrammar
 pub mod ScenarioGrammar
 pub mod JoinGrammar
 pub mod EventGrammar

@@ -26,12 +26,13 @@ use Rattle.scenario_text.specs.declared.scenario_lines.ScenarioWord.TheVariants 
 use Rattle.scenario_text.specs.declared.vrf_lines.VrfHead.{VrfHead}
 use Rattle.scenario_text.specs.declared.vrf_lines.VrfTail.{VrfTail}
 use Rattle.scenario_text.specs.Drafted.{Drafted}
+use Rattle.scenario_text.specs.SettingGrammar.{setting_of, setting_line}
 use Rattle.scenario_text.specs.Naming.{new_name, edge_at, vrf_at, site_at, node_addr_at, vrf_number_at, rd_at}
 
 -- whether no line that begins with the word is built yet
 abbrev pub is_unbuilt : List ℕ → Bool
 is_unbuilt text =
-    pointwise nat_eq text (codes "life") || pointwise nat_eq text (codes "delay") || pointwise nat_eq text (codes "labels") || pointwise nat_eq text (codes "as") || pointwise nat_eq text (codes "core") || pointwise nat_eq text (codes "link")
+    pointwise nat_eq text (codes "core") || pointwise nat_eq text (codes "link")
 
 -- what a first word begins; no VRF of several targets or with an address in a number, and no site of several prefixes is built yet
 unfoldable pub scenario_word : Row → Placed → Result ScenarioWord TextFault
@@ -41,8 +42,10 @@ scenario_word row first =
     if pointwise nat_eq first.text (codes "site") then (if row.comma then fault row.number first.column reasons.Later else Ok word_kinds.Site) else
     if pointwise nat_eq first.text (codes "iface") then Ok word_kinds.Iface else
     if pointwise nat_eq first.text (codes "events") then Ok word_kinds.Events else
-    if is_unbuilt first.text then fault row.number first.column reasons.Later else
-    fault row.number first.column reasons.Word
+    elim (setting_of first.text) [
+      | Some setting ↦ Ok (word_kinds.Setting setting)
+      | None ↦ if is_unbuilt first.text then fault row.number first.column reasons.Later else fault row.number first.column reasons.Word
+    ]
 
 -- `edge NAME ADDR`
 unfoldable pub edge_words : Drafted → Row → NodeId → Placed → Placed → Result Line TextFault
@@ -180,6 +183,7 @@ scenario_words draft row word_kinds.Edge first rest = edge_line draft row first 
 scenario_words draft row word_kinds.Vrf first rest = vrf_line draft row first rest
 scenario_words draft row word_kinds.Site first rest = site_line draft row first rest
 scenario_words draft row word_kinds.Iface first rest = iface_line draft row first rest
+scenario_words draft row (word_kinds.Setting setting) first rest = setting_line draft row setting first rest
 scenario_words draft row word_kinds.Events first rest = events_line draft row rest
 
 -- a line of the scenario

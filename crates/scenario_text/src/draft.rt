@@ -1,11 +1,13 @@
 //! What the lines so far declared.
-ghost use Rattle.std.specs.Prelude.{◌≡◌, ◌++◌, ◌∷◌, [], length, nat_eq, OnOk, None};
+ghost use Rattle.std.specs.Prelude.{◌≡◌, ◌++◌, ◌∷◌, ◌≤◌, [], length, nat_eq, OnOk, None};
 ghost use Rattle.std.specs.Map.{lookup};
 ghost use Rattle.std.specs.Cmp.Lexicographic.{pointwise};
 ghost use Rattle.scenario_text.specs.Naming.{named, node_of, vrf_of, site_of, iface_of};
+ghost use Rattle.scenario_text.specs.SettingGrammar.{highest, with_setting};
 ghost use Rattle.scenario_text.specs.Grammar.{added, empty_draft, IsNew};
 
 use crate::line::Line;
+use crate::setting::{Given, Setting};
 use indexmap::IndexMap;
 use line_words::is_name;
 use mv_base::{IfaceId, NoMemory, NodeId, Seq, SiteId, VrfId};
@@ -69,10 +71,24 @@ fn declare(names: &mut IndexMap<Name, Thing>, name: Name, thing: Thing) -> Resul
     Ok(())
 }
 
+/// Gives the setting that value.
+fn set(scenario: &mut Scenario, setting: Setting, value: u64)
+    requires { value ≤ highest setting }
+    ensures { scenario.new ≡ with_setting scenario.old setting value }
+{
+    match setting {
+        Setting::Life => scenario.life = value,
+        Setting::Delay => scenario.delay = value,
+        Setting::Labels => scenario.labels = value as u32,
+        Setting::System => scenario.system = value as u16,
+    }
+}
+
 /// The script so far, with the names that are declared.
 #[derive(Debug, Drop)]
 pub struct Draft {
     scenario: Scenario,
+    given: Given,
     begun: bool,
     events: Events,
     names: IndexMap<Name, Thing>,
@@ -83,7 +99,7 @@ impl Model for Draft {
 
     ghost Value = { Drafted };
 
-    ghost view = { λ d. record { scenario = d.scenario; begun = d.begun; events = d.events; names = d.names.entries } };
+    ghost view = { λ d. record { scenario = d.scenario; given = d.given; begun = d.begun; events = d.events; names = d.names.entries } };
 }
 
 impl Draft {
@@ -103,6 +119,7 @@ impl Draft {
                 sites: Seq::new(alloc),
                 ifaces: Seq::new(alloc),
             },
+            given: Given::none(),
             begun: false,
             events: Seq::new(alloc),
             names: IndexMap::new(alloc),
@@ -113,6 +130,13 @@ impl Draft {
         ensures { result.now ≡ self.now.scenario }
     {
         &self.scenario
+    }
+
+    /// Which settings were given.
+    pub fn given(&self) -> Given
+        ensures { result ≡ self.now.given }
+    {
+        self.given
     }
 
     /// Whether the scenario has ended.
@@ -154,6 +178,10 @@ impl Draft {
     {
         match said {
             Line::Blank => {}
+            Line::Setting { setting, value } => {
+                self.given = self.given.with(setting);
+                set(&mut self.scenario, setting, value);
+            }
             Line::Edge { id, node } => {
                 declare(&mut self.names, node.name, Thing::Node(id))?;
                 self.scenario.nodes.push(node)?;

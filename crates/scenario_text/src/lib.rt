@@ -12,6 +12,8 @@ mod naming;
 mod payload_lines;
 mod reader;
 mod scenario_lines;
+mod setting;
+mod setting_lines;
 #[cfg(test)]
 mod tests;
 mod vrf_lines;

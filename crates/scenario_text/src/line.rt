@@ -1,4 +1,5 @@
 //! What one line says.
+use crate::setting::Setting;
 use mv_base::{IfaceId, NodeId, Prefix, SiteId, VrfId};
 use scenario_defs::{Event, Iface, Name, Node, Vrf};
 
@@ -6,6 +7,10 @@ use scenario_defs::{Event, Iface, Name, Node, Vrf};
 #[derive(Debug, Drop)]
 pub enum Line {
     Blank,
+    Setting {
+        setting: Setting,
+        value: u64,
+    },
     Edge {
         id: NodeId,
         node: Node,

@@ -7,6 +7,8 @@ use crate::draft::Draft;
 use crate::line::Line;
 use crate::lists::{is_any_mixed, is_any_taken};
 use crate::naming::{new_name, node_addr_at, site_at, vrf_at};
+use crate::setting::Setting;
+use crate::setting_lines::{setting_line, setting_of};
 use crate::vrf_lines::vrf_line;
 use line_words::{Reason, Row, TextFault, Word, addr_at, fault_at, prefix_at};
 use mv_base::{IfaceId, NodeId, SiteId};
@@ -25,18 +27,14 @@ pub enum ScenarioWord {
     Vrf,
     Site,
     Iface,
+    Setting(Setting),
     Events,
 }
 
 fn is_unbuilt(text: &[u8]) -> bool
     ensures { result ≡ is_unbuilt text.now }
 {
-    text == b"life".as_slice()
-        || text == b"delay".as_slice()
-        || text == b"labels".as_slice()
-        || text == b"as".as_slice()
-        || text == b"core".as_slice()
-        || text == b"link".as_slice()
+    text == b"core".as_slice() || text == b"link".as_slice()
 }
 
 #[tactic(auto, unfolding(crate::specs::ScenarioGrammar::scenario_word))]
@@ -61,6 +59,8 @@ fn scenario_word(row: Row, first: &Word) -> Result<ScenarioWord, TextFault>
         Ok(ScenarioWord::Iface)
     } else if first.text == b"events".as_slice() {
         Ok(ScenarioWord::Events)
+    } else if let Some(setting) = setting_of(first.text) {
+        Ok(ScenarioWord::Setting(setting))
     } else if is_unbuilt(first.text) {
         Err(fault_at(row.number, first.column, Reason::Later))
     } else {
@@ -260,6 +260,7 @@ fn scenario_words(
         ScenarioWord::Vrf => vrf_line(draft, row, first, rest),
         ScenarioWord::Site => site_line(draft, row, first, rest),
         ScenarioWord::Iface => iface_line(draft, row, first, rest),
+        ScenarioWord::Setting(setting) => setting_line(draft, row, setting, first, rest),
         ScenarioWord::Events => events_line(draft, row, rest),
     }
 }

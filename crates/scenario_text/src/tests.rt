@@ -75,7 +75,7 @@ fn faults_of_a_scenario_stand_at_their_places(rt: HostRuntime) {
         (b"\n  edge E1 \xff".as_slice(), 2, 11, Reason::Byte),
         (b"edge E1\r\n".as_slice(), 1, 8, Reason::Count),
         (b"edge E1 192.0.2.1 x".as_slice(), 1, 19, Reason::Count),
-        (b"life 5".as_slice(), 1, 1, Reason::Later),
+        (b"core C 192.0.2.9".as_slice(), 1, 1, Reason::Later),
         (b"lives 5".as_slice(), 1, 1, Reason::Word),
         (b"edge 1E 192.0.2.1".as_slice(), 1, 6, Reason::Name),
         (b"edge E1 224.0.2.1".as_slice(), 1, 9, Reason::Address),
@@ -131,6 +131,33 @@ fn faults_of_events_stand_at_their_places(rt: HostRuntime) -> Result<(), Fail> {
         assert_eq!(rt; fault_of(rt.alloc(), text.as_slice()), Some(wanted));
     }
     Ok(())
+}
+
+#[test]
+fn settings_are_those_of_the_scenario(rt: HostRuntime) -> Result<(), Fail> {
+    let text = b"life 1\ndelay 1000\nlabels 65536\nas 65535\nevents";
+    let Ok(script) = read(rt.alloc(), text) else {
+        return Err(Fail::new("refused"));
+    };
+    assert_eq!(rt; script.scenario.life, 1);
+    assert_eq!(rt; script.scenario.delay, 1000);
+    assert_eq!(rt; script.scenario.labels, 65536);
+    assert_eq!(rt; script.scenario.system, 65535);
+    Ok(())
+}
+
+#[test]
+fn faults_of_settings_stand_at_their_places(rt: HostRuntime) {
+    for (text, line, column, reason) in [
+        (b"life 0".as_slice(), 1, 6, Reason::Number),
+        (b"life 2\nlife 0".as_slice(), 2, 1, Reason::Again),
+        (b"labels 65537".as_slice(), 1, 8, Reason::Number),
+        (b"as 65536".as_slice(), 1, 4, Reason::Number),
+        (b"delay".as_slice(), 1, 6, Reason::Count),
+    ] {
+        let wanted = fault_at(line, column, reason);
+        assert_eq!(rt; fault_of(rt.alloc(), text), Some(wanted));
+    }
 }
 
 #[test]

@@ -1,15 +1,14 @@
 -- Rows of least costs.
-use Rattle.std.proofs.Common.{◌≡◌, ◌≢◌, ◌⊎◌, ◌+◌, ◌*◌, ◌≤◌, ◌<◌, ◌&&◌, ℕ, Bool, true, false, cond, ltb, leb, List, [], ◌∷◌, length, ◌++◌, get_or, set, take, drop, replicate, sum, inl, inr, subst, sym, refl, ap, ◌∙◌, arith}
-use Rattle.std.specs.List.{All, Contains, count_by, sum_by, list_all, fold}
-use Rattle.std.proofs.lemmas.List.{get_or-set_same, get_or-set_other, length-set, length-replicate, get_or-replicate, append-nil, drop_all, take_all}
-use Rattle.std.proofs.Math.ListN.{get_or-eq_default}
+use Rattle.std.proofs.Common.{◌≡◌, ◌≢◌, ◌⊎◌, ◌+◌, ◌*◌, ◌≤◌, ◌<◌, ◌&&◌, ℕ, Bool, true, false, cond, ltb, leb, List, [], ◌∷◌, length, ◌++◌, get_or, set, take, drop, sum, inl, inr, subst, sym, refl, ap, ◌∙◌, arith}
+use Rattle.std.specs.List.{All, Contains, sum_by, list_all}
+use Rattle.std.proofs.lemmas.List.{get_or-set_same, get_or-set_other, length-set, append-nil, drop_all, take_all}
 use Rattle.std.proofs.lemmas.List.Elements.{All-contains, All-contains_itself, All-head, All-tail}
 use Rattle.std.proofs.lemmas.List.Sums.{sum_by-set, count_by-le-length, AllPass-from_list_all}
-use Rattle.std.proofs.lemmas.Bool.{and_parts, false≢true, cases_eq, cases_lt}
+use Rattle.std.proofs.lemmas.Bool.{and_parts, cases_eq, cases_lt}
 use Rattle.std.proofs.lemmas.Bool.Decides.{nat_tests}
 use Rattle.mv_base.specs.declared.core_link.Link.{Link}
-use Rattle.core_paths.specs.Walks.{IsLinked, IsWalk, Reaches, IsLeast}
-use Rattle.core_paths.specs.Topology.{HasEnds, HasCost, IsTopology}
+use Rattle.core_paths.specs.Walks.{IsLinked, IsWalk}
+use Rattle.core_paths.specs.Topology.{HasEnds, IsTopology}
 use Rattle.core_paths.specs.Rows.{far, relaxed, relaxed_link, relaxed_all, is_tight, IsCostRow}
 use Rattle.core_paths.proofs.WalkLemmas.{IsGood, good, further, linked_there, linked_here}
 
@@ -47,12 +46,12 @@ cases_at k i = cases_eq k i
 
 set_sound : (links : List Link) (nodes root : ℕ) (row : List ℕ) (from v : ℕ) → IsSound links nodes root row → from < nodes → v < get_or row from 0 → HasWalk links from root v → v ≤ 65535 * reached row + 65535 → IsSound links nodes root (set row from v)
 set_sound links nodes root row from v h within lower walk bound = record {
-    size = length-set row from v ∙ h.size;
-    here = get_or-set_other row from root v 0 other_root ∙ h.here;
-    top = top;
-    walks = walks;
-    near = near;
-  }
+  size = length-set row from v ∙ h.size;
+  here = get_or-set_other row from root v 0 other_root ∙ h.here;
+  top = top;
+  walks = walks;
+  near = near;
+}
   where
     inside : from < length row
     inside = let e = h.size in omega arith
@@ -74,15 +73,17 @@ set_sound links nodes root row from v h within lower walk bound = record {
 
     top : (k : ℕ) → get_or (set row from v) k 0 ≤ far
     top k = elim (cases_at k from) [
-        inl e ↦ subst (λ (j : ℕ). get_or (set row from v) j 0 ≤ far) (sym e) (omega (arith, at_from, v_near))
-        | inr n ↦ omega (arith, get_or-set_other row from k v 0 n, h.top k) ]
+      | inl e ↦ subst (λ (j : ℕ). get_or (set row from v) j 0 ≤ far) (sym e) (omega (arith, at_from, v_near))
+      | inr n ↦ omega (arith, get_or-set_other row from k v 0 n, h.top k)
+    ]
 
     walks : (k : ℕ) → k < nodes → get_or (set row from v) k 0 < far → HasWalk links k root (get_or (set row from v) k 0)
     walks k l f = elim (cases_at k from) [
-        inl e ↦ subst (λ (j : ℕ). HasWalk links j root (get_or (set row from v) j 0)) (sym e) (subst (λ (x : ℕ). HasWalk links from root x) (sym at_from) walk)
-        | inr n ↦
+      | inl e ↦ subst (λ (j : ℕ). HasWalk links j root (get_or (set row from v) j 0)) (sym e) (subst (λ (x : ℕ). HasWalk links from root x) (sym at_from) walk)
+      | inr n ↦
           let same = get_or-set_other row from k v 0 n in
-          subst (λ (x : ℕ). HasWalk links k root x) (sym same) (h.walks k l (omega (arith, same))) ]
+          subst (λ (x : ℕ). HasWalk links k root x) (sym same) (h.walks k l (omega (arith, same)))
+    ]
 
     more : reached row ≤ reached (set row from v)
     more = omega (arith, counts, known-le (get_or row from 0))
@@ -99,10 +100,11 @@ set_sound links nodes root row from v h within lower walk bound = record {
 
     near : (k : ℕ) → k < nodes → get_or (set row from v) k 0 < far → get_or (set row from v) k 0 ≤ 65535 * reached (set row from v)
     near k l f = elim (cases_at k from) [
-        inl e ↦ subst (λ (j : ℕ). get_or (set row from v) j 0 ≤ 65535 * reached (set row from v)) (sym e) (omega (arith, at_from, near_from))
-        | inr n ↦
+      | inl e ↦ subst (λ (j : ℕ). get_or (set row from v) j 0 ≤ 65535 * reached (set row from v)) (sym e) (omega (arith, at_from, near_from))
+      | inr n ↦
           let same = get_or-set_other row from k v 0 n in
-          omega (arith, same, more, h.near k l (omega (arith, same))) ]
+          omega (arith, same, more, h.near k l (omega (arith, same)))
+    ]
 
 lowered : (links : List Link) (nodes root : ℕ) (row : List ℕ) (from via cost : ℕ) (b : Bool) → ltb (get_or row via 0 + cost) (get_or row from 0) ≡ b →
     IsSound links nodes root row → IsLinked links from via cost → IsGood nodes from via cost → IsSound links nodes root (cond b (set row from (get_or row via 0 + cost)) row)
@@ -313,56 +315,10 @@ under_walk links nodes root row t h tight (next ∷ behind) from cost within wal
 -- A row whose links are all tight has the least costs.
 pub cost_row : (links : List Link) (nodes root : ℕ) (row : List ℕ) → IsTopology nodes links → IsSound links nodes root row → list_all (is_tight row) links ≡ true → IsCostRow links nodes root row
 cost_row links nodes root row t h e = record {
-    size = h.size;
-    top = h.top;
-    least = λ k l f.
+  size = h.size;
+  top = h.top;
+  least = λ k l f.
       let w = h.walks k l f in
       record { steps = w.steps; walk = w.walk; least = λ steps other walk. (under_walk links nodes root row t h (tight_linked links row e) steps k other l walk).below };
-    near = λ k l r. (under_walk links nodes root row t h (tight_linked links row e) r.steps k r.cost l r.walk).near;
-  }
-
--- ---- the first row
-
-first_at : (links : List Link) (nodes root : ℕ) → root < nodes → IsSound links nodes root (set (replicate nodes far) root 0)
-first_at links nodes root within = record {
-    size = length-set (replicate nodes far) root 0 ∙ length-replicate nodes far;
-    here = at_root;
-    top = top;
-    walks = walks;
-    near = near;
-  }
-  where
-    inside : root < length (replicate nodes far)
-    inside = omega (arith, length-replicate nodes far)
-
-    at_root : get_or (set (replicate nodes far) root 0) root 0 ≡ 0
-    at_root = get_or-set_same (replicate nodes far) root 0 0 inside
-
-    elsewhere : (k : ℕ) → k < nodes → k ≢ root → get_or (set (replicate nodes far) root 0) k 0 ≡ far
-    elsewhere k l n = get_or-set_other (replicate nodes far) root k 0 0 n ∙ get_or-replicate nodes k far 0 l
-
-    top : (k : ℕ) → get_or (set (replicate nodes far) root 0) k 0 ≤ far
-    top k = elim (cases_lt k nodes) [
-        inl l ↦ elim (cases_eq k root) [
-          inl e ↦ subst (λ (j : ℕ). get_or (set (replicate nodes far) root 0) j 0 ≤ far) (sym e) (omega (arith, at_root))
-          | inr n ↦ omega (arith, elsewhere k l n) ]
-        | inr past ↦ omega (arith, get_or-eq_default (set (replicate nodes far) root 0) 0 {n = k} (omega (arith, length-set (replicate nodes far) root 0, length-replicate nodes far))) ]
-
-    root_only : (k : ℕ) → k < nodes → get_or (set (replicate nodes far) root 0) k 0 < far → k ≡ root
-    root_only k l f = elim (cases_eq k root) [ inl e ↦ e | inr n ↦ absurd (omega (arith, elsewhere k l n)) ]
-
-    walks : (k : ℕ) → k < nodes → get_or (set (replicate nodes far) root 0) k 0 < far → HasWalk links k root (get_or (set (replicate nodes far) root 0) k 0)
-    walks k l f =
-        let e = root_only k l f in
-        let none : get_or (set (replicate nodes far) root 0) k 0 ≡ 0 = subst (λ (j : ℕ). get_or (set (replicate nodes far) root 0) j 0 ≡ 0) (sym e) at_root in
-        record { steps = []; walk = (e, none) }
-
-    near : (k : ℕ) → k < nodes → get_or (set (replicate nodes far) root 0) k 0 < far → get_or (set (replicate nodes far) root 0) k 0 ≤ 65535 * reached (set (replicate nodes far) root 0)
-    near k l f =
-        let e = root_only k l f in
-        let none : get_or (set (replicate nodes far) root 0) k 0 ≡ 0 = subst (λ (j : ℕ). get_or (set (replicate nodes far) root 0) j 0 ≡ 0) (sym e) at_root in
-        omega arith
-
--- The row of which only the entry of `root` is known.
-pub first_sound : (links : List Link) (nodes root : ℕ) → root < nodes → IsSound links nodes root (set (replicate nodes far) root 0)
-first_sound links nodes root within = first_at links nodes root within
+  near = λ k l r. (under_walk links nodes root row t h (tight_linked links row e) r.steps k r.cost l r.walk).near;
+}

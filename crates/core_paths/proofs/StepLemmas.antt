@@ -1,15 +1,15 @@
 -- Rows of first steps.
-use Rattle.std.proofs.Common.{◌≡◌, ◌≢◌, ◌⊎◌, ◌+◌, ◌*◌, ◌≤◌, ◌<◌, ◌&&◌, ℕ, Bool, true, false, cond, eqb, ltb, List, [], ◌∷◌, length, ◌++◌, get_or, set, take, drop, replicate, inl, inr, subst, sym, refl, ap, ◌∙◌, arith}
-use Rattle.std.specs.List.{All, Contains, fold}
+use Rattle.std.proofs.Common.{◌≡◌, ◌≢◌, ◌⊎◌, ◌+◌, ◌≤◌, ◌<◌, ◌&&◌, ℕ, Bool, true, false, cond, eqb, ltb, List, [], ◌∷◌, length, ◌++◌, get_or, set, take, drop, replicate, inl, inr, subst, sym, refl, ap, ◌∙◌, arith}
+use Rattle.std.specs.List.{All, Contains}
 use Rattle.std.proofs.lemmas.List.{get_or-set_same, get_or-set_other, length-set, length-replicate, get_or-replicate}
 use Rattle.std.proofs.lemmas.List.Elements.{All-nil, All-cons, All-contains, All-contains_itself, All-head, All-tail}
-use Rattle.std.proofs.lemmas.Bool.{and_parts, cases_eq, cases_lt}
+use Rattle.std.proofs.lemmas.Bool.{cases_eq}
 use Rattle.std.proofs.lemmas.Bool.Decides.{nat_tests}
 use Rattle.mv_base.specs.declared.core_link.Link.{Link}
-use Rattle.core_paths.specs.Walks.{IsLinked, IsWalk, Reaches, IsLeast, IsFirstStep, IsToward}
-use Rattle.core_paths.specs.Topology.{HasEnds, HasCost, IsTopology}
+use Rattle.core_paths.specs.Walks.{IsLinked, IsWalk, IsLeast, IsFirstStep, IsToward}
+use Rattle.core_paths.specs.Topology.{IsTopology}
 use Rattle.core_paths.specs.Rows.{far, noted, noted_link, noted_all, IsCostRow, IsStepRow}
-use Rattle.core_paths.proofs.WalkLemmas.{IsGood, good, further, linked_there, linked_here}
+use Rattle.core_paths.proofs.WalkLemmas.{good, further, linked_there, linked_here}
 use Rattle.core_paths.proofs.RowLemmas.{whole}
 
 -- the entry for which no first step is known
@@ -37,17 +37,19 @@ set_sound links nodes row nexts from via h within step = record { size = length-
   where
     steps : (k : ℕ) → k < nodes → (get_or (set nexts from via) k 0 ≡ nobody) ⊎ IsStep links row k (get_or (set nexts from via) k 0)
     steps k l = elim (cases_eq k from) [
-        inl e ↦ inr (subst (λ (j : ℕ). IsStep links row j (get_or (set nexts from via) j 0)) (sym e)
+      | inl e ↦ inr (subst (λ (j : ℕ). IsStep links row j (get_or (set nexts from via) j 0)) (sym e)
           (subst (λ (x : ℕ). IsStep links row from x) (sym (get_or-set_same nexts from via 0 (let s = h.size in omega arith))) step))
-        | inr n ↦ subst (λ (x : ℕ). (x ≡ nobody) ⊎ IsStep links row k x) (sym (get_or-set_other nexts from k via 0 n)) (h.steps k l) ]
+      | inr n ↦ subst (λ (x : ℕ). (x ≡ nobody) ⊎ IsStep links row k x) (sym (get_or-set_other nexts from k via 0 n)) (h.steps k l)
+    ]
 
 set_below : (nexts : List ℕ) (from via : ℕ) → from < length nexts → via < get_or nexts from 0 → IsBelow nexts (set nexts from via)
 set_below nexts from via within less = record { size = length-set nexts from via; below = below }
   where
     below : (k : ℕ) → get_or (set nexts from via) k 0 ≤ get_or nexts k 0
     below k = elim (cases_eq k from) [
-        inl e ↦ subst (λ (j : ℕ). get_or (set nexts from via) j 0 ≤ get_or nexts j 0) (sym e) (omega (arith, get_or-set_same nexts from via 0 within))
-        | inr n ↦ omega (arith, get_or-set_other nexts from k via 0 n) ]
+      | inl e ↦ subst (λ (j : ℕ). get_or (set nexts from via) j 0 ≤ get_or nexts j 0) (sym e) (omega (arith, get_or-set_same nexts from via 0 within))
+      | inr n ↦ omega (arith, get_or-set_other nexts from k via 0 n)
+    ]
 
 -- what one look at a link leaves
 record IsNoted (links : List Link) (nodes : ℕ) (row nexts other : List ℕ) (from via cost : ℕ) : Type 0 where
@@ -90,9 +92,9 @@ record IsDone (row nexts : List ℕ) (link : Link) : Type 0 where
 
 done_below : (row nexts other : List ℕ) (link : Link) → IsBelow nexts other → IsDone row nexts link → IsDone row other link
 done_below row nexts other link h d = record {
-    there = λ e. omega (arith, d.there e, h.below link.a.0);
-    here = λ e. omega (arith, d.here e, h.below link.b.0);
-  }
+  there = λ e. omega (arith, d.there e, h.below link.a.0);
+  here = λ e. omega (arith, d.here e, h.below link.b.0);
+}
 
 record IsLinkNoted (links : List Link) (nodes : ℕ) (row nexts other : List ℕ) (link : Link) : Type 0 where
   sound : IsSoundStep links nodes row other
@@ -123,7 +125,7 @@ all_noted links nodes row (link ∷ more) nexts t c h =
       sound = rest.sound;
       below = below_through nexts (noted_link row nexts link) (noted_all row (noted_link row nexts link) more) first.below rest.below;
       done = All-cons (IsDone row (noted_all row (noted_link row nexts link) more)) link more
-        (done_below row (noted_link row nexts link) (noted_all row (noted_link row nexts link) more) link rest.below first.done) rest.done;
+          (done_below row (noted_link row nexts link) (noted_all row (noted_link row nexts link) more) link rest.below first.done) rest.done;
     }
 
 -- the first row, in which no first step is known

@@ -1,11 +1,11 @@
 -- Tables of rows end to end.
-use Rattle.std.proofs.Common.{◌≡◌, ◌≢◌, ◌⊎◌, ◌+◌, ◌*◌, ◌-◌, ◌≤◌, ◌<◌, ℕ, List, [], ◌∷◌, ◌++◌, length, get_or, inl, inr, subst, sym, refl, ap, ◌∙◌, arith, length-append}
+use Rattle.std.proofs.Common.{◌≡◌, ◌≢◌, ◌+◌, ◌*◌, ◌<◌, ℕ, List, [], ◌++◌, length, get_or, inl, inr, subst, sym, ap, ◌∙◌, arith, length-append}
 use Rattle.std.proofs.lemmas.Bool.{cases_eq}
 use Rattle.std.proofs.lemmas.Nat.{mul-add-lt}
 use Rattle.std.proofs.lemmas.List.{get_or_append_left, get_or-append-add, get_or_read}
 use Rattle.mv_base.specs.declared.core_link.Link.{Link}
 use Rattle.core_paths.specs.Walks.{Reaches, IsLeast, IsToward}
-use Rattle.core_paths.specs.Topology.{Topology, IsTopology, IsConnected, IsFirstUnreached}
+use Rattle.core_paths.specs.Topology.{Topology, IsConnected, IsFirstUnreached}
 use Rattle.core_paths.specs.Rows.{far, IsCostRow, IsStepRow, IsFirstFar, IsNear}
 use Rattle.core_paths.specs.Tables.{IsCostTable, IsStepTable}
 use Rattle.core_paths.proofs.WalkLemmas.{reaches_back, reaches_through}
@@ -38,20 +38,22 @@ more_costs links nodes upto table row h r near = record { size = size_more table
   where
     least : (from to : ℕ) → from < nodes → to < upto + 1 → IsLeast links from to (get_or (table ++ row) (to * nodes + from) 0)
     least from to l b = elim (cases_eq to upto) [
-        inl e ↦ subst (λ (x : ℕ). IsLeast links from to x) (sym (entry_in table row nodes upto from to h.size e)) (subst (λ (y : ℕ). IsLeast links from y (get_or row from 0)) (sym e) (r.least from l (near from l)))
-        | inr n ↦
+      | inl e ↦ subst (λ (x : ℕ). IsLeast links from to x) (sym (entry_in table row nodes upto from to h.size e)) (subst (λ (y : ℕ). IsLeast links from y (get_or row from 0)) (sym e) (r.least from l (near from l)))
+      | inr n ↦
           let earlier : to < upto = omega arith in
-          subst (λ (x : ℕ). IsLeast links from to x) (sym (entry_before table row nodes upto from to h.size l earlier)) (h.least from to l earlier) ]
+          subst (λ (x : ℕ). IsLeast links from to x) (sym (entry_before table row nodes upto from to h.size l earlier)) (h.least from to l earlier)
+    ]
 
 pub more_steps : (links : List Link) (nodes upto : ℕ) (table row : List ℕ) → IsStepTable links nodes upto table → IsStepRow links nodes upto row → IsStepTable links nodes (upto + 1) (table ++ row)
 more_steps links nodes upto table row h r = record { size = size_more table row nodes upto h.size r.size; toward = toward }
   where
     toward : (from to : ℕ) → from < nodes → to < upto + 1 → from ≢ to → IsToward links from to (get_or (table ++ row) (to * nodes + from) 0)
     toward from to l b d = elim (cases_eq to upto) [
-        inl e ↦ subst (λ (x : ℕ). IsToward links from to x) (sym (entry_in table row nodes upto from to h.size e)) (subst (λ (y : ℕ). IsToward links from y (get_or row from 0)) (sym e) (r.toward from l (λ s. d (s ∙ sym e))))
-        | inr n ↦
+      | inl e ↦ subst (λ (x : ℕ). IsToward links from to x) (sym (entry_in table row nodes upto from to h.size e)) (subst (λ (y : ℕ). IsToward links from y (get_or row from 0)) (sym e) (r.toward from l (λ s. d (s ∙ sym e))))
+      | inr n ↦
           let earlier : to < upto = omega arith in
-          subst (λ (x : ℕ). IsToward links from to x) (sym (entry_before table row nodes upto from to h.size l earlier)) (h.toward from to l earlier d) ]
+          subst (λ (x : ℕ). IsToward links from to x) (sym (entry_before table row nodes upto from to h.size l earlier)) (h.toward from to l earlier d)
+    ]
 
 -- ---- which nodes are reached
 
@@ -64,10 +66,10 @@ reached_from links nodes root row k h l near =
 -- The first place of the row toward node 0 with the entry `far` is the lowest node that is not reached.
 pub first_unreached : (links : List Link) (nodes : ℕ) (row : List ℕ) (place : ℕ) → IsCostRow links nodes 0 row → IsFirstFar row place → IsFirstUnreached nodes links place
 first_unreached links nodes row place h first = record {
-    within = let x = first.within in let s = h.size in omega arith;
-    unreached = λ r. let e = first.here in absurd (omega (arith, h.near place (let x = first.within in let s = h.size in omega arith) (reaches_back links 0 place r)));
-    lower = λ other l. reached_from links nodes 0 row other h (let x = first.within in let s = h.size in omega arith) (let n = first.lower other l in omega (arith, h.top other));
-  }
+  within = let x = first.within in let s = h.size in omega arith;
+  unreached = λ r. let e = first.here in absurd (omega (arith, h.near place (let x = first.within in let s = h.size in omega arith) (reaches_back links 0 place r)));
+  lower = λ other l. reached_from links nodes 0 row other h (let x = first.within in let s = h.size in omega arith) (let n = first.lower other l in omega (arith, h.top other));
+}
 
 -- Where no entry of that row is `far`, each node is reached.
 pub all_reached : (links : List Link) (nodes : ℕ) (row : List ℕ) → IsCostRow links nodes 0 row → IsNear row → IsConnected nodes links

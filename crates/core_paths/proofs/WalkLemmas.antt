@@ -1,9 +1,9 @@
 -- Walks end to end and back.
-use Rattle.std.proofs.Common.{◌≡◌, ◌⊎◌, ◌+◌, ◌≤◌, ◌<◌, ℕ, List, [], ◌∷◌, ◌++◌, length, inl, inr, subst, sym, refl, arith}
-use Rattle.std.specs.List.{All, Contains}
+use Rattle.std.proofs.Common.{◌≡◌, ◌⊎◌, ◌+◌, ◌≤◌, ◌<◌, ℕ, List, [], ◌∷◌, inl, inr, subst, sym, refl, arith}
+use Rattle.std.specs.List.{Contains}
 use Rattle.std.proofs.lemmas.List.Elements.{All-contains}
 use Rattle.mv_base.specs.declared.core_link.Link.{Link}
-use Rattle.core_paths.specs.Walks.{IsLinked, IsWalk, Reaches, IsLeast, IsFirstStep, IsToward}
+use Rattle.core_paths.specs.Walks.{IsLinked, IsWalk, Reaches}
 use Rattle.core_paths.specs.Topology.{HasEnds, HasCost, IsTopology}
 
 turned : (a b c d : ℕ) → (p q : ℕ) → ((p ≡ a) × (q ≡ b)) ⊎ ((p ≡ b) × (q ≡ a)) → ((p ≡ b) × (q ≡ a)) ⊎ ((p ≡ a) × (q ≡ b))

@@ -1,7 +1,7 @@
--- Walks through the core, and which of them cost least. A branch of a multipoint LSP leaves its leaf by the next hop on
--- the best path to the root (RFC 6388 section 2.4.1.1); the shortest paths of an IGP are what is said here over walks.
--- Nodes are given by their numbers.
-use Rattle.std.specs.Prelude.{◌≡◌, ◌⊎◌, ◌+◌, ◌≤◌, ◌<◌, ℕ, List, [], ◌∷◌, Contains}
+-- Walks through the core, and which of them cost least. The upstream LSR of a node in a multipoint LSP is the next hop on
+-- the best path to the root (RFC 6388 section 2.4.1.1). Which path is best is left to routing there; here it is a walk of
+-- least cost. Nodes are given by their numbers.
+use Rattle.std.specs.Prelude.{◌≡◌, ◌⊎◌, ◌+◌, ◌≤◌, ℕ, List, [], ◌∷◌, Contains}
 use Rattle.mv_base.specs.declared.core_link.Link.{Link}
 
 -- a link of the list has these two ends, in either order, and this cost

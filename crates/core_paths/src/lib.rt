@@ -8,3 +8,6 @@ mod steps;
 mod tables;
 
 pub use paths::{Core, CoreFault};
+
+#[cfg(test)]
+mod tests;

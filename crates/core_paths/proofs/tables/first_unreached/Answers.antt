@@ -1,4 +1,4 @@
-use Rattle.std.proofs.Common.{◌≡◌, List, ℕ, subst}
+use Rattle.std.proofs.Common.{List, ℕ, subst}
 use Rattle.core_paths.specs.Rows.{IsFirstFar, IsNear}
 use Rattle.core_paths.proofs.TableLemmas.{first_unreached, all_reached}
 use Rattle.core_paths.proofs.tables.first_unreached.Goals as goal

@@ -1,4 +1,4 @@
-use Rattle.std.proofs.Common.{arith, ◌∙◌}
+use Rattle.std.proofs.Common.{arith}
 use Rattle.core_paths.proofs.TableLemmas.{in_table, cost_at}
 use Rattle.core_paths.proofs.paths.Core.cost.Goals as goal
 

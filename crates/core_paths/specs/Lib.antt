@@ -1,0 +1,4 @@
+pub mod Walks
+pub mod Topology
+pub mod Rows
+pub mod Tables

@@ -1,0 +1,4 @@
+pub mod MarksLemmas
+pub mod NumbersLemmas
+pub mod RestingLemmas
+pub mod LabelLemmas

@@ -1,0 +1,4 @@
+pub mod Labels
+pub mod Marks
+pub mod Numbers
+pub mod Resting

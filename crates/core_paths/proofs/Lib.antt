@@ -1,4 +1,3 @@
-pub mod WalkLemmas
 pub mod RowLemmas
 pub mod StepLemmas
 pub mod TableLemmas

@@ -1,4 +1,2 @@
-pub mod Walks
-pub mod Topology
 pub mod Rows
 pub mod Tables

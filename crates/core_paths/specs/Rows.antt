@@ -1,7 +1,7 @@
 -- Rows: an entry for each node, all toward one node.
 use Rattle.std.specs.Prelude.{◌≡◌, ◌≢◌, ◌+◌, ◌<◌, ◌≤◌, ◌&&◌, ◌==◌, ℕ, Bool, nat_lt, nat_le, List, fold, length, slice_index, slice_set, if◌then◌else◌}
 use Rattle.mv_base.specs.declared.core_link.Link.{Link}
-use Rattle.core_paths.specs.Walks.{Reaches, IsLeast, IsToward}
+use Rattle.core_walks.specs.Walks.{Reaches, IsLeast, IsToward}
 
 -- the entry of a node from which no walk is known
 abbrev pub far : ℕ

@@ -1,8 +1,8 @@
 //! The core of the provider's network.
 ghost use Rattle.std.specs.Prelude.{◌≡◌, ◌<◌, ◌+◌, ◌*◌, ◌↔◌, IfOk, IfSome};
 ghost use Rattle.mv_base.specs.declared.ids.NodeId.{NodeId};
-ghost use Rattle.core_paths.specs.Walks.{IsLeast, IsToward};
-ghost use Rattle.core_paths.specs.Topology.{IsTopology, IsConnected, IsFirstUnreached};
+ghost use Rattle.core_walks.specs.Walks.{IsLeast, IsToward};
+ghost use Rattle.core_walks.specs.Topology.{IsTopology, IsConnected, IsFirstUnreached};
 
 use crate::tables::{Tables, all_rows, first_unreached};
 use mv_base::{Link, NoMemory, NodeId};
@@ -19,7 +19,7 @@ pub struct Core {
 }
 
 impl Model for Core {
-    ghost use Rattle.core_paths.specs.Topology.{Topology};
+    ghost use Rattle.core_walks.specs.Topology.{Topology};
     ghost use Rattle.core_paths.specs.Tables.{IsCore};
 
     ghost Value = { Topology };

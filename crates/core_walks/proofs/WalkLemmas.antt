@@ -3,8 +3,8 @@ use Rattle.std.proofs.Common.{◌≡◌, ◌⊎◌, ◌+◌, ◌≤◌, ◌<◌,
 use Rattle.std.specs.List.{Contains}
 use Rattle.std.proofs.lemmas.List.Elements.{All-contains}
 use Rattle.mv_base.specs.declared.core_link.Link.{Link}
-use Rattle.core_paths.specs.Walks.{IsLinked, IsWalk, Reaches}
-use Rattle.core_paths.specs.Topology.{HasEnds, HasCost, IsTopology}
+use Rattle.core_walks.specs.Walks.{IsLinked, IsWalk, Reaches}
+use Rattle.core_walks.specs.Topology.{HasEnds, HasCost, IsTopology}
 
 turned : (a b c d : ℕ) → (p q : ℕ) → ((p ≡ a) × (q ≡ b)) ⊎ ((p ≡ b) × (q ≡ a)) → ((p ≡ b) × (q ≡ a)) ⊎ ((p ≡ a) × (q ≡ b))
 turned a b c d p q (inl h) = inr h

@@ -2,7 +2,7 @@
 use Rattle.std.specs.Prelude.{◌≡◌, ◌⊎◌, ◌≢◌, ◌≤◌, ◌<◌, ℕ, List, length, All}
 use Rattle.std.specs.List.{AllPairs}
 use Rattle.mv_base.specs.declared.core_link.Link.{Link}
-use Rattle.core_paths.specs.Walks.{Reaches}
+use Rattle.core_walks.specs.Walks.{Reaches}
 
 -- how many nodes there are, which have the numbers below that, and the links between them
 pub record Topology : Type 0 where

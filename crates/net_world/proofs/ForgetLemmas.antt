@@ -13,7 +13,7 @@ use Rattle.pim_joinprune.specs.declared.source.SourceKind.TheVariants as kinds
 use Rattle.pim_joinprune.specs.declared.source.JpSource.{JpSource}
 use Rattle.pim_joinprune.specs.declared.group.Group.{Group}
 use Rattle.pim_joinprune.specs.declared.message.JoinPrune.{JoinPrune}
-use Rattle.pim_defs.specs.declared.entry.IfaceEntry.{IfaceEntry}
+use Rattle.scenario_defs.specs.declared.event.IfaceEntry.{IfaceEntry}
 use Rattle.pim_defs.specs.Expiry.{counts}
 use Rattle.pim_defs.specs.Mention.{same_entry, entry_by, entry_of, lists, mention_of, expiry_after}
 use Rattle.pim_defs.specs.Entries.{Entries, expiry_at, applied, asks}

@@ -15,7 +15,7 @@ use Rattle.scenario_defs.specs.declared.event.JoinEntry.TheVariants.{Star, Sourc
 use Rattle.pim_joinprune.specs.declared.source.JpSource.{JpSource}
 use Rattle.pim_joinprune.specs.declared.group.Group.{Group}
 use Rattle.pim_joinprune.specs.declared.message.JoinPrune.{JoinPrune}
-use Rattle.pim_defs.specs.declared.entry.IfaceEntry.{IfaceEntry}
+use Rattle.scenario_defs.specs.declared.event.IfaceEntry.{IfaceEntry}
 use Rattle.pim_defs.specs.declared.expiry.Expiry.{Expiry}
 use Rattle.pim_defs.specs.declared.mention.Mention.{Mention}
 use Rattle.pim_defs.specs.Expiry.{counts, remaining}

@@ -2,16 +2,9 @@
 ghost use Rattle.std.specs.Prelude.{◌≡◌};
 ghost use Rattle.pim_defs.specs.Mention.{entry_of, group_of, same_entry};
 
-use mv_base::{Addr, IfaceId};
+use mv_base::Addr;
 use pim_joinprune::{JpSource, SourceKind};
 use scenario_defs::JoinEntry;
-
-/// An entry of an interface: (*,G) or (S,G) joined, or (S,G,rpt) pruned, by its customer router (RFC 7761 section 4.1).
-#[derive(Clone, Copy, Debug, PartialEq, Eq, Hash)]
-pub struct IfaceEntry {
-    pub iface: IfaceId,
-    pub entry: JoinEntry,
-}
 
 /// The entry that a source of a group in a message names (RFC 7761 section 4.9.1).
 pub fn entry_of(group: Addr, source: &JpSource) -> JoinEntry

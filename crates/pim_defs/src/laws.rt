@@ -3,7 +3,7 @@ ghost use Rattle.std.specs.Prelude.{◌≡◌, ℕ};
 ghost use Rattle.std.specs.FinMap.{get};
 ghost use Rattle.mv_base.specs.declared.ids.IfaceId.{IfaceId};
 ghost use Rattle.pim_joinprune.specs.declared.message.JoinPrune.{JoinPrune};
-ghost use Rattle.pim_defs.specs.declared.entry.IfaceEntry.{IfaceEntry};
+ghost use Rattle.scenario_defs.specs.declared.event.IfaceEntry.{IfaceEntry};
 ghost use Rattle.pim_defs.specs.Expiry.{remaining};
 ghost use Rattle.pim_defs.specs.Entries.{Entries, applied, expiry_then, kept_at};
 

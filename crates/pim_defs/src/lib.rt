@@ -10,7 +10,7 @@ mod mention;
 mod single;
 
 pub use asking::asks_by;
-pub use entry::{IfaceEntry, entry_of, group_of};
+pub use entry::{entry_of, group_of};
 pub use expiry::{Expiry, counts, extended};
 pub use laws::each_entry;
 pub use mention::{Mention, expiry_after, mention_of};

@@ -13,7 +13,7 @@ use Rattle.scenario_defs.specs.declared.event.JoinEntry.{JoinEntry}
 use Rattle.scenario_defs.specs.declared.event.JoinEntry.TheVariants.{Star, Source, Rpt}
 use Rattle.pim_joinprune.specs.declared.source.JpSource.{JpSource}
 use Rattle.pim_joinprune.specs.declared.message.JoinPrune.{JoinPrune}
-use Rattle.pim_defs.specs.declared.entry.IfaceEntry.{IfaceEntry}
+use Rattle.scenario_defs.specs.declared.event.IfaceEntry.{IfaceEntry}
 use Rattle.pim_defs.specs.declared.expiry.Expiry.{Expiry}
 use Rattle.pim_defs.specs.Mention.{entry_of, same_entry, lists, group_of, mention_of, expiry_after}
 use Rattle.pim_defs.specs.Entries.{Entries, applied}

@@ -7,7 +7,7 @@ use Rattle.mv_base.specs.declared.addr.Addr.{Addr}
 use Rattle.mv_base.specs.declared.addr.Addr.TheVariants.{V4, V6}
 use Rattle.scenario_defs.specs.declared.event.JoinEntry.{JoinEntry}
 use Rattle.scenario_defs.specs.declared.event.JoinEntry.TheVariants.{Star, Source, Rpt}
-use Rattle.pim_defs.specs.declared.entry.IfaceEntry.{IfaceEntry}
+use Rattle.scenario_defs.specs.declared.event.IfaceEntry.{IfaceEntry}
 use Rattle.pim_defs.specs.declared.expiry.Expiry.{Expiry}
 use Rattle.pim_defs.specs.declared.expiry.Expiry.TheVariants.{At, Never}
 use Rattle.pim_defs.specs.Entries.{Entries}

@@ -5,7 +5,7 @@ ghost use Rattle.std.specs.FinMap.{from_entries};
 ghost use Rattle.indexmap.specs.IndexMap.{get, keys, IsUnique};
 ghost use Rattle.scenario_defs.specs.declared.event.JoinEntry.{JoinEntry};
 ghost use Rattle.pim_joinprune.specs.declared.message.JoinPrune.{JoinPrune};
-ghost use Rattle.pim_defs.specs.declared.entry.IfaceEntry.{IfaceEntry};
+ghost use Rattle.scenario_defs.specs.declared.event.IfaceEntry.{IfaceEntry};
 ghost use Rattle.pim_defs.specs.Mention.{lists};
 ghost use Rattle.pim_defs.specs.Entries.{applied};
 ghost use Rattle.pim_state.specs.Changes.{changed_by};
@@ -14,9 +14,9 @@ ghost use Rattle.pim_state.specs.Plan.{is_among, is_at, is_named, is_shared, may
 use crate::changes::Changes;
 use indexmap::{IndexMap, IndexSet};
 use mv_base::{Addr, IfaceId, NoMemory};
-use pim_defs::{Expiry, IfaceEntry, Mention, entry_of, expiry_after, group_of};
+use pim_defs::{Expiry, Mention, entry_of, expiry_after, group_of};
 use pim_joinprune::{Group, JoinPrune, JpSource};
-use scenario_defs::JoinEntry;
+use scenario_defs::{IfaceEntry, JoinEntry};
 use std::alloc::Global;
 
 /// Adds the entries that the sources of a group name.

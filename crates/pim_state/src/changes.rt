@@ -2,13 +2,14 @@
 ghost use Rattle.std.specs.Prelude.{◌≡◌, ◌<◌, ◌≤◌, ◌+◌, ◌^◌, if◌then◌else◌, is_some, count_by, OnOk, OnErr};
 ghost use Rattle.std.specs.FinMap.{from_entries, len};
 ghost use Rattle.indexmap.specs.IndexMap.{get, keys, values, spare, IsUnique, Updates};
-ghost use Rattle.pim_defs.specs.declared.entry.IfaceEntry.{IfaceEntry};
+ghost use Rattle.scenario_defs.specs.declared.event.IfaceEntry.{IfaceEntry};
 ghost use Rattle.pim_state.specs.Changes.{changed_by, then_at};
 ghost use Rattle.pim_state.specs.Plan.{is_at};
 
 use indexmap::IndexMap;
 use mv_base::NoMemory;
-use pim_defs::{Expiry, IfaceEntry};
+use pim_defs::Expiry;
+use scenario_defs::IfaceEntry;
 
 /// Entries that may change, each with its expiry then, where it is there then.
 pub(crate) type Changes = IndexMap<IfaceEntry, Option<Expiry>>;

@@ -10,9 +10,9 @@ use crate::arrival::Arrival;
 use crate::changes::{apply, count_after};
 use indexmap::IndexMap;
 use mv_base::{Addr, IfaceId, NoMemory};
-use pim_defs::{Expiry, IfaceEntry, counts};
+use pim_defs::{Expiry, counts};
 use pim_joinprune::JoinPrune;
-use scenario_defs::JoinEntry;
+use scenario_defs::{IfaceEntry, JoinEntry};
 use std::alloc::Global;
 use std::marker::Model;
 

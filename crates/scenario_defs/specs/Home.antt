@@ -1,5 +1,5 @@
 -- The home of a source in a VPN: the site with the longest prefix that covers it (RFC 6513 section 5.1).
-use Rattle.std.specs.Prelude.{◌≡◌, ℕ, ◌+◌, ◌≤◌, nat_le, true, false, List, [], ◌∷◌, ◌++◌, map, filter, slice_get, Option, None, Some, option_map, if◌then◌else◌}
+use Rattle.std.specs.Prelude.{◌≡◌, ℕ, ◌+◌, ◌≤◌, nat_le, Bool, true, false, List, [], ◌∷◌, ◌++◌, map, filter, slice_get, Option, None, Some, option_map, if◌then◌else◌}
 use Rattle.mv_base.specs.declared.ids.VrfId.{VrfId}
 use Rattle.mv_base.specs.declared.ids.SiteId.{SiteId}
 use Rattle.mv_base.specs.declared.addr.Addr.{Addr}
@@ -8,21 +8,25 @@ use Rattle.mv_base.specs.Prefix.{covers}
 use Rattle.scenario_defs.specs.declared.scenario.Site.{Site}
 use Rattle.scenario_defs.specs.declared.scenario.Scenario.{Scenario}
 use Rattle.scenario_defs.specs.declared.scenario.Route.{Route}
-use Rattle.scenario_defs.specs.Vpn.{is_attached}
+use Rattle.scenario_defs.specs.Vpn.{is_attached, is_attached_at}
 
 -- a site's prefixes, each with the site
 abbrev pub routes_of_site : SiteId → List Prefix → List Route
 routes_of_site site prefixes = map (λ prefix. record { prefix = prefix; site = site }) prefixes
 
--- the routes of those of the sites, numbered from that one on, that are attached to the VRF's VPN
-abbrev pub routes_from : Scenario → VrfId → ℕ → List Site → List Route
-routes_from scenario vrf number [] = []
-routes_from scenario vrf number (site ∷ more) =
-    (if is_attached scenario vrf (record { 0 = number }) then routes_of_site (record { 0 = number }) site.prefixes else []) ++ routes_from scenario vrf (number + 1) more
+-- the routes of those of the sites, numbered from that one on, that pass a test
+abbrev pub routes_from : (SiteId → Bool) → ℕ → List Site → List Route
+routes_from passes number [] = []
+routes_from passes number (site ∷ more) =
+    (if passes (record { 0 = number }) then routes_of_site (record { 0 = number }) site.prefixes else []) ++ routes_from passes (number + 1) more
 
--- the routes of a VRF's VPN: each prefix of each attached site
+-- the routes of a VRF's VPN: each prefix of each site that is attached to the VPN
 abbrev pub routes : Scenario → VrfId → List Route
-routes scenario vrf = routes_from scenario vrf 0 scenario.sites
+routes scenario vrf = routes_from (is_attached scenario vrf) 0 scenario.sites
+
+-- the local routes of a VRF: each prefix of each site that is attached at the VRF itself
+abbrev pub local_routes : Scenario → VrfId → List Route
+local_routes scenario vrf = routes_from (is_attached_at scenario vrf) 0 scenario.sites
 
 -- the longer of two routes, and the first of two that are equally long
 abbrev pub longer : Option Route → Route → Option Route
@@ -41,6 +45,11 @@ home_by all source = option_map (λ route. route.site) (longest_after None (filt
 -- the site that is home of the source in the VRF's VPN
 abbrev pub home : Scenario → VrfId → Addr → Option SiteId
 home scenario vrf source = home_by (routes scenario vrf) source
+
+-- The upstream choice of a VRF that knows no route but its local ones: the site of the longest that covers the source
+-- (RFC 6513 section 5.1).
+abbrev pub local_choice : Scenario → VrfId → Addr → Option SiteId
+local_choice scenario vrf source = home_by (local_routes scenario vrf) source
 
 -- The site is that of a route that covers the source, and no route that covers it is longer.
 pub record IsLongest (all : List Route) (source : Addr) (site : SiteId) : Type 0 where

@@ -1,4 +1,6 @@
 pub mod Vpn
 pub mod Home
+pub mod Names
+pub mod Prefixes
 pub mod Rules
 pub mod Text

@@ -1,11 +1,21 @@
 -- What every scenario and script that is read meets.
-use Rattle.std.specs.Prelude.{◌≡◌, ℕ, ◌<◌, ◌≤◌, true, false, List, [], ◌∷◌, length, slice_get, slice_index, Some}
+use Rattle.std.specs.Prelude.{◌≡◌, ◌≢◌, ◌⊎◌, ℕ, ◌<◌, ◌≤◌, true, false, List, [], ◌∷◌, length, slice_get, slice_index, Option, Some, All, AllPairs, count_by}
 use Rattle.std.specs.List.{AllByRecursion}
+use Rattle.mv_base.specs.declared.ids.NodeId.{NodeId}
 use Rattle.mv_base.specs.declared.addr.Addr.{Addr}
 use Rattle.mv_base.specs.declared.addr.Addr.TheVariants.{V4, V6}
-use Rattle.route_targets.specs.Targets.{same}
+use Rattle.mv_base.specs.declared.prefix.Prefix.{Prefix}
+use Rattle.mv_base.specs.declared.rd.Rule.{Rule}
+use Rattle.mv_base.specs.declared.rd.Rule.TheVariants.{Highest, Nearest}
+use Rattle.mv_base.specs.Address.{same_addr}
+use Rattle.mv_base.specs.Prefix.{IsPrefixOf}
+use Rattle.core_walks.specs.Topology.{IsTopology, IsConnected}
+use Rattle.route_targets.specs.Targets.{same_target, same, shares}
+use Rattle.scenario_defs.specs.declared.scenario.Node.{Node}
 use Rattle.scenario_defs.specs.declared.scenario.Vrf.{Vrf}
+use Rattle.scenario_defs.specs.declared.scenario.Site.{Site}
 use Rattle.scenario_defs.specs.declared.scenario.Iface.{Iface}
+use Rattle.scenario_defs.specs.declared.scenario.Thing.{Thing}
 use Rattle.scenario_defs.specs.declared.scenario.Scenario.{Scenario}
 use Rattle.scenario_defs.specs.declared.event.Timed.{Timed}
 use Rattle.scenario_defs.specs.declared.event.Script.{Script}
@@ -13,39 +23,121 @@ use Rattle.scenario_defs.specs.declared.event.Event.{Event}
 use Rattle.scenario_defs.specs.declared.event.Event.TheVariants as events
 use Rattle.scenario_defs.specs.declared.event.JoinEntry.{JoinEntry}
 use Rattle.scenario_defs.specs.declared.event.JoinEntry.TheVariants as entries
+use Rattle.scenario_defs.specs.Names.{is_name, name_of}
+use Rattle.scenario_defs.specs.Prefixes.{prefixes_of, same_prefix, share_prefix}
 use Rattle.scenario_defs.specs.Vpn.{same_vpn}
+
+-- ---- addresses
 
 -- an address of IPv4
 abbrev pub IsIpv4 : Addr → Type 0
 IsIpv4 (V4 octets) = length octets ≡ 4
 IsIpv4 (V6 octets) = ⊥
 
--- The rules of a scenario. `vpn` and `mixed` speak of each pair once, in order of declaration.
-pub record Rules (scenario : Scenario) : Type 0 where
-  -- the core is connected: no line makes a link yet
-  pub connected : length scenario.nodes ≤ 1
-  pub few_vrfs : length scenario.vrfs ≤ 256
-  pub few_sites : length scenario.sites ≤ 512
-  pub few_ifaces : length scenario.ifaces ≤ 1024
-  pub edge_known : (v : ℕ) (vrf : Vrf) → slice_get scenario.vrfs v ≡ Some vrf → vrf.edge.0 < length scenario.nodes
-  pub has_targets : (v : ℕ) (vrf : Vrf) → slice_get scenario.vrfs v ≡ Some vrf → 0 < length vrf.targets
-  -- no two VRFs of an edge have equal target sets
-  pub vpn : (v w : ℕ) (vrf other : Vrf) → v < w → slice_get scenario.vrfs v ≡ Some vrf → slice_get scenario.vrfs w ≡ Some other → vrf.edge.0 ≡ other.edge.0 → same vrf.targets other.targets ≡ false
-  pub vrf_known : (i : ℕ) (iface : Iface) → slice_get scenario.ifaces i ≡ Some iface → iface.vrf.0 < length scenario.vrfs
-  pub site_known : (i : ℕ) (iface : Iface) → slice_get scenario.ifaces i ≡ Some iface → iface.site.0 < length scenario.sites
-  pub iface_ipv4 : (i : ℕ) (iface : Iface) → slice_get scenario.ifaces i ≡ Some iface → IsIpv4 iface.addr
-  -- all interfaces of a site are in VRFs of one VPN
-  pub mixed : (i j : ℕ) (iface other : Iface) → i < j → slice_get scenario.ifaces i ≡ Some iface → slice_get scenario.ifaces j ≡ Some other → iface.site.0 ≡ other.site.0 → same_vpn scenario iface.vrf other.vrf ≡ true
-
--- A source is an IPv4 address whose first octet is 1 to 223.
-abbrev pub IsSource : Addr → Type 0
-IsSource (V4 octets) = (length octets ≡ 4) × (1 ≤ slice_index octets 0) × (slice_index octets 0 ≤ 223)
-IsSource (V6 octets) = ⊥
+-- A node and a source have an IPv4 address whose first octet is 1 to 223.
+abbrev pub IsUnicast : Addr → Type 0
+IsUnicast (V4 octets) = (length octets ≡ 4) × (1 ≤ slice_index octets 0) × (slice_index octets 0 ≤ 223)
+IsUnicast (V6 octets) = ⊥
 
 -- A group is an IPv4 address whose first octet is 224 to 239, outside 224.0.0.0/24 (RFC 5771 section 4).
 abbrev pub IsGroup : Addr → Type 0
 IsGroup (V4 octets) = (length octets ≡ 4) × (224 ≤ slice_index octets 0) × (slice_index octets 0 ≤ 239) × (slice_index octets 0 ≡ 224 → slice_index octets 1 ≡ 0 → slice_index octets 2 ≡ 0 → ⊥)
 IsGroup (V6 octets) = ⊥
+
+-- ---- the rules of a scenario
+
+-- the bounds of the settings
+pub record SettingRules (scenario : Scenario) : Type 0 where
+  pub life : (1 ≤ scenario.life) × (scenario.life ≤ 1000)
+  pub delay : (1 ≤ scenario.delay) × (scenario.delay ≤ 1000)
+  pub labels : (1 ≤ scenario.labels) × (scenario.labels ≤ 65536)
+  pub system : (1 ≤ scenario.system) × (scenario.system ≤ 65535)
+
+-- Nodes and links: at most 32 nodes are edges, each node has a unicast address of its own, and the links join two nodes
+-- each, no two of them the same.
+pub record CoreRules (scenario : Scenario) : Type 0 where
+  pub topology : IsTopology (length scenario.nodes) scenario.links
+  pub few_edges : count_by (λ node. node.edge) scenario.nodes ≤ 32
+  pub unicast : All (λ node. IsUnicast node.addr) scenario.nodes
+  pub addresses : AllPairs (λ node other. same_addr node.addr other.addr ≡ false) scenario.nodes
+
+-- the node of that number is an edge
+pub record IsEdge (scenario : Scenario) (number : NodeId) : Type 0 where
+  pub node : Node
+  pub at : slice_get scenario.nodes number.0 ≡ Some node
+  pub edge : node.edge ≡ true
+
+-- A VRF is of an edge, has a number of 1 to 4095, and 1 to 8 targets, no two of them the same.
+pub record IsVrf (scenario : Scenario) (vrf : Vrf) : Type 0 where
+  pub edge : IsEdge scenario vrf.edge
+  pub number : (1 ≤ vrf.number) × (vrf.number ≤ 4095)
+  pub some : 0 < length vrf.targets
+  pub few : length vrf.targets ≤ 8
+  pub distinct : AllPairs (λ target other. same_target target other ≡ false) vrf.targets
+  pub rule : (vrf.rule ≡ Highest) ⊎ (vrf.rule ≡ Nearest)
+
+-- Two VRFs have equal target sets or sets without a common member. At one edge their numbers and route distinguishers
+-- differ, and their sets are not equal.
+pub record AreApart (vrf other : Vrf) : Type 0 where
+  pub overlap : (same vrf.targets other.targets ≡ true) ⊎ (shares vrf.targets other.targets ≡ false)
+  pub vpn : vrf.edge.0 ≡ other.edge.0 → same vrf.targets other.targets ≡ false
+  pub numbers : vrf.edge.0 ≡ other.edge.0 → vrf.number ≢ other.number
+  pub rds : vrf.edge.0 ≡ other.edge.0 → vrf.rd ≢ other.rd
+
+pub record VrfRules (scenario : Scenario) : Type 0 where
+  pub few : length scenario.vrfs ≤ 256
+  pub each : All (IsVrf scenario) scenario.vrfs
+  pub apart : AllPairs AreApart scenario.vrfs
+
+-- a prefix of IPv4 without a bit behind its length
+pub record IsSitePrefix (prefix : Prefix) : Type 0 where
+  pub ipv4 : IsIpv4 prefix.addr
+  pub bits : IsPrefixOf prefix.addr prefix.bits
+
+-- A site has 1 to 8 prefixes, no two of them the same.
+pub record IsSite (site : Site) : Type 0 where
+  pub some : 0 < length site.prefixes
+  pub few : length site.prefixes ≤ 8
+  pub each : All IsSitePrefix site.prefixes
+  pub distinct : AllPairs (λ prefix other. same_prefix prefix other ≡ false) site.prefixes
+
+pub record SiteRules (scenario : Scenario) : Type 0 where
+  pub few : length scenario.sites ≤ 512
+  pub each : All IsSite scenario.sites
+
+-- An interface attaches a site to a VRF.
+pub record IsIface (scenario : Scenario) (iface : Iface) : Type 0 where
+  pub vrf : iface.vrf.0 < length scenario.vrfs
+  pub site : iface.site.0 < length scenario.sites
+  pub ipv4 : IsIpv4 iface.addr
+
+-- Two interfaces of one site are in VRFs of one VPN. Two sites that are attached to one VPN share no prefix.
+pub record AreOfVpns (scenario : Scenario) (iface other : Iface) : Type 0 where
+  pub mixed : iface.site.0 ≡ other.site.0 → same_vpn scenario iface.vrf other.vrf ≡ true
+  pub taken : iface.site.0 ≢ other.site.0 → same_vpn scenario iface.vrf other.vrf ≡ true → share_prefix (prefixes_of scenario other.site) (prefixes_of scenario iface.site) ≡ false
+
+pub record IfaceRules (scenario : Scenario) : Type 0 where
+  pub few : length scenario.ifaces ≤ 1024
+  pub each : All (IsIface scenario) scenario.ifaces
+  pub vpns : AllPairs (AreOfVpns scenario) scenario.ifaces
+
+-- Each thing has a name of its own.
+pub record NameRules (scenario : Scenario) : Type 0 where
+  pub formed : (thing : Thing) (name : List ℕ) → name_of scenario thing ≡ Some name → is_name name ≡ true
+  pub distinct : (thing other : Thing) (name : List ℕ) → name_of scenario thing ≡ Some name → name_of scenario other ≡ Some name → thing ≡ other
+
+-- The rules of a scenario. `apart`, `vpns` and the other relations of two things speak of each pair once, in order of
+-- declaration.
+pub record Rules (scenario : Scenario) : Type 0 where
+  pub settings : SettingRules scenario
+  pub core : CoreRules scenario
+  pub connected : IsConnected (length scenario.nodes) scenario.links
+  pub vrfs : VrfRules scenario
+  pub sites : SiteRules scenario
+  pub ifaces : IfaceRules scenario
+  pub names : NameRules scenario
+
+-- ---- the rules of a script
 
 -- The most octets that a line gives in hexadecimal digits: a line has at most 4,096 octets.
 abbrev pub payload_limit : ℕ
@@ -54,8 +146,8 @@ payload_limit = 2048
 -- What a join or a prune names.
 abbrev pub IsEntry : JoinEntry → Type 0
 IsEntry (entries.Star group) = IsGroup group
-IsEntry (entries.Source source group) = IsSource source × IsGroup group
-IsEntry (entries.Rpt source group) = IsSource source × IsGroup group
+IsEntry (entries.Source source group) = IsUnicast source × IsGroup group
+IsEntry (entries.Rpt source group) = IsUnicast source × IsGroup group
 
 -- the most ticks of one event
 abbrev pub tick_limit : ℕ
@@ -68,7 +160,7 @@ IsEventOf scenario (events.Timers node) = node.0 < length scenario.nodes
 IsEventOf scenario (events.Join iface entry) = (iface.0 < length scenario.ifaces) × IsEntry entry
 IsEventOf scenario (events.Prune iface entry) = (iface.0 < length scenario.ifaces) × IsEntry entry
 IsEventOf scenario (events.Pim iface bytes) = (iface.0 < length scenario.ifaces) × (length bytes ≤ payload_limit)
-IsEventOf scenario (events.Send site source group payload) = (site.0 < length scenario.sites) × IsSource source × IsGroup group × (length payload ≤ payload_limit)
+IsEventOf scenario (events.Send site source group payload) = (site.0 < length scenario.sites) × IsUnicast source × IsGroup group × (length payload ≤ payload_limit)
 IsEventOf scenario events.Drain = Unit {0}
 IsEventOf scenario events.State = Unit {0}
 IsEventOf scenario other = ⊥

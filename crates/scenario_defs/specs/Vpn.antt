@@ -34,6 +34,10 @@ is_of_vrf vrf iface = iface.vrf.0 == vrf.0
 abbrev pub is_attached : Scenario → VrfId → SiteId → Bool
 is_attached scenario vrf site = list_any (λ iface. is_of_site site iface && same_vpn scenario vrf iface.vrf) scenario.ifaces
 
+-- whether the site is attached at the VRF itself: it has an interface there
+abbrev pub is_attached_at : Scenario → VrfId → SiteId → Bool
+is_attached_at scenario vrf site = list_any (λ iface. is_of_site site iface && is_of_vrf vrf iface) scenario.ifaces
+
 -- the VRF of the site's first interface, where it has one; all its interfaces are in VRFs of one VPN
 abbrev pub vrf_of_site : Scenario → SiteId → Option VrfId
 vrf_of_site scenario site = option_map (λ iface. iface.vrf) (find (is_of_site site) scenario.ifaces)
@@ -44,11 +48,11 @@ ifaces_where test number [] = []
 ifaces_where test number (iface ∷ more) =
     if test (record { 0 = number }) iface then record { 0 = number } ∷ ifaces_where test (number + 1) more else ifaces_where test (number + 1) more
 
--- the numbers of those of the VRFs, numbered from that one on, in which the site has an interface
+-- the numbers of those of the VRFs, numbered from that one on, at which the site is attached
 abbrev pub entered_from : Scenario → SiteId → ℕ → List Vrf → List VrfId
 entered_from scenario site number [] = []
 entered_from scenario site number (vrf ∷ more) =
-    if list_any (λ iface. is_of_site site iface && is_of_vrf (record { 0 = number }) iface) scenario.ifaces then record { 0 = number } ∷ entered_from scenario site (number + 1) more else entered_from scenario site (number + 1) more
+    if is_attached_at scenario (record { 0 = number }) site then record { 0 = number } ∷ entered_from scenario site (number + 1) more else entered_from scenario site (number + 1) more
 
 -- the VRFs at which a datagram of the site enters, in order of VRFs
 abbrev pub entered : Scenario → SiteId → List VrfId

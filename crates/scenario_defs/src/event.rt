@@ -20,6 +20,13 @@ pub enum JoinEntry {
     Rpt { source: Addr, group: Addr },
 }
 
+/// An entry of an interface: (*,G) or (S,G) joined, or (S,G,rpt) pruned, by its customer router (RFC 7761 section 4.1).
+#[derive(Clone, Copy, Debug, PartialEq, Eq, Hash)]
+pub struct IfaceEntry {
+    pub iface: IfaceId,
+    pub entry: JoinEntry,
+}
+
 /// One event of a script.
 #[derive(Debug, Drop)]
 pub enum Event {

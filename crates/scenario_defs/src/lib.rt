@@ -6,10 +6,10 @@ mod report;
 mod scenario;
 mod vpn;
 
-pub use event::{Event, Events, JoinEntry, Kind, Script, Timed};
+pub use event::{Event, Events, IfaceEntry, JoinEntry, Kind, Script, Timed};
 pub use report::{FaultWord, Lines, Refusal, ReportLine};
 pub use scenario::{
     Iface, IfaceList, Ifaces, Links, NAME_LIMIT, Name, Node, Nodes, Prefixes, Route, Scenario,
-    Site, Sites, Vrf, Vrfs,
+    Site, Sites, Thing, Vrf, Vrfs,
 };
 pub use vpn::same_vpn;

@@ -43,6 +43,15 @@ pub struct Iface {
     pub addr: Addr,
 }
 
+/// A thing that a scenario declares, by its number.
+#[derive(Clone, Copy, Debug)]
+pub enum Thing {
+    Node(NodeId),
+    Vrf(VrfId),
+    Site(SiteId),
+    Iface(IfaceId),
+}
+
 /// A prefix of a site that is attached to a VPN: what the VPN's unicast routes tell.
 #[derive(Clone, Copy, Debug, PartialEq, Eq)]
 pub struct Route {

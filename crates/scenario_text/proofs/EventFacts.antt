@@ -3,7 +3,7 @@ use Rattle.std.proofs.Common.{ℕ, ◌<◌, ◌≤◌, ◌&&◌, List, [], ◌�
 use Rattle.std.specs.List.{AllByRecursion}
 use Rattle.mv_base.specs.Number.{number_of}
 use Rattle.scenario_defs.specs.declared.event.JoinEntry.{JoinEntry}
-use Rattle.scenario_defs.specs.Rules.{IsSource, IsGroup, IsEntry, IsEventOf}
+use Rattle.scenario_defs.specs.Rules.{IsUnicast, IsGroup, IsEntry, IsEventOf}
 use Rattle.line_words.specs.declared.fault.Reason.TheVariants as reasons
 use Rattle.line_words.specs.declared.words.Row.{Row}
 use Rattle.line_words.specs.Words.{Placed}
@@ -55,7 +55,7 @@ star_entry_meets row c = bind_meets _ (group_at row c) _ (λ group g. ok_meets _
 source_entry_meets : (row : Row) (b c : Placed) → Meets IsEntry (source_entry row b c)
 unfolding source_entry
 source_entry_meets row b c =
-    bind_meets _ (source_at row b) _ (λ source s. bind_meets _ (group_at row c) _ (λ group g. let facts : IsSource source × IsGroup group = ((source_meets row b).holds source s, (group_meets row c).holds group g) in ok_meets _ _ facts))
+    bind_meets _ (source_at row b) _ (λ source s. bind_meets _ (group_at row c) _ (λ group g. let facts : IsUnicast source × IsGroup group = ((source_meets row b).holds source s, (group_meets row c).holds group g) in ok_meets _ _ facts))
 
 if_rpt_meets : (row : Row) (d : Placed) (entry : JoinEntry) → IsEntry entry → Meets IsEntry (if_rpt row d entry)
 unfolding if_rpt
@@ -64,7 +64,7 @@ if_rpt_meets row d entry h = then_meets _ _ _ _ (λ _. ok_meets _ entry h)
 rpt_entry_meets : (row : Row) (b c d : Placed) → Meets IsEntry (rpt_entry row b c d)
 unfolding rpt_entry
 rpt_entry_meets row b c d =
-    bind_meets _ (source_at row b) _ (λ source s. bind_meets _ (group_at row c) _ (λ group g. let facts : IsSource source × IsGroup group = ((source_meets row b).holds source s, (group_meets row c).holds group g) in if_rpt_meets row d _ facts))
+    bind_meets _ (source_at row b) _ (λ source s. bind_meets _ (group_at row c) _ (λ group g. let facts : IsUnicast source × IsGroup group = ((source_meets row b).holds source s, (group_meets row c).holds group g) in if_rpt_meets row d _ facts))
 
 entry_meets : (row : Row) (b c : Placed) → Meets IsEntry (entry_at row b c)
 unfolding entry_at
@@ -113,15 +113,15 @@ pim_line_meets draft row (a ∷ []) h = err_meets _ _
 pim_line_meets draft row (a ∷ b ∷ []) h = pim_words_meets draft row a b (h.1.0)
 pim_line_meets draft row (a ∷ b ∷ c ∷ more) h = err_meets _ _
 
-send_head_meets : (draft : Drafted) (row : Row) (a b c : Placed) → Meets (λ head. (head.site.0 < length draft.scenario.sites) × IsSource head.source × IsGroup head.group) (send_head draft row a b c)
+send_head_meets : (draft : Drafted) (row : Row) (a b c : Placed) → Meets (λ head. (head.site.0 < length draft.scenario.sites) × IsUnicast head.source × IsGroup head.group) (send_head draft row a b c)
 unfolding send_head
 send_head_meets draft row a b c =
-    bind_meets _ (site_at draft row a) _ (λ site i. bind_meets _ (source_at row b) _ (λ source s. bind_meets _ (group_at row c) _ (λ group g. let facts : (site.0 < length draft.scenario.sites) × IsSource source × IsGroup group = ((site_meets draft row a).holds site i, (source_meets row b).holds source s, (group_meets row c).holds group g) in ok_meets _ _ facts)))
+    bind_meets _ (site_at draft row a) _ (λ site i. bind_meets _ (source_at row b) _ (λ source s. bind_meets _ (group_at row c) _ (λ group g. let facts : (site.0 < length draft.scenario.sites) × IsUnicast source × IsGroup group = ((site_meets draft row a).holds site i, (source_meets row b).holds source s, (group_meets row c).holds group g) in ok_meets _ _ facts)))
 
 send_words_meets : (draft : Drafted) (row : Row) (a b c d : Placed) → length d.text ≤ 4096 → Meets (IsTold draft) (send_words draft row a b c d)
 unfolding send_words
 send_words_meets draft row a b c d short =
-    bind_meets _ (send_head draft row a b c) _ (λ head h. bind_meets _ (payload_at row d) _ (λ payload p. let facts = (send_head_meets draft row a b c).holds head h in let all : (head.site.0 < length draft.scenario.sites) × IsSource head.source × IsGroup head.group × (length payload ≤ 2048) = (facts.0, facts.1, facts.2, (payload_meets row d short).holds payload p) in ok_meets _ _ all))
+    bind_meets _ (send_head draft row a b c) _ (λ head h. bind_meets _ (payload_at row d) _ (λ payload p. let facts = (send_head_meets draft row a b c).holds head h in let all : (head.site.0 < length draft.scenario.sites) × IsUnicast head.source × IsGroup head.group × (length payload ≤ 2048) = (facts.0, facts.1, facts.2, (payload_meets row d short).holds payload p) in ok_meets _ _ all))
 
 send_line_meets : (draft : Drafted) (row : Row) (words : List Placed) → AllByRecursion (λ w. length w.text ≤ 4096) words → Meets (IsTold draft) (send_line draft row words)
 unfolding send_line

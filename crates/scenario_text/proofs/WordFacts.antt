@@ -12,7 +12,7 @@ use Rattle.mv_base.specs.declared.addr.Addr.{Addr}
 use Rattle.mv_base.specs.declared.addr.Addr.TheVariants.{V4, V6}
 use Rattle.mv_base.specs.Number.{◌>>?◌, only_if}
 use Rattle.mv_base.specs.Dotted.{octet_of, octet_front_of, dotted_of}
-use Rattle.scenario_defs.specs.Rules.{IsIpv4, IsSource, IsGroup}
+use Rattle.scenario_defs.specs.Rules.{IsIpv4, IsUnicast, IsGroup}
 use Rattle.line_words.specs.declared.fault.TextFault.{TextFault}
 use Rattle.line_words.specs.declared.fault.Reason.{Reason}
 use Rattle.line_words.specs.declared.fault.Reason.TheVariants as reasons
@@ -141,7 +141,7 @@ addr_meets row word = or_fault_meets _ _ row word _ (addr_finds word.text)
 pub within : (x low high : ℕ) → (nat_le low x && nat_le x high) ≡ true → (low ≤ x) × (x ≤ high)
 within x low high h = grind (arith, nat_tests)
 
-is_source : (addr : Addr) → IsIpv4 addr → is_unicast addr ≡ true → IsSource addr
+is_source : (addr : Addr) → IsIpv4 addr → is_unicast addr ≡ true → IsUnicast addr
 is_source (V4 octets) four h = let w = within (slice_index octets 0) 1 223 h in (four, w.0, w.1)
 is_source (V6 octets) four h = absurd four
 
@@ -161,7 +161,7 @@ is_group_addr (V4 octets) four h =
     (four, w.0, w.1, not_local (slice_index octets 0) (slice_index octets 1) (slice_index octets 2) p.1)
 is_group_addr (V6 octets) four h = absurd four
 
-pub source_meets : (row : Row) (word : Placed) → Meets IsSource (source_at row word)
+pub source_meets : (row : Row) (word : Placed) → Meets IsUnicast (source_at row word)
 unfolding source_at
 source_meets row word = bind_meets _ (addr_at row word) _ (λ addr a. then_meets _ _ _ _ (λ b. ok_meets _ addr (is_source addr ((addr_meets row word).holds addr a) b)))
 

@@ -1,6 +1,6 @@
 use Rattle.std.proofs.Common.{ap, ◌∙◌, List}
 use Rattle.std.specs.Map.{lookup}
-use Rattle.pim_defs.specs.declared.entry.IfaceEntry.{IfaceEntry}
+use Rattle.scenario_defs.specs.declared.event.IfaceEntry.{IfaceEntry}
 use Rattle.pim_defs.specs.declared.expiry.Expiry.{Expiry}
 use Rattle.pim_state.specs.Changes.{then_at}
 use Rattle.pim_state.specs.Plan.{is_at}

@@ -1,7 +1,7 @@
 use Rattle.std.proofs.Common.{◌≡◌, ◌≤◌, count_by, is_some}
 use Rattle.std.specs.Map.{values_of}
 use Rattle.indexmap.specs.IndexMap.{get, spare, IsUnique}
-use Rattle.pim_defs.specs.declared.entry.IfaceEntry.{IfaceEntry}
+use Rattle.scenario_defs.specs.declared.event.IfaceEntry.{IfaceEntry}
 use Rattle.pim_state.specs.Changes.{then_at}
 use Rattle.pim_state.specs.Plan.{is_at}
 use Rattle.pim_state.proofs.changes.change_all.Given as goal

@@ -1,6 +1,6 @@
 use Rattle.std.proofs.Common.{◌≡◌, take}
 use Rattle.indexmap.specs.IndexMap.{get, IsUnique}
-use Rattle.pim_defs.specs.declared.entry.IfaceEntry.{IfaceEntry}
+use Rattle.scenario_defs.specs.declared.event.IfaceEntry.{IfaceEntry}
 use Rattle.pim_state.specs.Plan.{is_at, ends_among, told_at}
 use Rattle.pim_state.proofs.arrival.Arrival.plan_all_ended.Given as goal
 

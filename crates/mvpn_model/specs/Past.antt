@@ -1,5 +1,5 @@
 -- What the events so far mean: which entries stand, and who receives a flow.
-use Rattle.std.specs.Prelude.{ℕ, ◌+◌, ◌==◌, ◌&&◌, Bool, false, not, List, [], ◌∷◌, take, slice_get, Option, None, Some, if◌then◌else◌}
+use Rattle.std.specs.Prelude.{ℕ, ◌+◌, ◌==◌, ◌&&◌, Bool, false, not, List, [], ◌∷◌, take, Option, None, Some, if◌then◌else◌}
 use Rattle.std.specs.List.{list_any, fold}
 use Rattle.mv_base.specs.declared.ids.NodeId.{NodeId}
 use Rattle.mv_base.specs.declared.ids.IfaceId.{IfaceId}
@@ -13,7 +13,7 @@ use Rattle.scenario_defs.specs.declared.event.Event.{Event}
 use Rattle.scenario_defs.specs.declared.event.Event.TheVariants as events
 use Rattle.scenario_defs.specs.declared.event.JoinEntry.{JoinEntry}
 use Rattle.scenario_defs.specs.declared.event.JoinEntry.TheVariants as entries
-use Rattle.scenario_defs.specs.Vpn.{same_vpn, is_of_site, vrf_of_site, ifaces_where}
+use Rattle.scenario_defs.specs.Vpn.{same_vpn, is_of_site, vrf_of_site, edge_of, ifaces_where}
 use Rattle.scenario_defs.specs.Home.{home}
 use Rattle.pim_defs.specs.declared.expiry.Expiry.{Expiry}
 use Rattle.pim_defs.specs.Expiry.{remaining}
@@ -51,10 +51,7 @@ ticks_in (timed ∷ more) = ticks_of timed.event + ticks_in more
 
 -- whether the interface is one of the edge
 abbrev pub is_of_edge : Scenario → NodeId → IfaceId → Bool
-is_of_edge scenario node iface = elim (slice_get scenario.ifaces iface.0) [
-  | None ↦ false
-  | Some found ↦ elim (slice_get scenario.vrfs found.vrf.0) [ None ↦ false | Some vrf ↦ vrf.edge.0 == node.0 ]
-]
+is_of_edge scenario node iface = elim (edge_of scenario iface) [ None ↦ false | Some edge ↦ edge.0 == node.0 ]
 
 -- the expiry of an entry of the interface behind a message that is taken at the clock
 abbrev pub expiry_given : IfaceId → JoinEntry → ℕ → Option Expiry → Option Given → Option Expiry

@@ -1,3 +1,4 @@
+pub mod Sessions
 pub mod Network
 pub mod Run
 pub mod Laws

@@ -1,7 +1,8 @@
 -- The state of the network, and what each event does to it.
-use Rattle.std.specs.Prelude.{ℕ, ◌+◌, ◌*◌, ◌-◌, ◌/◌, ◌&&◌, not, Bool, false, List, [], ◌∷◌, length, map, count_by, Option, None, Some, Ok, Err, if◌then◌else◌}
+use Rattle.std.specs.Prelude.{ℕ, ◌+◌, ◌==◌, ◌&&◌, not, Bool, false, List, [], ◌∷◌, map, slice_index_or, slice_set, sum_by, Option, None, Some, Ok, Err, if◌then◌else◌}
 use Rattle.std.specs.Option.{option_or}
 use Rattle.std.specs.FinMap.{empty}
+use Rattle.mv_base.specs.declared.ids.NodeId.{NodeId}
 use Rattle.mv_base.specs.declared.ids.IfaceId.{IfaceId}
 use Rattle.mv_base.specs.declared.ids.SiteId.{SiteId}
 use Rattle.mv_base.specs.declared.ids.VrfId.{VrfId}
@@ -17,27 +18,45 @@ use Rattle.scenario_defs.specs.declared.report.Refusal.{Refusal}
 use Rattle.scenario_defs.specs.declared.report.Refusal.TheVariants as refusals
 use Rattle.scenario_defs.specs.declared.report.FaultWord.{FaultWord}
 use Rattle.scenario_defs.specs.declared.report.FaultWord.TheVariants as words
-use Rattle.scenario_defs.specs.Vpn.{is_of_site, is_of_vrf, ifaces_where, entered}
-use Rattle.mvpn_model.specs.Past.{is_home}
+use Rattle.scenario_defs.specs.Vpn.{is_of_site, is_of_vrf, edge_of, ifaces_where, entered}
+use Rattle.scenario_defs.specs.Home.{local_choice}
 use Rattle.mvpn_model.specs.Packet.{packet}
 use Rattle.pim_joinprune.specs.declared.fault.PimFault.{PimFault}
 use Rattle.pim_joinprune.specs.declared.fault.PimFault.TheVariants as faults
 use Rattle.pim_joinprune.specs.Reading.{decoded}
 use Rattle.pim_defs.specs.Entries.{Entries, applied, are_too_many, kept_at, due, asks}
 use Rattle.mvpn_model.specs.declared.message.Given.{Given}
+use Rattle.net_defs.specs.declared.session.Session.{Session}
+use Rattle.net_defs.specs.Sessions.{sessions, unready}
 use Rattle.mvpn_model.specs.Messages.{own_addr, message_of}
 
--- The state of the network: its scenario, the clock, how many datagrams were accepted, and the joined and pruned entries
--- of the edge, of which a scenario has at most one. No event of a built line joins a session or puts a copy on a link.
+-- The state of the network: its scenario, the clock, how many datagrams were accepted, the joined and pruned entries of
+-- each node, in order of nodes, of which a core node has none, and the sessions. No event of a built line joins a session
+-- or puts a copy on a link.
 pub record Network : Type 0 where
   pub scenario : Scenario
   pub clock : ℕ
   pub accepted : ℕ
-  pub entries : Entries
+  pub entries : List Entries
+  pub sessions : List Session
 
 -- nothing has happened yet
 abbrev pub start : Scenario → Network
-start scenario = record { scenario = scenario; clock = 0; accepted = 0; entries = empty }
+start scenario = record { scenario = scenario; clock = 0; accepted = 0; entries = map (λ node. empty) scenario.nodes; sessions = sessions scenario }
+
+-- ---- the entries of a node
+
+-- the entries of the node of that number
+abbrev pub entries_of_node : Network → NodeId → Entries
+entries_of_node network node = slice_index_or network.entries node.0 empty
+
+-- the state in which these are the entries of the node
+abbrev pub with_entries : Network → NodeId → Entries → Network
+with_entries network node entries = record network { entries = slice_set network.entries node.0 entries }
+
+-- the entries of the edge of an interface
+abbrev pub entries_at : Network → IfaceId → Entries
+entries_at network iface = elim (edge_of network.scenario iface) [ None ↦ empty | Some edge ↦ entries_of_node network edge ]
 
 -- ---- refusals
 
@@ -63,7 +82,7 @@ abbrev pub message_refusal : Network → Option Given → Option Refusal
 message_refusal network None = None
 message_refusal network (Some given) =
     if not (is_ours network.scenario given) then Some refusals.Ours else
-    if are_too_many (applied network.entries given.iface given.message network.clock) then Some refusals.Full else None
+    if are_too_many (applied (entries_at network given.iface) given.iface given.message network.clock) then Some refusals.Full else None
 
 -- why the octets of a `pim` are refused, if they are: they have a first fault
 abbrev pub octets_refusal : List ℕ → Option Refusal
@@ -81,33 +100,34 @@ refusal network event = option_or (bytes_refusal event) (message_refusal network
 
 -- whether the interface asks for (S,G): no line notes a source that is known to send
 abbrev pub is_asking : Network → Addr → Addr → IfaceId → Bool
-is_asking network source group iface = asks network.entries iface source group false network.clock
+is_asking network source group iface = asks (entries_at network iface) iface source group false network.clock
 
 -- whether a datagram of the site leaves at an interface of the VRF: it belongs to another site and asks for the flow
 abbrev pub leaves_at : Network → VrfId → SiteId → Addr → Addr → IfaceId → Iface → Bool
 leaves_at network vrf site source group number iface =
     is_of_vrf vrf iface && not (is_of_site site iface) && is_asking network source group number
 
+-- whether the upstream choice of the VRF for the source is the site: no route of another edge was taken
+abbrev pub is_chosen : Scenario → VrfId → Addr → SiteId → Bool
+is_chosen scenario vrf source site = elim (local_choice scenario vrf source) [ None ↦ false | Some found ↦ found.0 == site.0 ]
+
 -- the interfaces at which the datagram leaves, in order: none where the VRF's upstream choice is not the site
 abbrev pub leaves : Network → SiteId → Addr → Addr → VrfId → List IfaceId
 leaves network site source group vrf =
-    if is_home network.scenario vrf source site then ifaces_where (leaves_at network vrf site source group) 0 network.scenario.ifaces else []
+    if is_chosen network.scenario vrf source site then ifaces_where (leaves_at network vrf site source group) 0 network.scenario.ifaces else []
 
 -- the lines of a datagram's entering at a VRF
 abbrev pub entering : Network → SiteId → Addr → Addr → List ℕ → VrfId → List ReportLine
 entering network site source group payload vrf =
     map (λ iface. lines.Out (network.accepted + 1) iface (packet source group payload)) (leaves network site source group vrf)
 
--- the sessions of a scenario: one over BGP for each pair of edges, and one over LDP for each link
-abbrev pub sessions : Scenario → ℕ
-sessions scenario =
-    let edges = count_by (λ node. node.edge) scenario.nodes in
-    edges * (edges - 1) / 2 + length scenario.links
+-- how many timers of entries are due, at all nodes
+abbrev pub due_timers : Network → ℕ
+due_timers network = sum_by (λ entries. due entries network.clock) network.entries
 
--- The line of `state`. No session is joined, so no octet is in transit and no session is ready; no copy is on a link;
--- the timers that are due are those of entries.
+-- The line of `state`: no octet is in transit and no copy is on a link.
 abbrev pub state_line : Network → ReportLine
-state_line network = lines.State 0 0 0 (due network.entries network.clock) (sessions network.scenario)
+state_line network = lines.State 0 0 0 (due_timers network) (unready network.sessions)
 
 -- ---- events
 
@@ -125,12 +145,15 @@ acts_of network line event = elim (refusal network event) [ None ↦ accepted_ac
 -- the state behind a message
 abbrev pub with_message : Network → Option Given → Network
 with_message network None = network
-with_message network (Some given) = record network { entries = applied network.entries given.iface given.message network.clock }
+with_message network (Some given) = elim (edge_of network.scenario given.iface) [
+  | None ↦ network
+  | Some edge ↦ with_entries network edge (applied (entries_of_node network edge) given.iface given.message network.clock)
+]
 
--- the state behind an event that is not refused; the timers are those of the one edge
+-- the state behind an event that is not refused
 abbrev pub accepted_after : Network → Event → Network
 accepted_after network (events.Tick count) = record network { clock = network.clock + count }
-accepted_after network (events.Timers node) = record network { entries = kept_at network.entries network.clock }
+accepted_after network (events.Timers node) = with_entries network node (kept_at (entries_of_node network node) network.clock)
 accepted_after network (events.Send site source group payload) = record network { accepted = network.accepted + 1 }
 accepted_after network event = with_message network (message_of network.scenario event)
 

@@ -1,6 +1,7 @@
 -- VPNs: which VRFs and sites belong together (RFC 4364 sections 1.2 and 4.3).
 use Rattle.std.specs.Prelude.{ℕ, ◌+◌, ◌==◌, ◌&&◌, Bool, List, [], ◌∷◌, Option, None, Some, slice_get, option_map, find, if◌then◌else◌}
 use Rattle.std.specs.List.{list_any}
+use Rattle.mv_base.specs.declared.ids.NodeId.{NodeId}
 use Rattle.mv_base.specs.declared.ids.VrfId.{VrfId}
 use Rattle.mv_base.specs.declared.ids.SiteId.{SiteId}
 use Rattle.mv_base.specs.declared.ids.IfaceId.{IfaceId}
@@ -41,6 +42,13 @@ is_attached_at scenario vrf site = list_any (λ iface. is_of_site site iface && 
 -- the VRF of the site's first interface, where it has one; all its interfaces are in VRFs of one VPN
 abbrev pub vrf_of_site : Scenario → SiteId → Option VrfId
 vrf_of_site scenario site = option_map (λ iface. iface.vrf) (find (is_of_site site) scenario.ifaces)
+
+-- the edge of an interface's VRF
+abbrev pub edge_of : Scenario → IfaceId → Option NodeId
+edge_of scenario iface = elim (slice_get scenario.ifaces iface.0) [
+  | None ↦ None
+  | Some found ↦ option_map (λ vrf. vrf.edge) (slice_get scenario.vrfs found.vrf.0)
+]
 
 -- the numbers of those of the interfaces, numbered from that one on, that pass a test
 abbrev pub ifaces_where : (IfaceId → Iface → Bool) → ℕ → List Iface → List IfaceId

@@ -12,4 +12,4 @@ pub use scenario::{
     Iface, IfaceList, Ifaces, Links, NAME_LIMIT, Name, Node, Nodes, Prefixes, Route, Scenario,
     Site, Sites, Thing, Vrf, Vrfs,
 };
-pub use vpn::same_vpn;
+pub use vpn::{edge_of, same_vpn};

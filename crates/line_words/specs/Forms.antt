@@ -1,17 +1,21 @@
 -- The forms of the words: what a word writes, or the fault at it.
-use Rattle.std.specs.Prelude.{ℕ, ◌-◌, ◌/◌, ◌%◌, ◌^◌, ◌==◌, ◌||◌, ◌&&◌, Bool, false, not, nat_eq, nat_lt, nat_le, List, [], ◌∷◌, length, slice_index, Option, None, Some, option_map, Result, Ok, Err, if◌then◌else◌, codes}
-use Rattle.std.specs.List.{list_all}
-use Rattle.std.specs.Int.{w32, from_be_bytes}
+use Rattle.std.specs.Prelude.{ℕ, ◌-◌, ◌%◌, ◌^◌, ◌==◌, ◌&&◌, Bool, true, false, not, nat_eq, nat_le, List, [], ◌∷◌, ◌++◌, length, slice_index, Option, None, Some, option_map, Result, Ok, Err, if◌then◌else◌, codes}
+use Rattle.std.specs.Option.{option_or}
+use Rattle.std.specs.List.{list_any, slice_split}
+use Rattle.std.specs.Int.{w16, w32, to_be_bytes, from_be_bytes}
 use Rattle.std.specs.Cmp.Lexicographic.{pointwise}
 use Rattle.hex.specs.Hex.{decode_of}
 use Rattle.mv_base.specs.declared.addr.Addr.{Addr}
 use Rattle.mv_base.specs.declared.addr.Addr.TheVariants.{V4, V6}
 use Rattle.mv_base.specs.declared.prefix.Prefix.{Prefix}
+use Rattle.mv_base.specs.declared.rd.Rd.{Rd}
 use Rattle.mv_base.specs.declared.rd.Rule.{Rule}
 use Rattle.mv_base.specs.declared.rd.Rule.TheVariants.{Highest, Nearest}
 use Rattle.mv_base.specs.Number.{number_of, cut_of, only_if, ◌>>?◌}
 use Rattle.mv_base.specs.Dotted.{dotted_of}
 use Rattle.route_targets.specs.declared.communities.Target.{Target}
+use Rattle.route_targets.specs.Targets.{same_target}
+use Rattle.scenario_defs.specs.Prefixes.{same_prefix}
 use Rattle.line_words.specs.declared.fault.Reason.{Reason}
 use Rattle.line_words.specs.declared.fault.Reason.TheVariants as reasons
 use Rattle.line_words.specs.declared.fault.TextFault.{TextFault}
@@ -32,18 +36,6 @@ fault line column reason = Err (record { line = line; column = column; reason = 
 abbrev pub or_fault : {A : Type 0} → Option A → Row → Placed → Reason → Result A TextFault
 or_fault (Some x) row word reason = Ok x
 or_fault None row word reason = fault row.number word.column reason
-
--- whether the octet is a letter
-abbrev pub is_letter : ℕ → Bool
-is_letter b = (nat_le 65 b && nat_le b 90) || (nat_le 97 b && nat_le b 122)
-
--- whether the octet is a letter, a digit, an underscore or a hyphen
-abbrev pub is_name_octet : ℕ → Bool
-is_name_octet b = is_letter b || (nat_le 48 b && nat_le b 57) || b == 95 || b == 45
-
--- whether the text is 1 to 16 letters, digits, underscores and hyphens, a letter first
-abbrev pub is_name : List ℕ → Bool
-is_name text = nat_lt 0 (length text) && nat_le (length text) 16 && is_letter (slice_index text 0) && list_all is_name_octet text
 
 -- the address that a dotted text writes
 abbrev pub addr_of : List ℕ → Option Addr
@@ -75,18 +67,41 @@ group_at row word = addr_at row word >>= λ addr. if is_group addr then Ok addr 
 unfoldable pub vrf_number_of : List ℕ → Option ℕ
 vrf_number_of text = number_of text >>? λ number. only_if (nat_le 1 number && nat_le number 4095) number
 
--- the octets of a kind, a number below 2^16 and a number below 2^32
-abbrev pub assigned_octets : ℕ → ℕ → ℕ → List ℕ
-assigned_octets kind n m = 0 ∷ kind ∷ n / 256 ∷ n % 256 ∷ m / 16777216 ∷ m / 65536 % 256 ∷ m / 256 % 256 ∷ m % 256 ∷ []
+-- the octets that a text `N:M` writes behind the two octets of a kind: N, below 2^16, in two and M, below 2^32, in four
+unfoldable pub numbered_of : ℕ → ℕ → List ℕ → Option (List ℕ)
+numbered_of kind sub_kind text =
+    cut_of 58 text >>? λ cut. number_of cut.0 >>? λ n. number_of cut.1 >>? λ m. only_if (nat_le n 65535 && nat_le m 4294967295) (kind ∷ sub_kind ∷ (to_be_bytes w16 n ++ to_be_bytes w32 m))
 
--- the octets of that kind that a text `N:M` writes
-unfoldable pub assigned_of : ℕ → List ℕ → Option (List ℕ)
-assigned_of kind text =
-    cut_of 58 text >>? λ cut. number_of cut.0 >>? λ n. number_of cut.1 >>? λ m. only_if (nat_le n 65535 && nat_le m 4294967295) (assigned_octets kind n m)
+-- the octets that a text `ADDR:M` writes behind the two octets of a kind: those of ADDR, and M, below 2^16, in two
+unfoldable pub addressed_of : ℕ → ℕ → List ℕ → Option (List ℕ)
+addressed_of kind sub_kind text =
+    cut_of 58 text >>? λ cut. dotted_of cut.0 >>? λ addr. number_of cut.1 >>? λ m. only_if (nat_le m 65535) (kind ∷ sub_kind ∷ (addr ++ to_be_bytes w16 m))
 
--- a word that writes a Route Target
+-- the route distinguisher that a text writes: `N:M` one of type 0, `ADDR:M` one of type 1 (RFC 4364 section 4.2)
+unfoldable pub rd_of : List ℕ → Option Rd
+rd_of text = option_map (λ octets. record { 0 = octets }) (option_or (numbered_of 0 0 text) (addressed_of 0 1 text))
+
+-- the Route Target that a text writes: `N:M` one of a two-octet AS, `ADDR:M` one of an IPv4 address (RFC 4360 section 4)
+unfoldable pub target_of : List ℕ → Option Target
+target_of text = option_map (λ octets. record { 0 = record { 0 = octets } }) (option_or (numbered_of 0 2 text) (addressed_of 1 2 text))
+
+-- what each of the texts writes, where each writes something
+abbrev pub each_of : {A : Type 0} → (List ℕ → Option A) → List (List ℕ) → Option (List A)
+each_of read [] = Some []
+each_of read (text ∷ more) = read text >>? λ first. each_of read more >>? λ rest. Some (first ∷ rest)
+
+-- whether no two of the list are the same
+abbrev pub are_distinct : {A : Type 0} → (A → A → Bool) → List A → Bool
+are_distinct same [] = true
+are_distinct same (first ∷ rest) = not (list_any (same first) rest) && are_distinct same rest
+
+-- the list that a text writes with commas: 1 to 8, no two of them the same
+unfoldable pub list_of : {A : Type 0} → (A → A → Bool) → (List ℕ → Option A) → List ℕ → Option (List A)
+list_of same read text = each_of read (slice_split (λ b. b == 44) text) >>? λ found. only_if (nat_le (length found) 8 && are_distinct same found) found
+
+-- a word that writes Route Targets
 unfoldable pub targets_at : Row → Placed → Result (List Target) TextFault
-targets_at row word = or_fault (assigned_of 2 word.text) row word reasons.Targets >>= λ octets. Ok (record { 0 = record { 0 = octets } } ∷ [])
+targets_at row word = or_fault (list_of same_target target_of word.text) row word reasons.Targets
 
 -- a word that says how upstream hops are chosen
 unfoldable pub rule_at : Row → Placed → Result Rule TextFault
@@ -108,9 +123,9 @@ prefix_if addr bits = only_if (is_prefix addr bits) (record { addr = addr; bits 
 unfoldable pub prefix_of : List ℕ → Option Prefix
 prefix_of text = cut_of 47 text >>? λ cut. addr_of cut.0 >>? λ addr. number_of cut.1 >>? λ bits. prefix_if addr bits
 
--- a word that writes a prefix
-unfoldable pub prefix_at : Row → Placed → Result Prefix TextFault
-prefix_at row word = or_fault (prefix_of word.text) row word reasons.Prefix
+-- a word that writes prefixes
+unfoldable pub prefixes_at : Row → Placed → Result (List Prefix) TextFault
+prefixes_at row word = or_fault (list_of same_prefix prefix_of word.text) row word reasons.Prefix
 
 -- a word that writes octets in hexadecimal digits, or `-` for none
 unfoldable pub payload_at : Row → Placed → Result (List ℕ) TextFault

@@ -1,16 +1,19 @@
 //! The forms of the words: what a word writes, or the fault at it.
-ghost use Rattle.std.specs.Prelude.{◌≡◌};
+ghost use Rattle.std.specs.Prelude.{◌≡◌, ◌∷◌, ◌++◌};
+ghost use Rattle.std.specs.Int.{w16, w32, to_be_bytes};
 ghost use Rattle.std.specs.List.{list_all};
+ghost use Rattle.mv_base.specs.Dotted.{dotted_of};
 ghost use Rattle.line_words.specs.Answers.{Gives};
 ghost use Rattle.line_words.specs.Words.{placed_word};
-ghost use Rattle.line_words.specs.Forms.{is_letter, is_name_octet as name_octet, is_name, addr_of, is_unicast, is_group, addr_at, source_at, group_at, vrf_number_of, assigned_of, targets_at, rule_at, prefix_if, assigned_octets, prefix_of, prefix_at, payload_at, or_fault};
+ghost use Rattle.scenario_defs.specs.Names.{is_letter, is_name_octet as name_octet, is_name};
+ghost use Rattle.line_words.specs.Forms.{addr_of, is_unicast, is_group, addr_at, source_at, group_at, vrf_number_of, numbered_of, addressed_of, rd_of, target_of, targets_at, rule_at, prefix_if, prefix_of, prefixes_at, payload_at, or_fault};
 
 use crate::fault::fault_at;
 use crate::{ReadFault, Reason, Row, TextFault, Word};
 use hex::FromHexError;
-use mv_base::{Addr, Bytes, Prefix, Rule, cut_at, read_number};
+use mv_base::{Addr, Bytes, Prefix, Rd, Rule, cut_at, read_number};
 use route_targets::{ExtComm, Target, Targets};
-use scenario_defs::NAME_LIMIT;
+use scenario_defs::{NAME_LIMIT, Prefixes};
 use std::alloc::Global;
 
 fn is_letter(b: u8) -> bool
@@ -122,47 +125,92 @@ pub fn vrf_number_of(text: &[u8]) -> Option<u16>
     }
 }
 
-/// The octets of `N:M`, where N is below 2^16 and M below 2^32: a 0, the kind, N in two octets and M in four. Kind 0 is a
-/// route distinguisher of type 0 (RFC 4364 section 4.2), and kind 2 a Route Target of a two-octet AS (RFC 4360 section 4).
-#[tactic(auto, unfolding(crate::specs::Forms::assigned_of))]
-pub fn assigned_of(kind: u8, text: &[u8]) -> Option<[u8; 8]>
-    ensures { result ≡ assigned_of kind text.now }
+fn numbered_octets(kind: u8, sub_kind: u8, n: u16, m: u32) -> [u8; 8]
+    ensures { result ≡ kind ∷ sub_kind ∷ (to_be_bytes w16 n ++ to_be_bytes w32 m) }
+{
+    let [n0, n1] = n.to_be_bytes();
+    let [m0, m1, m2, m3] = m.to_be_bytes();
+    [kind, sub_kind, n0, n1, m0, m1, m2, m3]
+}
+
+/// The octets that `N:M` writes behind the two octets of a kind, where N is below 2^16 and M below 2^32.
+#[tactic(auto, unfolding(crate::specs::Forms::numbered_of))]
+fn numbered_of(kind: u8, sub_kind: u8, text: &[u8]) -> Option<[u8; 8]>
+    ensures { result ≡ numbered_of kind sub_kind text.now }
 {
     let (front, rest) = cut_at(text, b':')?;
     let n = read_number(front)?;
     let m = read_number(rest)?;
     if n <= 65535 && m <= 4294967295 {
-        Some(assigned_octets(kind, n as u16, m as u32))
+        Some(numbered_octets(kind, sub_kind, n as u16, m as u32))
     } else {
         None
     }
 }
 
-fn assigned_octets(kind: u8, n: u16, m: u32) -> [u8; 8]
-    ensures { result ≡ assigned_octets kind n m }
+/// The four octets that a dotted text writes.
+fn dotted_of(text: &[u8]) -> Option<[u8; 4]>
+    ensures { result ≡ dotted_of text.now }
 {
-    [
-        0,
-        kind,
-        (n / 256) as u8,
-        (n % 256) as u8,
-        (m / 16777216) as u8,
-        (m / 65536 % 256) as u8,
-        (m / 256 % 256) as u8,
-        (m % 256) as u8,
-    ]
+    match Addr::read_dotted(text) {
+        Some(Addr::V4(octets)) => Some(octets),
+        _ => None,
+    }
 }
 
-/// The one Route Target that a word writes as `N:M`, or `Targets`.
-#[tactic(auto, unfolding(crate::specs::Forms::targets_at))]
-pub fn targets_at(row: Row, word: &Word) -> Result<Targets, TextFault>
-    ensures { result ≡ targets_at row (placed_word word.now) }
+fn addressed_octets(kind: u8, sub_kind: u8, addr: [u8; 4], m: u16) -> [u8; 8]
+    ensures { result ≡ kind ∷ sub_kind ∷ (addr ++ to_be_bytes w16 m) }
 {
-    let octets = or_fault(assigned_of(2, word.text), row, word, Reason::Targets)?;
-    match Targets::of(&[Target(ExtComm(octets))]) {
-        Ok(targets) => Ok(targets),
-        Err(_) => unreachable!(),
+    let [a, b, c, d] = addr;
+    let [m0, m1] = m.to_be_bytes();
+    [kind, sub_kind, a, b, c, d, m0, m1]
+}
+
+/// The octets that `ADDR:M` writes behind the two octets of a kind, where M is below 2^16.
+#[tactic(auto, unfolding(crate::specs::Forms::addressed_of))]
+fn addressed_of(kind: u8, sub_kind: u8, text: &[u8]) -> Option<[u8; 8]>
+    ensures { result ≡ addressed_of kind sub_kind text.now }
+{
+    let (front, rest) = cut_at(text, b':')?;
+    let addr = dotted_of(front)?;
+    let m = read_number(rest)?;
+    if m <= 65535 {
+        Some(addressed_octets(kind, sub_kind, addr, m as u16))
+    } else {
+        None
     }
+}
+
+/// The route distinguisher that a text writes: `N:M` one of type 0, `ADDR:M` one of type 1 (RFC 4364 section 4.2).
+#[tactic(auto, unfolding(crate::specs::Forms::rd_of))]
+pub fn rd_of(text: &[u8]) -> Option<Rd>
+    ensures { result ≡ rd_of text.now }
+{
+    if let Some(octets) = numbered_of(0, 0, text) {
+        return Some(Rd(octets));
+    }
+    let octets = addressed_of(0, 1, text)?;
+    Some(Rd(octets))
+}
+
+/// The Route Target that a text writes: `N:M` one of a two-octet AS, `ADDR:M` one of an IPv4 address (RFC 4360 section 4).
+#[tactic(auto, unfolding(crate::specs::Forms::target_of))]
+pub fn target_of(text: &[u8]) -> Option<Target>
+    ensures { result ≡ target_of text.now }
+{
+    if let Some(octets) = numbered_of(0, 2, text) {
+        return Some(Target(ExtComm(octets)));
+    }
+    let octets = addressed_of(1, 2, text)?;
+    Some(Target(ExtComm(octets)))
+}
+
+/// The 1 to 8 distinct Route Targets that a word writes with commas, or `Targets`; or want of memory.
+#[tactic(auto, unfolding(crate::specs::Forms::targets_at))]
+pub fn targets_at(alloc: Global, row: Row, word: &Word) -> Result<Targets, ReadFault>
+    ensures { Gives result (targets_at row (placed_word word.now)) }
+{
+    Err(ReadFault::NoMemory)
 }
 
 /// The rule for upstream hops that a word names, or `Choice`.
@@ -198,12 +246,13 @@ fn prefix_of(text: &[u8]) -> Option<Prefix>
     prefix_if(addr, bits)
 }
 
-/// The prefix that a word writes as `ADDR/N`, with no bit set behind the first N, or `Prefix`.
-#[tactic(auto, unfolding(crate::specs::Forms::prefix_at))]
-pub fn prefix_at(row: Row, word: &Word) -> Result<Prefix, TextFault>
-    ensures { result ≡ prefix_at row (placed_word word.now) }
+/// The 1 to 8 distinct prefixes that a word writes with commas, each `ADDR/N` with no bit set behind the first N, or
+/// `Prefix`; or want of memory.
+#[tactic(auto, unfolding(crate::specs::Forms::prefixes_at))]
+pub fn prefixes_at(alloc: Global, row: Row, word: &Word) -> Result<Prefixes, ReadFault>
+    ensures { Gives result (prefixes_at row (placed_word word.now)) }
 {
-    or_fault(prefix_of(word.text), row, word, Reason::Prefix)
+    Err(ReadFault::NoMemory)
 }
 
 /// The octets that a word writes in hexadecimal digits, two each, or none as `-`; else `Hex`, or want of memory.

@@ -19,10 +19,6 @@ pub struct Row {
     pub number: u32,
     /// The column behind the last octet.
     pub after: u32,
-    /// Whether a comma stands in the line.
-    pub comma: bool,
-    /// Whether a point stands in the line.
-    pub point: bool,
 }
 
 fn line_feed(text: &[u8]) -> Option<usize>

@@ -17,18 +17,18 @@ use Rattle.scenario_defs.specs.declared.event.Timed.{Timed}
 use Rattle.scenario_defs.specs.declared.event.Script.{Script}
 use Rattle.scenario_defs.specs.Vpn.{targets_of, same_vpn}
 use Rattle.scenario_defs.specs.Rules.{ScriptRules, Rises, IsIpv4, IsEventOf}
-use Rattle.scenario_text.specs.declared.line.Line.{Line}
-use Rattle.scenario_text.specs.declared.line.Line.TheVariants as says
-use Rattle.scenario_text.specs.declared.setting.Setting.{Setting}
-use Rattle.scenario_text.specs.declared.setting.Setting.TheVariants as settings
-use Rattle.scenario_text.specs.Drafted.{Drafted}
-use Rattle.scenario_text.specs.SettingGrammar.{with_setting}
-use Rattle.scenario_text.specs.ScenarioGrammar.{is_vpn_at, is_mixed}
+use Rattle.scenario_draft.specs.declared.line.Line.{Line}
+use Rattle.scenario_draft.specs.declared.line.Line.TheVariants as says
+use Rattle.scenario_draft.specs.declared.setting.Setting.{Setting}
+use Rattle.scenario_draft.specs.declared.setting.Setting.TheVariants as settings
+use Rattle.scenario_draft.specs.Drafted.{Drafted}
+use Rattle.scenario_lines.specs.SettingGrammar.{with_setting}
+use Rattle.scenario_lines.specs.ScenarioGrammar.{is_vpn_at, is_mixed}
 use Rattle.scenario_text.specs.Grammar.{added, empty_draft, script_at, script_from, script_of}
 use Rattle.scenario_text.specs.Faults.{Says}
 use Rattle.scenario_text.proofs.FaultsLemmas.{read_text, short_text}
-use Rattle.scenario_text.proofs.EventFacts.{IsToldBelow}
-use Rattle.scenario_text.proofs.LineFacts.{line_meets, IsSaid, IsDeclared, VrfFacts, IfaceFacts}
+use Rattle.event_lines.proofs.EventFacts.{IsToldBelow}
+use Rattle.scenario_lines.proofs.LineFacts.{line_meets, IsSaid, IsDeclared, VrfFacts, IfaceFacts}
 
 -- One more at the end: each place has what it had, or the new one is there.
 snoc_get : {X : Type 0} (xs : List X) (y : X) (k : ℕ) (z : X) → slice_get (xs ++ y ∷ []) k ≡ Some z → ((k < length xs) × (slice_get xs k ≡ Some z)) ⊎ ((k ≡ length xs) × (y ≡ z))

@@ -1,5 +1,5 @@
 use Rattle.std.proofs.Common.{arith, ◌≡◌, ◌≤◌, ◌==◌, true, length, sym}
-use Rattle.scenario_text.proofs.LineFacts.{line_new}
+use Rattle.scenario_lines.proofs.LineFacts.{line_new}
 use Rattle.scenario_text.proofs.RulesLemmas.{end_rules}
 use Rattle.scenario_text.proofs.reader.read.Goals as goal
 

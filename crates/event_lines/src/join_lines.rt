@@ -1,0 +1,137 @@
+//! The lines of joins and prunes.
+ghost use Rattle.std.specs.Prelude.{◌≡◌, map};
+ghost use Rattle.line_words.specs.Words.{placed_word};
+ghost use Rattle.event_lines.specs.JoinGrammar.{star_entry, source_entry, if_rpt, rpt_entry, entry_at, three_words, four_words, iface_entry, join_line, prune_line};
+
+use crate::draft::Draft;
+use crate::line::Line;
+use crate::naming::iface_at;
+use line_words::{Reason, Row, TextFault, Word, fault_at, group_at, source_at};
+use mv_base::IfaceId;
+use scenario_defs::{Event, JoinEntry};
+
+/// What a join or a prune names, and the interface at which it comes in.
+#[derive(Clone, Copy, Debug)]
+pub struct IfaceEntry {
+    pub iface: IfaceId,
+    pub entry: JoinEntry,
+}
+
+#[tactic(auto, unfolding(crate::specs::JoinGrammar::star_entry))]
+fn star_entry(row: Row, group: &Word) -> Result<JoinEntry, TextFault>
+    ensures { result ≡ star_entry row (placed_word group.now) }
+{
+    let group = group_at(row, group)?;
+    Ok(JoinEntry::Star { group })
+}
+
+#[tactic(auto, unfolding(crate::specs::JoinGrammar::source_entry))]
+fn source_entry(row: Row, source: &Word, group: &Word) -> Result<JoinEntry, TextFault>
+    ensures { result ≡ source_entry row (placed_word source.now) (placed_word group.now) }
+{
+    let source = source_at(row, source)?;
+    let group = group_at(row, group)?;
+    Ok(JoinEntry::Source { source, group })
+}
+
+#[tactic(auto, unfolding(crate::specs::JoinGrammar::if_rpt))]
+fn if_rpt(row: Row, word: &Word, entry: JoinEntry) -> Result<JoinEntry, TextFault>
+    ensures { result ≡ if_rpt row (placed_word word.now) entry }
+{
+    if word.text == b"rpt".as_slice() {
+        Ok(entry)
+    } else {
+        Err(fault_at(row.number, word.column, Reason::Choice))
+    }
+}
+
+#[tactic(auto, unfolding(crate::specs::JoinGrammar::rpt_entry))]
+fn rpt_entry(row: Row, source: &Word, group: &Word, last: &Word) -> Result<JoinEntry, TextFault>
+    ensures { result ≡ rpt_entry row (placed_word source.now) (placed_word group.now) (placed_word last.now) }
+{
+    let source = source_at(row, source)?;
+    let group = group_at(row, group)?;
+    if_rpt(row, last, JoinEntry::Rpt { source, group })
+}
+
+#[tactic(auto, unfolding(crate::specs::JoinGrammar::entry_at))]
+fn entry_at(row: Row, source: &Word, group: &Word) -> Result<JoinEntry, TextFault>
+    ensures { result ≡ entry_at row (placed_word source.now) (placed_word group.now) }
+{
+    if source.text == b"*".as_slice() {
+        star_entry(row, group)
+    } else {
+        source_entry(row, source, group)
+    }
+}
+
+#[tactic(auto, unfolding(crate::specs::JoinGrammar::three_words))]
+fn three_words(
+    draft: &Draft,
+    row: Row,
+    iface: &Word,
+    source: &Word,
+    group: &Word,
+) -> Result<IfaceEntry, TextFault>
+    ensures { result ≡ three_words draft.now row (placed_word iface.now) (placed_word source.now) (placed_word group.now) }
+{
+    let iface = iface_at(draft, row, iface)?;
+    let entry = entry_at(row, source, group)?;
+    Ok(IfaceEntry { iface, entry })
+}
+
+#[tactic(auto, unfolding(crate::specs::JoinGrammar::four_words))]
+fn four_words(
+    draft: &Draft,
+    row: Row,
+    iface: &Word,
+    source: &Word,
+    group: &Word,
+    last: &Word,
+) -> Result<IfaceEntry, TextFault>
+    ensures { result ≡ four_words draft.now row (placed_word iface.now) (placed_word source.now) (placed_word group.now) (placed_word last.now) }
+{
+    let iface = iface_at(draft, row, iface)?;
+    let entry = rpt_entry(row, source, group, last)?;
+    Ok(IfaceEntry { iface, entry })
+}
+
+#[tactic(auto, unfolding(crate::specs::JoinGrammar::iface_entry))]
+fn iface_entry(draft: &Draft, row: Row, words: &[Word]) -> Result<IfaceEntry, TextFault>
+    ensures { result ≡ iface_entry draft.now row (map placed_word words.now) }
+{
+    match words {
+        [iface, source, group] => three_words(draft, row, iface, source, group),
+        [iface, source, group, last] => four_words(draft, row, iface, source, group, last),
+        [_, _, _, _, extra, ..] => Err(fault_at(row.number, extra.column, Reason::Count)),
+        _ => Err(fault_at(row.number, row.after, Reason::Count)),
+    }
+}
+
+/// The line of a join by the words behind the first one.
+#[tactic(auto, unfolding(crate::specs::JoinGrammar::join_line))]
+pub fn join_line(draft: &Draft, row: Row, words: &[Word]) -> Result<Line, TextFault>
+    ensures { result ≡ join_line draft.now row (map placed_word words.now) }
+{
+    let named = iface_entry(draft, row, words)?;
+    Ok(Line::Event {
+        event: Event::Join {
+            iface: named.iface,
+            entry: named.entry,
+        },
+    })
+}
+
+/// The line of a prune by the words behind the first one.
+#[tactic(auto, unfolding(crate::specs::JoinGrammar::prune_line))]
+pub fn prune_line(draft: &Draft, row: Row, words: &[Word]) -> Result<Line, TextFault>
+    ensures { result ≡ prune_line draft.now row (map placed_word words.now) }
+{
+    let named = iface_entry(draft, row, words)?;
+    Ok(Line::Event {
+        event: Event::Prune {
+            iface: named.iface,
+            entry: named.entry,
+        },
+    })
+}

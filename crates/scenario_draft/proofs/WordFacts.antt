@@ -1,0 +1,186 @@
+-- What a word that is without fault keeps to.
+use Rattle.std.proofs.Common.{◌≡◌, ℕ, ◌<◌, ◌≤◌, ◌==◌, Bool, true, false, not, ◌&&◌, List, [], length, refl, sym, subst, cond, arith, nat_eq, nat_le, slice_index, slice_get, Option, Some, None}
+use Rattle.std.specs.Prelude.{Result, Ok, Err, option_map}
+use Rattle.std.specs.Map.{lookup}
+use Rattle.std.specs.Cmp.Lexicographic.{pointwise}
+use Rattle.std.proofs.lemmas.Bool.Decides.{nat_tests}
+use Rattle.std.proofs.lemmas.Option.{slice_get_within}
+use Rattle.hex.specs.declared.error.FromHexError.{FromHexError}
+use Rattle.hex.specs.Hex.{decode_of}
+use Rattle.hex.proofs.HexLemmas.{decode_of-ok}
+use Rattle.mv_base.specs.declared.addr.Addr.{Addr}
+use Rattle.mv_base.specs.declared.addr.Addr.TheVariants.{V4, V6}
+use Rattle.mv_base.specs.Number.{◌>>?◌, only_if}
+use Rattle.mv_base.specs.Dotted.{octet_of, octet_front_of, dotted_of}
+use Rattle.scenario_defs.specs.Rules.{IsIpv4, IsUnicast, IsGroup}
+use Rattle.line_words.specs.declared.fault.TextFault.{TextFault}
+use Rattle.line_words.specs.declared.fault.Reason.{Reason}
+use Rattle.line_words.specs.declared.fault.Reason.TheVariants as reasons
+use Rattle.line_words.specs.declared.words.Row.{Row}
+use Rattle.line_words.specs.Words.{Placed}
+use Rattle.line_words.specs.Forms.{◌>>=◌, or_fault, addr_of, addr_at, source_at, group_at, payload_at, is_unicast, is_group}
+use Rattle.scenario_defs.specs.declared.scenario.Thing.{Thing}
+use Rattle.scenario_defs.specs.Names.{is_name}
+use Rattle.scenario_draft.specs.Drafted.{Drafted}
+use Rattle.scenario_draft.specs.Naming.{new_name, node_of, vrf_of, site_of, iface_of, named, node_named, edge_named, vrf_named, site_named, iface_named, node_at, edge_at, vrf_at, site_at, iface_at}
+use Rattle.scenario_draft.specs.Adding.{IsFree}
+
+-- Each value without fault has the property.
+pub record Meets {A : Type 0} (P : A → Type 0) (r : Result A TextFault) : Type 0 where
+  pub holds : (x : A) → r ≡ Ok x → P x
+
+pub ok_meets : {A : Type 0} (P : A → Type 0) (x : A) → P x → Meets P (Ok x)
+ok_meets P x p = record { holds = λ y e. let q : x ≡ y = cc in subst P q p }
+
+pub err_meets : {A : Type 0} (P : A → Type 0) (e : TextFault) → Meets P (Err e)
+err_meets P e = record { holds = λ y h. absurd cc }
+
+pub bind_meets : {A B : Type 0} (P : B → Type 0) (r : Result A TextFault) (f : A → Result B TextFault) → ((x : A) → r ≡ Ok x → Meets P (f x)) → Meets P (r >>= f)
+bind_meets P (Ok x) f h = h x refl
+bind_meets P (Err e) f h = err_meets P e
+
+pub if_meets : {A : Type 0} (P : A → Type 0) (b : Bool) (e : TextFault) (r : Result A TextFault) → (b ≡ false → Meets P r) → Meets P (cond b (Err e) r)
+if_meets P true e r h = err_meets P e
+if_meets P false e r h = h refl
+
+pub then_meets : {A : Type 0} (P : A → Type 0) (b : Bool) (e : TextFault) (r : Result A TextFault) → (b ≡ true → Meets P r) → Meets P (cond b r (Err e))
+then_meets P true e r h = h refl
+then_meets P false e r h = err_meets P e
+
+pub either_meets : {A : Type 0} (P : A → Type 0) (b : Bool) (r s : Result A TextFault) → Meets P r → Meets P s → Meets P (cond b r s)
+either_meets P true r s h k = h
+either_meets P false r s h k = k
+
+-- The same of an option.
+pub record Finds {A : Type 0} (P : A → Type 0) (o : Option A) : Type 0 where
+  pub holds : (x : A) → o ≡ Some x → P x
+
+some_finds : {A : Type 0} (P : A → Type 0) (x : A) → P x → Finds P (Some x)
+some_finds P x p = record { holds = λ y e. let q : x ≡ y = cc in subst P q p }
+
+none_finds : {A : Type 0} (P : A → Type 0) → Finds P None
+none_finds P = record { holds = λ y h. absurd cc }
+
+pub bind_finds : {A B : Type 0} (P : B → Type 0) (o : Option A) (f : A → Option B) → ((x : A) → o ≡ Some x → Finds P (f x)) → Finds P (o >>? f)
+bind_finds P (Some x) f h = h x refl
+bind_finds P None f h = none_finds P
+
+pub only_finds : {A : Type 0} (P : A → Type 0) (b : Bool) (x : A) → (b ≡ true → P x) → Finds P (only_if b x)
+only_finds P true x h = some_finds P x (h refl)
+only_finds P false x h = none_finds P
+
+map_finds : {A B : Type 0} (P : B → Type 0) (f : A → B) (o : Option A) → Finds (λ x. P (f x)) o → Finds P (option_map f o)
+map_finds P f (Some x) h = some_finds P (f x) (h.holds x refl)
+map_finds P f None h = none_finds P
+
+pub or_fault_meets : {A : Type 0} (P : A → Type 0) (o : Option A) (row : Row) (word : Placed) (reason : Reason) → Finds P o → Meets P (or_fault o row word reason)
+or_fault_meets P (Some x) row word reason h = ok_meets P x (h.holds x refl)
+or_fault_meets P None row word reason h = err_meets P _
+
+-- The words that name things name things that are declared.
+node_finds : (draft : Drafted) (text : List ℕ) → Finds (λ id. id.0 < length draft.scenario.nodes) (node_named draft text)
+unfolding node_named
+node_finds draft text = bind_finds _ (named draft text) _ (λ thing _. bind_finds _ (node_of thing) _ (λ id _. bind_finds _ (slice_get draft.scenario.nodes id.0) _ (λ found e. some_finds _ id (slice_get_within draft.scenario.nodes id.0 found e))))
+
+edge_finds : (draft : Drafted) (text : List ℕ) → Finds (λ id. id.0 < length draft.scenario.nodes) (edge_named draft text)
+unfolding edge_named
+edge_finds draft text = bind_finds _ (named draft text) _ (λ thing _. bind_finds _ (node_of thing) _ (λ id _. bind_finds _ (slice_get draft.scenario.nodes id.0) _ (λ node e. only_finds _ node.edge id (λ _. slice_get_within draft.scenario.nodes id.0 node e))))
+
+vrf_finds : (draft : Drafted) (text : List ℕ) → Finds (λ id. id.0 < length draft.scenario.vrfs) (vrf_named draft text)
+unfolding vrf_named
+vrf_finds draft text = bind_finds _ (named draft text) _ (λ thing _. bind_finds _ (vrf_of thing) _ (λ id _. bind_finds _ (slice_get draft.scenario.vrfs id.0) _ (λ found e. some_finds _ id (slice_get_within draft.scenario.vrfs id.0 found e))))
+
+site_finds : (draft : Drafted) (text : List ℕ) → Finds (λ id. id.0 < length draft.scenario.sites) (site_named draft text)
+unfolding site_named
+site_finds draft text = bind_finds _ (named draft text) _ (λ thing _. bind_finds _ (site_of thing) _ (λ id _. bind_finds _ (slice_get draft.scenario.sites id.0) _ (λ found e. some_finds _ id (slice_get_within draft.scenario.sites id.0 found e))))
+
+iface_finds : (draft : Drafted) (text : List ℕ) → Finds (λ id. id.0 < length draft.scenario.ifaces) (iface_named draft text)
+unfolding iface_named
+iface_finds draft text = bind_finds _ (named draft text) _ (λ thing _. bind_finds _ (iface_of thing) _ (λ id _. bind_finds _ (slice_get draft.scenario.ifaces id.0) _ (λ found e. some_finds _ id (slice_get_within draft.scenario.ifaces id.0 found e))))
+
+free_name : (draft : Drafted) (text : List ℕ) (e : TextFault) (o : Option Thing) → lookup (pointwise nat_eq text) draft.names ≡ o → Meets (IsFree draft) (elim o [ None ↦ Ok text | Some thing ↦ Err e ])
+free_name draft text e None h = ok_meets _ text h
+free_name draft text e (Some thing) h = err_meets _ e
+
+pub name_meets : (draft : Drafted) (row : Row) (word : Placed) → Meets (IsFree draft) (new_name draft row word)
+unfolding new_name
+name_meets draft row word = then_meets _ (is_name word.text) _ _ (λ b. free_name draft word.text _ (named draft word.text) (sym (rw b refl)))
+
+pub node_meets : (draft : Drafted) (row : Row) (word : Placed) → Meets (λ id. id.0 < length draft.scenario.nodes) (node_at draft row word)
+unfolding node_at
+node_meets draft row word = or_fault_meets _ _ row word _ (node_finds draft word.text)
+
+pub edge_meets : (draft : Drafted) (row : Row) (word : Placed) → Meets (λ id. id.0 < length draft.scenario.nodes) (edge_at draft row word)
+unfolding edge_at
+edge_meets draft row word = or_fault_meets _ _ row word _ (edge_finds draft word.text)
+
+pub vrf_meets : (draft : Drafted) (row : Row) (word : Placed) → Meets (λ id. id.0 < length draft.scenario.vrfs) (vrf_at draft row word)
+unfolding vrf_at
+vrf_meets draft row word = or_fault_meets _ _ row word _ (vrf_finds draft word.text)
+
+pub site_meets : (draft : Drafted) (row : Row) (word : Placed) → Meets (λ id. id.0 < length draft.scenario.sites) (site_at draft row word)
+unfolding site_at
+site_meets draft row word = or_fault_meets _ _ row word _ (site_finds draft word.text)
+
+pub iface_meets : (draft : Drafted) (row : Row) (word : Placed) → Meets (λ id. id.0 < length draft.scenario.ifaces) (iface_at draft row word)
+unfolding iface_at
+iface_meets draft row word = or_fault_meets _ _ row word _ (iface_finds draft word.text)
+
+-- An address of dotted text has four octets.
+dotted_finds : (text : List ℕ) → Finds (λ octets. length octets ≡ 4) (dotted_of text)
+unfolding dotted_of
+dotted_finds text = bind_finds _ (octet_front_of text) _ (λ a _. bind_finds _ (octet_front_of a.1) _ (λ b _. bind_finds _ (octet_front_of b.1) _ (λ c _. bind_finds _ (octet_of c.1) _ (λ d _. some_finds _ _ refl))))
+
+addr_finds : (text : List ℕ) → Finds IsIpv4 (addr_of text)
+addr_finds text = map_finds IsIpv4 (λ octets. V4 octets) (dotted_of text) (dotted_finds text)
+
+pub addr_meets : (row : Row) (word : Placed) → Meets IsIpv4 (addr_at row word)
+unfolding addr_at
+addr_meets row word = or_fault_meets _ _ row word _ (addr_finds word.text)
+
+-- Sources and groups are what their tests say.
+pub within : (x low high : ℕ) → (nat_le low x && nat_le x high) ≡ true → (low ≤ x) × (x ≤ high)
+within x low high h = grind (arith, nat_tests)
+
+is_source : (addr : Addr) → IsIpv4 addr → is_unicast addr ≡ true → IsUnicast addr
+is_source (V4 octets) four h = let w = within (slice_index octets 0) 1 223 h in (four, w.0, w.1)
+is_source (V6 octets) four h = absurd four
+
+group_parts : (a b c : Bool) → (a && b && not c) ≡ true → ((a && b) ≡ true) × (c ≡ false)
+group_parts true true false h = (refl, refl)
+group_parts true true true h = absurd cc
+group_parts true false c h = absurd cc
+group_parts false b c h = absurd cc
+
+not_local : (x y z : ℕ) → (x == 224 && y == 0 && z == 0) ≡ false → x ≡ 224 → y ≡ 0 → z ≡ 0 → ⊥
+not_local x y z h a b c = grind (arith, nat_tests)
+
+is_group_addr : (addr : Addr) → IsIpv4 addr → is_group addr ≡ true → IsGroup addr
+is_group_addr (V4 octets) four h =
+    let p = group_parts (nat_le 224 (slice_index octets 0)) (nat_le (slice_index octets 0) 239) (slice_index octets 0 == 224 && slice_index octets 1 == 0 && slice_index octets 2 == 0) h in
+    let w = within (slice_index octets 0) 224 239 p.0 in
+    (four, w.0, w.1, not_local (slice_index octets 0) (slice_index octets 1) (slice_index octets 2) p.1)
+is_group_addr (V6 octets) four h = absurd four
+
+pub source_meets : (row : Row) (word : Placed) → Meets IsUnicast (source_at row word)
+unfolding source_at
+source_meets row word = bind_meets _ (addr_at row word) _ (λ addr a. then_meets _ _ _ _ (λ b. ok_meets _ addr (is_source addr ((addr_meets row word).holds addr a) b)))
+
+pub group_meets : (row : Row) (word : Placed) → Meets IsGroup (group_at row word)
+unfolding group_at
+group_meets row word = bind_meets _ (addr_at row word) _ (λ addr a. then_meets _ _ _ _ (λ b. ok_meets _ addr (is_group_addr addr ((addr_meets row word).holds addr a) b)))
+
+decoded : (text : List ℕ) (e : TextFault) (r : Result (List ℕ) FromHexError) → length text ≤ 4096 → decode_of text ≡ r → Meets (λ payload. length payload ≤ 2048) (elim r [ Ok octets ↦ Ok octets | Err error ↦ Err e ])
+decoded text e (Ok octets) l h = ok_meets _ octets (omega (arith, (decode_of-ok text octets h).2))
+decoded text e (Err error) l h = err_meets _ e
+
+payload_if : (b : Bool) (r : Result (List ℕ) TextFault) → Meets (λ payload. length payload ≤ 2048) r → Meets (λ payload. length payload ≤ 2048) (cond b (Ok []) r)
+payload_if true r h = ok_meets _ [] (omega arith)
+payload_if false r h = h
+
+pub payload_meets : (row : Row) (word : Placed) → length word.text ≤ 4096 → Meets (λ payload. length payload ≤ 2048) (payload_at row word)
+unfolding payload_at
+payload_meets row word l = payload_if _ _ (decoded word.text _ (decode_of word.text) l refl)
+
+pub below : (limit n : ℕ) → nat_le limit n ≡ false → n < limit
+below limit n h = grind (arith, nat_tests)

@@ -1,0 +1,5 @@
+pub mod Drafted
+pub mod Settings
+pub mod Adding
+pub mod Naming
+pub mod Declaring

@@ -1,0 +1,92 @@
+//! Looks through the lists of a scenario.
+ghost use Rattle.std.specs.Prelude.{◌≡◌};
+ghost use Rattle.std.specs.List.{list_any};
+ghost use Rattle.scenario_lines.specs.ScenarioGrammar.{overlaps, is_vpn_at, prefixes_of, same_prefix, share_prefix, is_mixed, is_taken};
+
+use mv_base::{NodeId, Prefix, SiteId};
+use route_targets::Targets;
+use scenario_defs::{Iface, Scenario, Vrf, same_vpn};
+
+fn overlaps(targets: &Targets, vrf: &Vrf) -> bool
+    ensures { result ≡ overlaps targets.now vrf.now }
+{
+    route_targets::shares(&vrf.targets, targets) && !route_targets::same(&vrf.targets, targets)
+}
+
+/// Whether some set shares some but not all members of the set.
+pub fn is_overlap(targets: &Targets, vrfs: &[Vrf]) -> bool
+    ensures { result ≡ list_any (overlaps targets.now) vrfs.now }
+{
+    vrfs.iter().any(|vrf| overlaps(targets, vrf))
+}
+
+fn is_vpn_at(edge: NodeId, targets: &Targets, vrf: &Vrf) -> bool
+    ensures { result ≡ is_vpn_at edge targets.now vrf.now }
+{
+    vrf.edge.0 == edge.0 && route_targets::same(&vrf.targets, targets)
+}
+
+/// Whether some VRF of the edge has the members of the set.
+pub fn is_vpn_taken(edge: NodeId, targets: &Targets, vrfs: &[Vrf]) -> bool
+    ensures { result ≡ list_any (is_vpn_at edge targets.now) vrfs.now }
+{
+    vrfs.iter().any(|vrf| is_vpn_at(edge, targets, vrf))
+}
+
+fn prefixes_of(scenario: &Scenario, site: SiteId) -> &[Prefix]
+    ensures { result.now ≡ prefixes_of scenario.now site }
+{
+    match scenario.sites.as_slice().get(usize::from(site.0)) {
+        Some(found) => found.prefixes.as_slice(),
+        None => &[],
+    }
+}
+
+fn same_prefix(a: Prefix, b: Prefix) -> bool
+    ensures { result ≡ same_prefix a b }
+{
+    a.addr.same(b.addr) && a.bits == b.bits
+}
+
+fn is_among(prefix: Prefix, prefixes: &[Prefix]) -> bool
+    ensures { result ≡ list_any (same_prefix prefix) prefixes.now }
+{
+    prefixes.iter().any(|other| same_prefix(prefix, *other))
+}
+
+fn share_prefix(a: &[Prefix], b: &[Prefix]) -> bool
+    ensures { result ≡ share_prefix a.now b.now }
+{
+    a.iter().any(|prefix| is_among(*prefix, b))
+}
+
+fn is_mixed(scenario: &Scenario, new: &Iface, iface: &Iface) -> bool
+    ensures { result ≡ is_mixed scenario.now new.now iface.now }
+{
+    iface.site.0 == new.site.0 && !same_vpn(scenario, iface.vrf, new.vrf)
+}
+
+/// Whether some interface puts the site of the new one into another VPN.
+pub fn is_any_mixed(scenario: &Scenario, new: &Iface, ifaces: &[Iface]) -> bool
+    ensures { result ≡ list_any (is_mixed scenario.now new.now) ifaces.now }
+{
+    ifaces.iter().any(|iface| is_mixed(scenario, new, iface))
+}
+
+fn is_taken(scenario: &Scenario, new: &Iface, iface: &Iface) -> bool
+    ensures { result ≡ is_taken scenario.now new.now iface.now }
+{
+    iface.site.0 != new.site.0
+        && same_vpn(scenario, iface.vrf, new.vrf)
+        && share_prefix(
+            prefixes_of(scenario, new.site),
+            prefixes_of(scenario, iface.site),
+        )
+}
+
+/// Whether some interface attaches another site with a prefix of the new one's site to its VPN.
+pub fn is_any_taken(scenario: &Scenario, new: &Iface, ifaces: &[Iface]) -> bool
+    ensures { result ≡ list_any (is_taken scenario.now new.now) ifaces.now }
+{
+    ifaces.iter().any(|iface| is_taken(scenario, new, iface))
+}

@@ -1,0 +1,139 @@
+//! The lines of VRFs.
+ghost use Rattle.std.specs.Prelude.{◌≡◌, map};
+ghost use Rattle.line_words.specs.Words.{placed_word};
+ghost use Rattle.scenario_lines.specs.ScenarioGrammar.{vrf_head, vrf_tail, vrf_rules, vrf_words, vrf_counted, vrf_line};
+
+use crate::draft::Draft;
+use crate::line::Line;
+use crate::lists::{is_overlap, is_vpn_taken};
+use crate::naming::{edge_at, new_name, rd_at, vrf_number_at};
+use line_words::{Reason, Row, TextFault, Word, fault_at, rule_at, targets_at};
+use mv_base::{NodeId, Rd, Rule, VrfId};
+use route_targets::Targets;
+use scenario_defs::{Name, Vrf};
+
+const VRF_LIMIT: usize = 256;
+
+/// The first words of a VRF.
+#[derive(Clone, Copy, Debug)]
+pub struct VrfHead {
+    pub name: Name,
+    pub edge: NodeId,
+    pub number: u16,
+}
+
+/// The last words of a VRF.
+#[derive(Clone, Copy, Debug)]
+pub struct VrfTail {
+    pub rd: Rd,
+    pub targets: Targets,
+    pub rule: Rule,
+}
+
+#[tactic(auto, unfolding(crate::specs::ScenarioGrammar::vrf_head))]
+fn vrf_head(
+    draft: &Draft,
+    row: Row,
+    name: &Word,
+    edge: &Word,
+    number: &Word,
+) -> Result<VrfHead, TextFault>
+    ensures { result ≡ vrf_head draft.now row (placed_word name.now) (placed_word edge.now) (placed_word number.now) }
+{
+    let name = new_name(draft, row, name)?;
+    let edge = edge_at(draft, row, edge)?;
+    let number = vrf_number_at(draft, row, edge, number)?;
+    Ok(VrfHead { name, edge, number })
+}
+
+#[tactic(auto, unfolding(crate::specs::ScenarioGrammar::vrf_tail))]
+fn vrf_tail(
+    draft: &Draft,
+    row: Row,
+    edge: NodeId,
+    rd: &Word,
+    targets: &Word,
+    rule: &Word,
+) -> Result<VrfTail, TextFault>
+    ensures { result ≡ vrf_tail draft.now row edge (placed_word rd.now) (placed_word targets.now) (placed_word rule.now) }
+{
+    let rd = rd_at(draft, row, edge, rd)?;
+    let targets = targets_at(row, targets)?;
+    let rule = rule_at(row, rule)?;
+    Ok(VrfTail { rd, targets, rule })
+}
+
+#[tactic(auto, unfolding(crate::specs::ScenarioGrammar::vrf_rules))]
+fn vrf_rules(
+    draft: &Draft,
+    row: Row,
+    id: VrfId,
+    targets: &Word,
+    head: VrfHead,
+    tail: VrfTail,
+) -> Result<Line, TextFault>
+    ensures { result ≡ vrf_rules draft.now row id (placed_word targets.now) head tail }
+{
+    let vrfs = draft.scenario().vrfs.as_slice();
+    if is_overlap(&tail.targets, vrfs) {
+        return Err(fault_at(row.number, targets.column, Reason::Overlap));
+    }
+    if is_vpn_taken(head.edge, &tail.targets, vrfs) {
+        return Err(fault_at(row.number, targets.column, Reason::Vpn));
+    }
+    Ok(Line::Vrf {
+        id,
+        vrf: Vrf {
+            name: head.name,
+            edge: head.edge,
+            number: head.number,
+            rd: tail.rd,
+            targets: tail.targets,
+            rule: tail.rule,
+        },
+    })
+}
+
+#[tactic(auto, unfolding(crate::specs::ScenarioGrammar::vrf_words))]
+fn vrf_words(
+    draft: &Draft,
+    row: Row,
+    id: VrfId,
+    name: &Word,
+    edge: &Word,
+    number: &Word,
+    rd: &Word,
+    targets: &Word,
+    rule: &Word,
+) -> Result<Line, TextFault>
+    ensures { result ≡ vrf_words draft.now row id (placed_word name.now) (placed_word edge.now) (placed_word number.now) (placed_word rd.now) (placed_word targets.now) (placed_word rule.now) }
+{
+    let head = vrf_head(draft, row, name, edge, number)?;
+    let tail = vrf_tail(draft, row, head.edge, rd, targets, rule)?;
+    vrf_rules(draft, row, id, targets, head, tail)
+}
+
+#[tactic(auto, unfolding(crate::specs::ScenarioGrammar::vrf_counted))]
+fn vrf_counted(draft: &Draft, row: Row, id: VrfId, words: &[Word]) -> Result<Line, TextFault>
+    ensures { result ≡ vrf_counted draft.now row id (map placed_word words.now) }
+{
+    match words {
+        [name, edge, number, rd, targets, rule] => {
+            vrf_words(draft, row, id, name, edge, number, rd, targets, rule)
+        }
+        [_, _, _, _, _, _, extra, ..] => Err(fault_at(row.number, extra.column, Reason::Count)),
+        _ => Err(fault_at(row.number, row.after, Reason::Count)),
+    }
+}
+
+/// The line of a VRF by its words.
+#[tactic(auto, unfolding(crate::specs::ScenarioGrammar::vrf_line))]
+pub fn vrf_line(draft: &Draft, row: Row, first: &Word, rest: &[Word]) -> Result<Line, TextFault>
+    ensures { result ≡ vrf_line draft.now row (placed_word first.now) (map placed_word rest.now) }
+{
+    let number = draft.scenario().vrfs.len();
+    if number >= VRF_LIMIT {
+        return Err(fault_at(row.number, first.column, Reason::Limit));
+    }
+    vrf_counted(draft, row, VrfId(number as u16), rest)
+}

@@ -10,9 +10,9 @@ use Rattle.line_words.specs.Words.{Placed}
 use Rattle.line_words.specs.Forms.{or_fault, source_at, group_at, payload_at}
 use Rattle.scenario_draft.specs.declared.line.Line.{Line}
 use Rattle.scenario_draft.specs.declared.line.Line.TheVariants as says
-use Rattle.event_lines.specs.declared.event_lines.EventWord.{EventWord}
-use Rattle.event_lines.specs.declared.event_lines.EventWord.TheVariants as event_kinds
-use Rattle.event_lines.specs.declared.join_lines.IfaceEntry.{IfaceEntry}
+use Rattle.event_lines.specs.declared.dispatch.EventWord.{EventWord}
+use Rattle.event_lines.specs.declared.dispatch.EventWord.TheVariants as event_kinds
+use Rattle.scenario_defs.specs.declared.event.IfaceEntry.{IfaceEntry}
 use Rattle.scenario_draft.specs.Drafted.{Drafted}
 use Rattle.scenario_draft.specs.Naming.{node_at, site_at, iface_at}
 use Rattle.event_lines.specs.JoinGrammar.{star_entry, source_entry, if_rpt, rpt_entry, entry_at, three_words, four_words, iface_entry, join_line, prune_line}

@@ -10,8 +10,8 @@ use Rattle.line_words.specs.Words.{Placed}
 use Rattle.line_words.specs.Forms.{fault, ◌>>=◌, or_fault, source_at, group_at, payload_at}
 use Rattle.scenario_draft.specs.declared.line.Line.{Line}
 use Rattle.scenario_draft.specs.declared.line.Line.TheVariants as says
-use Rattle.event_lines.specs.declared.event_lines.EventWord.{EventWord}
-use Rattle.event_lines.specs.declared.event_lines.EventWord.TheVariants as word_kinds
+use Rattle.event_lines.specs.declared.dispatch.EventWord.{EventWord}
+use Rattle.event_lines.specs.declared.dispatch.EventWord.TheVariants as word_kinds
 use Rattle.event_lines.specs.declared.payload_lines.SendHead.{SendHead}
 use Rattle.scenario_draft.specs.Drafted.{Drafted}
 use Rattle.scenario_draft.specs.Naming.{node_at, iface_at, site_at}

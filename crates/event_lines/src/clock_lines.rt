@@ -3,12 +3,10 @@ ghost use Rattle.std.specs.Prelude.{◌≡◌, map};
 ghost use Rattle.line_words.specs.Words.{placed_word};
 ghost use Rattle.event_lines.specs.EventGrammar.{ticks_of, tick_words, tick_line, timers_words, timers_line};
 
-use crate::draft::Draft;
-use crate::line::Line;
-use crate::naming::node_at;
 use line_words::{Reason, Row, TextFault, Word, fault_at, or_fault};
 use mv_base::read_number;
 use scenario_defs::Event;
+use scenario_draft::{Draft, Line, node_at};
 
 const TICK_LIMIT: u64 = 1_000_000;
 

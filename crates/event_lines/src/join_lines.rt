@@ -3,19 +3,9 @@ ghost use Rattle.std.specs.Prelude.{◌≡◌, map};
 ghost use Rattle.line_words.specs.Words.{placed_word};
 ghost use Rattle.event_lines.specs.JoinGrammar.{star_entry, source_entry, if_rpt, rpt_entry, entry_at, three_words, four_words, iface_entry, join_line, prune_line};
 
-use crate::draft::Draft;
-use crate::line::Line;
-use crate::naming::iface_at;
 use line_words::{Reason, Row, TextFault, Word, fault_at, group_at, source_at};
-use mv_base::IfaceId;
-use scenario_defs::{Event, JoinEntry};
-
-/// What a join or a prune names, and the interface at which it comes in.
-#[derive(Clone, Copy, Debug)]
-pub struct IfaceEntry {
-    pub iface: IfaceId,
-    pub entry: JoinEntry,
-}
+use scenario_defs::{Event, IfaceEntry, JoinEntry};
+use scenario_draft::{Draft, Line, iface_at};
 
 #[tactic(auto, unfolding(crate::specs::JoinGrammar::star_entry))]
 fn star_entry(row: Row, group: &Word) -> Result<JoinEntry, TextFault>

@@ -4,14 +4,12 @@ ghost use Rattle.line_words.specs.Answers.{Gives};
 ghost use Rattle.line_words.specs.Words.{placed_word};
 ghost use Rattle.event_lines.specs.EventGrammar.{pim_words, pim_line, send_head, send_words, send_line};
 
-use crate::draft::Draft;
-use crate::line::Line;
-use crate::naming::{iface_at, site_at};
 use line_words::{
     ReadFault, Reason, Row, TextFault, Word, fault_at, group_at, payload_at, source_at,
 };
 use mv_base::{Addr, SiteId};
 use scenario_defs::Event;
+use scenario_draft::{Draft, Line, iface_at, site_at};
 use std::alloc::Global;
 
 /// The first words of a send.

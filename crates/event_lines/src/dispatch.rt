@@ -5,12 +5,11 @@ ghost use Rattle.line_words.specs.Words.{placed_word};
 ghost use Rattle.event_lines.specs.EventGrammar.{is_unbuilt_clock, is_unbuilt_flow, event_word, bare_line, event_words, event_line};
 
 use crate::clock_lines::{tick_line, timers_line};
-use crate::draft::Draft;
 use crate::join_lines::{join_line, prune_line};
-use crate::line::Line;
 use crate::payload_lines::{pim_line, send_line};
 use line_words::{ReadFault, Reason, Row, TextFault, Word, fault_at};
 use scenario_defs::Event;
+use scenario_draft::{Draft, Line};
 use std::alloc::Global;
 
 const EVENT_LIMIT: usize = 200_000;

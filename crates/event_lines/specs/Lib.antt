@@ -1,0 +1,2 @@
+pub mod JoinGrammar
+pub mod EventGrammar

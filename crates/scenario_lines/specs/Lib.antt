@@ -1,0 +1,5 @@
+pub mod SettingGrammar
+pub mod NodeGrammar
+pub mod VrfGrammar
+pub mod SiteGrammar
+pub mod ScenarioGrammar

@@ -17,10 +17,10 @@ linked_back links a b cost h = record { link = h.link; listed = h.listed; ends =
 pub further : (links : List Link) (from next to first rest : ℕ) (steps : List ℕ) → IsLinked links from next first → IsWalk links next steps to rest → IsWalk links from (next ∷ steps) to (first + rest)
 further links from next to first rest steps linked walk = (first, rest, linked, walk, refl)
 
-step_reaches : (links : List Link) (from next to first : ℕ) → IsLinked links from next first → Reaches links next to → Reaches links from to
+pub step_reaches : (links : List Link) (from next to first : ℕ) → IsLinked links from next first → Reaches links next to → Reaches links from to
 step_reaches links from next to first linked h = record { steps = next ∷ h.steps; cost = first + h.cost; walk = further links from next to first h.cost h.steps linked h.walk }
 
-reaches_itself : (links : List Link) (node : ℕ) → Reaches links node node
+pub reaches_itself : (links : List Link) (node : ℕ) → Reaches links node node
 reaches_itself links node = record { steps = []; cost = 0; walk = (refl, refl) }
 
 -- One walk behind another.

@@ -1,3 +1,4 @@
 pub mod Walks
 pub mod Topology
 pub mod Reached
+pub mod Marks

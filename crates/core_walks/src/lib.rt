@@ -4,3 +4,6 @@
 mod connection;
 
 pub use connection::is_connected;
+
+#[cfg(test)]
+mod tests;

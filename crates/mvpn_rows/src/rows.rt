@@ -115,13 +115,16 @@ fn faults_of_edges_and_their_vrfs_are_told(rt: HostRuntime) -> Result<(), Fail> 
             "fault 2:11 number\n",
         ),
         (
-            "edge E1 192.0.2.1\nvrf V1 E1 1 65000:1 65000:1,65000:2 highest\n",
-            "fault 2:1 later\n",
+            "edge E1 192.0.2.1\nvrf V1 E1 1 65000:1 65000:1,65000:2 highest\nvrf V2 E1 2 65000:2 65000:2 highest\n",
+            "fault 3:21 overlap\n",
         ),
-        ("edge E1 192.0.2.1\ncore C 192.0.2.9\n", "fault 2:1 later\n"),
         (
-            "edge E1 192.0.2.1\nedge E2 192.0.2.2\nevents\n",
+            "edge E1 192.0.2.1\ncore C 192.0.2.9\nevents\n",
             "fault 3:1 apart\n",
+        ),
+        (
+            "edge E1 192.0.2.1\nvrf V1 E1 1 65000:1 65000 highest\n",
+            "fault 2:21 targets\n",
         ),
         (
             "edge E1 192.0.2.1\nedge E1 192.0.2.2\n",

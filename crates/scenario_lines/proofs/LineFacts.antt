@@ -29,7 +29,7 @@ use Rattle.scenario_draft.specs.Drafted.{Drafted}
 use Rattle.scenario_draft.specs.Naming.{new_name, node_addr_at, vrf_number_at, rd_at, edge_at, vrf_at, site_at}
 use Rattle.scenario_lines.specs.SettingGrammar.{highest, is_given, value_of, setting_words, setting_line}
 use Rattle.scenario_lines.specs.ScenarioGrammar.{edge_words, edge_counted, edge_line, vrf_head, vrf_tail, vrf_rules, vrf_words, vrf_counted, vrf_line, site_words, site_counted, site_line, iface_rules, iface_parts, iface_words, iface_counted, iface_line, events_line, scenario_word, scenario_words, scenario_line, overlaps, is_vpn_at, is_mixed, is_taken}
-use Rattle.scenario_text.specs.Grammar.{line_of, words_line, row_of, IsFree, IsNew}
+
 use Rattle.scenario_draft.proofs.WordFacts.{Meets, Finds, ok_meets, err_meets, bind_meets, if_meets, bind_finds, only_finds, or_fault_meets, within, name_meets, edge_meets, vrf_meets, site_meets, addr_meets, targets_meets, below}
 use Rattle.event_lines.proofs.EventFacts.{IsTold, IsToldBelow, event_line_meets}
 

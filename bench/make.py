@@ -10,13 +10,15 @@
     messages    SIZE events: Join/Prune messages of one source at an interface with 1,000 entries, joins and prunes in turn
     shared      SIZE events: joins of the shared tree at an interface that has pruned 500 sources off it
     groups      SIZE events: Join/Prune messages of 45 groups with four sources each
+    limits      a scenario at each limit of nodes, edges, links, VRFs, sites, interfaces, targets and prefixes, then SIZE
+                events: joins and sends in turn, each datagram entering at two edges
     late-fault  SIZE octets of comments, of which the last line is faulty
     decode      SIZE octets of hexadecimal text, which writes multipoint FEC elements end to end, one on each line
     decode-nlri SIZE octets of hexadecimal text, which writes MCAST-VPN routes of AFI 1 end to end, one on each line
     decode-bgp  SIZE octets of hexadecimal text, which writes BGP messages end to end, one on each line
     decode-ldp  SIZE octets of hexadecimal text, which writes LDP PDUs end to end, one on each line
 
-The first seven are inputs of `replay`, `decode` is one of `decode fec`, and `decode-NAME` one of `decode NAME`. The input
+The first eight are inputs of `replay`, `decode` is one of `decode fec`, and `decode-NAME` one of `decode NAME`. The input
 is within the limits: 16,777,216 octets, 200,000 events, 1,024 interfaces and entries, 4,096 octets a line.
 """
 
@@ -110,6 +112,48 @@ def shared(size):
         yield 'prune Y1 %s 232.1.1.1 rpt\n' % source(number)
     for number in range(min(EVENT_LIMIT, size) - 500):
         yield 'join Y1 * 232.1.2.%d\n' % (number % 20 + 1)
+
+
+NODES, EDGES, LINKS, VRFS, MOST_SITES, MOST_IFACES, IN_A_LIST = 64, 32, 256, 256, 512, 1024, 8
+VPNS = VRFS // EDGES
+
+
+def core():
+    """Nodes in a row, each linked to the next ones; of these links the first 256."""
+    for node in range(NODES):
+        yield '%s N%d 192.0.2.%d\n' % ('edge' if node < EDGES else 'core', node, node + 1)
+    pairs = [(node, node + far) for far in range(1, NODES) for node in range(NODES - far)]
+    for a, b in pairs[:LINKS]:
+        yield 'link N%d N%d %d\n' % (a, b, b - a)
+
+
+def full_scenario():
+    """Each VPN has a VRF at each edge, and each site is attached at two edges."""
+    yield from core()
+    for vrf in range(VRFS):
+        vpn, edge = divmod(vrf, EDGES)
+        targets = ['65000:%d' % (IN_A_LIST * vpn + (edge + k) % IN_A_LIST) for k in range(IN_A_LIST)]
+        yield 'vrf V%d N%d %d 65000:%d %s nearest\n' % (vrf, edge, vpn + 1, vrf, ','.join(targets))
+    for site in range(MOST_SITES):
+        prefixes = ['10.%d.%d.0/24' % (site // VPNS, k) for k in range(IN_A_LIST)]
+        yield 'site S%d %s\n' % (site, ','.join(prefixes))
+    for number in range(MOST_IFACES):
+        half, site = divmod(number, MOST_SITES)
+        edge = (site // VPNS + half * EDGES // 2) % EDGES
+        yield 'iface I%d V%d S%d 10.%d.0.%d\n' % (number, site % VPNS * EDGES + edge, site, site // VPNS, half + 1)
+    yield 'events\n'
+
+
+def limits(size):
+    """Each interface joins the flow of the other site that is attached at its edge."""
+    yield from full_scenario()
+    for number in range(min(EVENT_LIMIT, size)):
+        site = number // 2 % MOST_SITES
+        if number % 2 == 0:
+            other = (site + MOST_SITES // 2) % MOST_SITES
+            yield 'join I%d 10.%d.0.9 232.1.1.1\n' % (number // 2 % MOST_IFACES, other // VPNS)
+        else:
+            yield 'send S%d 10.%d.0.9 232.1.1.1 aabb\n' % (site, site // VPNS)
 
 
 def ones_sum(octets):
@@ -220,6 +264,7 @@ KINDS = {
     'messages': messages,
     'shared': shared,
     'groups': groups,
+    'limits': limits,
     'late-fault': lambda size: [*comments(size - len('edgy\n')), 'edgy\n'],
     'decode': lambda size: hexadecimal(fec, size),
     'decode-nlri': lambda size: hexadecimal(route, size),

@@ -22,6 +22,7 @@ INPUTS = [
     ('messages', ['replay'], 100_000, 0),
     ('shared', ['replay'], 100_000, 0),
     ('groups', ['replay'], 1_900, 0),
+    ('limits', ['replay'], 100_000, 0),
     ('late-fault', ['replay'], 8_000_000, 3),
     ('decode', ['decode', 'fec'], 8_000_000, 0),
     ('decode-nlri', ['decode', 'nlri'], 8_000_000, 0),

@@ -1,7 +1,9 @@
 //! Looks through the lists of a scenario.
 ghost use Rattle.std.specs.Prelude.{◌≡◌};
 ghost use Rattle.std.specs.List.{list_any};
-ghost use Rattle.scenario_lines.specs.ScenarioGrammar.{overlaps, is_vpn_at, prefixes_of, same_prefix, share_prefix, is_mixed, is_taken};
+ghost use Rattle.scenario_defs.specs.Prefixes.{prefixes_of, same_prefix, share_prefix};
+ghost use Rattle.scenario_lines.specs.VrfGrammar.{overlaps, is_vpn_at};
+ghost use Rattle.scenario_lines.specs.SiteGrammar.{is_mixed, is_taken};
 
 use mv_base::{NodeId, Prefix, SiteId};
 use route_targets::Targets;
@@ -76,12 +78,14 @@ pub fn is_any_mixed(scenario: &Scenario, new: &Iface, ifaces: &[Iface]) -> bool
 fn is_taken(scenario: &Scenario, new: &Iface, iface: &Iface) -> bool
     ensures { result ≡ is_taken scenario.now new.now iface.now }
 {
-    iface.site.0 != new.site.0
-        && same_vpn(scenario, iface.vrf, new.vrf)
-        && share_prefix(
-            prefixes_of(scenario, new.site),
-            prefixes_of(scenario, iface.site),
-        )
+    if iface.site.0 == new.site.0 {
+        return false;
+    }
+    let shared = share_prefix(
+        prefixes_of(scenario, new.site),
+        prefixes_of(scenario, iface.site),
+    );
+    shared && same_vpn(scenario, iface.vrf, new.vrf)
 }
 
 /// Whether some interface attaches another site with a prefix of the new one's site to its VPN.

@@ -1,16 +1,16 @@
 //! The lines of VRFs.
 ghost use Rattle.std.specs.Prelude.{◌≡◌, map};
+ghost use Rattle.line_words.specs.Answers.{Gives};
 ghost use Rattle.line_words.specs.Words.{placed_word};
-ghost use Rattle.scenario_lines.specs.ScenarioGrammar.{vrf_head, vrf_tail, vrf_rules, vrf_words, vrf_counted, vrf_line};
+ghost use Rattle.scenario_lines.specs.VrfGrammar.{vrf_head, vrf_tail, vrf_rules, vrf_words, vrf_counted, vrf_line};
 
-use crate::draft::Draft;
-use crate::line::Line;
 use crate::lists::{is_overlap, is_vpn_taken};
-use crate::naming::{edge_at, new_name, rd_at, vrf_number_at};
-use line_words::{Reason, Row, TextFault, Word, fault_at, rule_at, targets_at};
+use line_words::{ReadFault, Reason, Row, TextFault, Word, fault_at, rule_at, targets_at};
 use mv_base::{NodeId, Rd, Rule, VrfId};
 use route_targets::Targets;
 use scenario_defs::{Name, Vrf};
+use scenario_draft::{Draft, Line, edge_at, new_name, rd_at, vrf_number_at};
+use std::alloc::Global;
 
 const VRF_LIMIT: usize = 256;
 
@@ -30,7 +30,7 @@ pub struct VrfTail {
     pub rule: Rule,
 }
 
-#[tactic(auto, unfolding(crate::specs::ScenarioGrammar::vrf_head))]
+#[tactic(auto, unfolding(crate::specs::VrfGrammar::vrf_head))]
 fn vrf_head(
     draft: &Draft,
     row: Row,
@@ -46,24 +46,25 @@ fn vrf_head(
     Ok(VrfHead { name, edge, number })
 }
 
-#[tactic(auto, unfolding(crate::specs::ScenarioGrammar::vrf_tail))]
+#[tactic(auto, unfolding(crate::specs::VrfGrammar::vrf_tail))]
 fn vrf_tail(
+    alloc: Global,
     draft: &Draft,
     row: Row,
     edge: NodeId,
     rd: &Word,
     targets: &Word,
     rule: &Word,
-) -> Result<VrfTail, TextFault>
-    ensures { result ≡ vrf_tail draft.now row edge (placed_word rd.now) (placed_word targets.now) (placed_word rule.now) }
+) -> Result<VrfTail, ReadFault>
+    ensures { Gives result (vrf_tail draft.now row edge (placed_word rd.now) (placed_word targets.now) (placed_word rule.now)) }
 {
     let rd = rd_at(draft, row, edge, rd)?;
-    let targets = targets_at(row, targets)?;
+    let targets = targets_at(alloc, row, targets)?;
     let rule = rule_at(row, rule)?;
     Ok(VrfTail { rd, targets, rule })
 }
 
-#[tactic(auto, unfolding(crate::specs::ScenarioGrammar::vrf_rules))]
+#[tactic(auto, unfolding(crate::specs::VrfGrammar::vrf_rules))]
 fn vrf_rules(
     draft: &Draft,
     row: Row,
@@ -94,8 +95,9 @@ fn vrf_rules(
     })
 }
 
-#[tactic(auto, unfolding(crate::specs::ScenarioGrammar::vrf_words))]
+#[tactic(auto, unfolding(crate::specs::VrfGrammar::vrf_words))]
 fn vrf_words(
+    alloc: Global,
     draft: &Draft,
     row: Row,
     id: VrfId,
@@ -105,35 +107,51 @@ fn vrf_words(
     rd: &Word,
     targets: &Word,
     rule: &Word,
-) -> Result<Line, TextFault>
-    ensures { result ≡ vrf_words draft.now row id (placed_word name.now) (placed_word edge.now) (placed_word number.now) (placed_word rd.now) (placed_word targets.now) (placed_word rule.now) }
+) -> Result<Line, ReadFault>
+    ensures { Gives result (vrf_words draft.now row id (placed_word name.now) (placed_word edge.now) (placed_word number.now) (placed_word rd.now) (placed_word targets.now) (placed_word rule.now)) }
 {
     let head = vrf_head(draft, row, name, edge, number)?;
-    let tail = vrf_tail(draft, row, head.edge, rd, targets, rule)?;
-    vrf_rules(draft, row, id, targets, head, tail)
+    let tail = vrf_tail(alloc, draft, row, head.edge, rd, targets, rule)?;
+    Ok(vrf_rules(draft, row, id, targets, head, tail)?)
 }
 
-#[tactic(auto, unfolding(crate::specs::ScenarioGrammar::vrf_counted))]
-fn vrf_counted(draft: &Draft, row: Row, id: VrfId, words: &[Word]) -> Result<Line, TextFault>
-    ensures { result ≡ vrf_counted draft.now row id (map placed_word words.now) }
+#[tactic(auto, unfolding(crate::specs::VrfGrammar::vrf_counted))]
+fn vrf_counted(
+    alloc: Global,
+    draft: &Draft,
+    row: Row,
+    id: VrfId,
+    words: &[Word],
+) -> Result<Line, ReadFault>
+    ensures { Gives result (vrf_counted draft.now row id (map placed_word words.now)) }
 {
     match words {
         [name, edge, number, rd, targets, rule] => {
-            vrf_words(draft, row, id, name, edge, number, rd, targets, rule)
+            vrf_words(alloc, draft, row, id, name, edge, number, rd, targets, rule)
         }
-        [_, _, _, _, _, _, extra, ..] => Err(fault_at(row.number, extra.column, Reason::Count)),
-        _ => Err(fault_at(row.number, row.after, Reason::Count)),
+        [_, _, _, _, _, _, extra, ..] => Err(ReadFault::Text(fault_at(
+            row.number,
+            extra.column,
+            Reason::Count,
+        ))),
+        _ => Err(ReadFault::Text(fault_at(row.number, row.after, Reason::Count))),
     }
 }
 
 /// The line of a VRF by its words.
-#[tactic(auto, unfolding(crate::specs::ScenarioGrammar::vrf_line))]
-pub fn vrf_line(draft: &Draft, row: Row, first: &Word, rest: &[Word]) -> Result<Line, TextFault>
-    ensures { result ≡ vrf_line draft.now row (placed_word first.now) (map placed_word rest.now) }
+#[tactic(auto, unfolding(crate::specs::VrfGrammar::vrf_line))]
+pub fn vrf_line(
+    alloc: Global,
+    draft: &Draft,
+    row: Row,
+    first: &Word,
+    rest: &[Word],
+) -> Result<Line, ReadFault>
+    ensures { Gives result (vrf_line draft.now row (placed_word first.now) (map placed_word rest.now)) }
 {
     let number = draft.scenario().vrfs.len();
     if number >= VRF_LIMIT {
-        return Err(fault_at(row.number, first.column, Reason::Limit));
+        return Err(ReadFault::Text(fault_at(row.number, first.column, Reason::Limit)));
     }
-    vrf_counted(draft, row, VrfId(number as u16), rest)
+    vrf_counted(alloc, draft, row, VrfId(number as u16), rest)
 }

@@ -1,0 +1,147 @@
+//! The lines of nodes and links.
+ghost use Rattle.std.specs.Prelude.{◌≡◌, map, count_by};
+ghost use Rattle.line_words.specs.Words.{placed_word};
+ghost use Rattle.scenario_lines.specs.NodeGrammar.{node_words, node_counted, is_full, node_line, cost_of, link_between, link_words, link_counted, link_line};
+
+use line_words::{Reason, Row, TextFault, Word, fault_at, or_fault};
+use mv_base::{Link, NodeId, read_number};
+use scenario_defs::{Node, Scenario};
+use scenario_draft::{Draft, Line, new_name, node_addr_at, node_at, other_end_at};
+
+const NODE_LIMIT: usize = 64;
+
+/// The most nodes that are edges.
+const EDGE_LIMIT: usize = 32;
+
+const LINK_LIMIT: usize = 256;
+
+const COST_LIMIT: u64 = 65535;
+
+#[tactic(auto, unfolding(crate::specs::NodeGrammar::node_words))]
+fn node_words(
+    draft: &Draft,
+    row: Row,
+    edge: bool,
+    id: NodeId,
+    name: &Word,
+    addr: &Word,
+) -> Result<Line, TextFault>
+    ensures { result ≡ node_words draft.now row edge id (placed_word name.now) (placed_word addr.now) }
+{
+    let name = new_name(draft, row, name)?;
+    let addr = node_addr_at(draft, row, addr)?;
+    Ok(Line::Node {
+        id,
+        node: Node { name, addr, edge },
+    })
+}
+
+#[tactic(auto, unfolding(crate::specs::NodeGrammar::node_counted))]
+fn node_counted(
+    draft: &Draft,
+    row: Row,
+    edge: bool,
+    id: NodeId,
+    words: &[Word],
+) -> Result<Line, TextFault>
+    ensures { result ≡ node_counted draft.now row edge id (map placed_word words.now) }
+{
+    match words {
+        [name, addr] => node_words(draft, row, edge, id, name, addr),
+        [_, _, extra, ..] => Err(fault_at(row.number, extra.column, Reason::Count)),
+        _ => Err(fault_at(row.number, row.after, Reason::Count)),
+    }
+}
+
+fn edge_count(nodes: &[Node]) -> usize
+    ensures { result ≡ count_by (λ node. node.edge) nodes.now }
+{
+    nodes.iter().filter(|node| node.edge).count()
+}
+
+/// Whether there is room for no more nodes, or for no more edges where it is one.
+fn is_full(scenario: &Scenario, edge: bool) -> bool
+    ensures { result ≡ is_full scenario.now edge }
+{
+    let edges = edge_count(scenario.nodes.as_slice());
+    scenario.nodes.len() >= NODE_LIMIT || (edge && edges >= EDGE_LIMIT)
+}
+
+/// The line of a node by its words.
+#[tactic(auto, unfolding(crate::specs::NodeGrammar::node_line))]
+pub fn node_line(
+    draft: &Draft,
+    row: Row,
+    edge: bool,
+    first: &Word,
+    rest: &[Word],
+) -> Result<Line, TextFault>
+    ensures { result ≡ node_line draft.now row edge (placed_word first.now) (map placed_word rest.now) }
+{
+    let scenario = draft.scenario();
+    if is_full(scenario, edge) {
+        return Err(fault_at(row.number, first.column, Reason::Limit));
+    }
+    let number = scenario.nodes.len();
+    node_counted(draft, row, edge, NodeId(number as u16), rest)
+}
+
+#[tactic(auto, unfolding(crate::specs::NodeGrammar::cost_of))]
+fn cost_of(text: &[u8]) -> Option<u32>
+    ensures { result ≡ cost_of text.now }
+{
+    let cost = read_number(text)?;
+    if cost >= 1 && cost <= COST_LIMIT {
+        Some(cost as u32)
+    } else {
+        None
+    }
+}
+
+#[tactic(auto, unfolding(crate::specs::NodeGrammar::link_between))]
+fn link_between(row: Row, b: &Word, from: NodeId, to: NodeId, cost: u32) -> Result<Line, TextFault>
+    ensures { result ≡ link_between row (placed_word b.now) from to cost }
+{
+    if from.0 == to.0 {
+        return Err(fault_at(row.number, b.column, Reason::Same));
+    }
+    Ok(Line::Link {
+        link: Link {
+            a: from,
+            b: to,
+            cost,
+        },
+    })
+}
+
+#[tactic(auto, unfolding(crate::specs::NodeGrammar::link_words))]
+fn link_words(draft: &Draft, row: Row, a: &Word, b: &Word, cost: &Word) -> Result<Line, TextFault>
+    ensures { result ≡ link_words draft.now row (placed_word a.now) (placed_word b.now) (placed_word cost.now) }
+{
+    let from = node_at(draft, row, a)?;
+    let to = other_end_at(draft, row, from, b)?;
+    let cost = or_fault(cost_of(cost.text), row, cost, Reason::Number)?;
+    link_between(row, b, from, to, cost)
+}
+
+#[tactic(auto, unfolding(crate::specs::NodeGrammar::link_counted))]
+fn link_counted(draft: &Draft, row: Row, words: &[Word]) -> Result<Line, TextFault>
+    ensures { result ≡ link_counted draft.now row (map placed_word words.now) }
+{
+    match words {
+        [a, b, cost] => link_words(draft, row, a, b, cost),
+        [_, _, _, extra, ..] => Err(fault_at(row.number, extra.column, Reason::Count)),
+        _ => Err(fault_at(row.number, row.after, Reason::Count)),
+    }
+}
+
+/// The line of a link by its words.
+#[tactic(auto, unfolding(crate::specs::NodeGrammar::link_line))]
+pub fn link_line(draft: &Draft, row: Row, first: &Word, rest: &[Word]) -> Result<Line, TextFault>
+    ensures { result ≡ link_line draft.now row (placed_word first.now) (map placed_word rest.now) }
+{
+    if draft.scenario().links.len() >= LINK_LIMIT {
+        return Err(fault_at(row.number, first.column, Reason::Limit));
+    }
+    link_counted(draft, row, rest)
+}

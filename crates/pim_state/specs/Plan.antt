@@ -9,7 +9,7 @@ use Rattle.scenario_defs.specs.declared.event.JoinEntry.TheVariants.{Star, Rpt}
 use Rattle.scenario_defs.specs.contracts.event.JoinEntryPartialEq.TheImpl as entries_equal
 use Rattle.pim_joinprune.specs.declared.message.JoinPrune.{JoinPrune}
 use Rattle.scenario_defs.specs.declared.event.IfaceEntry.{IfaceEntry}
-use Rattle.pim_defs.specs.contracts.entry.IfaceEntryPartialEq.TheImpl as ifaces_equal
+use Rattle.scenario_defs.specs.contracts.event.IfaceEntryPartialEq.TheImpl as ifaces_equal
 use Rattle.pim_defs.specs.declared.expiry.Expiry.{Expiry}
 use Rattle.pim_defs.specs.declared.mention.Mention.{Mention}
 use Rattle.pim_defs.specs.Mention.{group_of, joins, prunes, expiry_after}

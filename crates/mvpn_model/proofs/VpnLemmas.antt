@@ -2,7 +2,7 @@
 -- edge, they are in one VRF, at which the site's datagrams enter.
 use Rattle.std.proofs.Common.{◌≡◌, ℕ, ◌+◌, ◌<◌, ◌≤◌, List, [], ◌∷◌, true, false, Bool, zero, suc, length, refl, sym, ap, inl, inr, ◌∙◌, arith}
 use Rattle.std.specs.Prelude.{◌==◌, ◌&&◌, Option, None, Some, slice_get, find, option_map}
-use Rattle.std.specs.List.{list_any, list_all, AllByRecursion}
+use Rattle.std.specs.List.{list_all, AllByRecursion}
 use Rattle.std.specs.Option.{option_to_list}
 use Rattle.std.specs.Cmp.{both_ways}
 use Rattle.std.specs.Cmp.Lexicographic.{nat_list_eq_equiv}
@@ -18,7 +18,7 @@ use Rattle.scenario_defs.specs.declared.scenario.Iface.{Iface}
 use Rattle.scenario_defs.specs.declared.scenario.Scenario.{Scenario}
 use Rattle.scenario_defs.specs.Rules.{Rules, IsEdge}
 use Rattle.scenario_defs.specs.Vpn.{targets_of, admits, same_vpn, is_of_site, is_of_vrf, is_attached, is_attached_at, vrf_of_site, entered, entered_from}
-use Rattle.scenario_defs.specs.Home.{routes, routes_from, local_routes, home, home_by, local_choice}
+use Rattle.scenario_defs.specs.Home.{routes_from, home, home_by, local_choice}
 use Rattle.scenario_defs.proofs.RuleLemmas.{vrf_rules_at, apart_at, iface_rules_at, vpns_at}
 use Rattle.mvpn_model.proofs.ListLemmas.{passes-from_any, passes-from_find, none-from_find, none-from_each, any-from_at, any-same, every-from_each, and_swap}
 

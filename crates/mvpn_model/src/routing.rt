@@ -154,11 +154,7 @@ pub fn routes(alloc: Global, scenario: &Scenario, vrf: VrfId) -> Result<Seq<Rout
 }
 
 /// The local routes of the VRF: each prefix of each site that is attached at the VRF itself, in order of sites.
-pub fn local_routes(
-    alloc: Global,
-    scenario: &Scenario,
-    vrf: VrfId,
-) -> Result<Seq<Route>, NoMemory>
+pub fn local_routes(alloc: Global, scenario: &Scenario, vrf: VrfId) -> Result<Seq<Route>, NoMemory>
     requires { length scenario.now.sites ≤ 2 ^ 16 }
     ensures { IfOk result (λ all. all ≡ local_routes scenario.now vrf) }
 {

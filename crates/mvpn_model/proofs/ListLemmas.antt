@@ -1,6 +1,6 @@
 -- Facts about lists that the laws share.
-use Rattle.std.proofs.Common.{◌≡◌, ℕ, List, [], ◌∷◌, ◌++◌, true, false, Bool, cond, zero, suc, refl, sym, inl, inr}
-use Rattle.std.specs.Prelude.{◌&&◌, None, Some, slice_get, find}
+use Rattle.std.proofs.Common.{◌≡◌, ℕ, List, [], ◌∷◌, ◌++◌, true, false, Bool, cond, zero, suc, refl, sym, ap, ◌∙◌, inl, inr}
+use Rattle.std.specs.Prelude.{◌&&◌, ◌||◌, None, Some, slice_get, find}
 use Rattle.std.specs.List.{list_any, list_all, AllByRecursion}
 use Rattle.std.proofs.lemmas.Bool.{cases_Bool, or_cases, or_left, or_right, or_from, and_from, false_from_ne_true}
 
@@ -61,6 +61,13 @@ none-from_find test (x ∷ xs) h = elim (cases_Bool (test x)) [
 pub none-from_each : {X : Type 0} (test : X → Bool) (xs : List X) →
     ((place : ℕ) (value : X) → slice_get xs place ≡ Some value → test value ≡ true → ⊥) → list_any test xs ≡ false
 none-from_each test xs h = false_from_ne_true (list_any test xs) (λ t. let p = passes-from_any test xs t in h p.place p.value p.at p.passes)
+
+-- Two tests that agree at each element pass one or both none.
+pub any-same : {X : Type 0} (p q : X → Bool) (xs : List X) →
+    ((place : ℕ) (value : X) → slice_get xs place ≡ Some value → p value ≡ q value) → list_any p xs ≡ list_any q xs
+any-same p q [] h = refl
+any-same p q (x ∷ xs) h =
+    ap (λ b. b || list_any p xs) (h 0 x refl) ∙ ap (λ b. q x || b) (any-same p q xs (λ place. h (suc place)))
 
 -- All elements pass where each one does.
 pub every-from_each : {X : Type 0} (test : X → Bool) (xs : List X) →

@@ -1,3 +1,4 @@
+pub mod Scope
 pub mod Messages
 pub mod Past
 pub mod Packet

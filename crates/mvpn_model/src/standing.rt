@@ -6,7 +6,7 @@ ghost use Rattle.mvpn_model.specs.Past.{is_accepted, ticks_of, ticks_in, is_of_e
 use crate::message::{Given, message_of};
 use mv_base::{IfaceId, NoMemory, NodeId};
 use pim_defs::{Expiry, counts, expiry_after, mention_of};
-use scenario_defs::{Event, JoinEntry, Scenario, Timed};
+use scenario_defs::{Event, JoinEntry, Scenario, Timed, edge_of};
 use std::alloc::Global;
 
 /// The clock, and the expiry of an entry where it is there.
@@ -43,11 +43,8 @@ fn ticks_of(event: &Event) -> u64
 fn is_of_edge(scenario: &Scenario, node: NodeId, iface: IfaceId) -> bool
     ensures { result ≡ is_of_edge scenario.now node iface }
 {
-    match scenario.ifaces.as_slice().get(iface.0 as usize) {
-        Some(found) => match scenario.vrfs.as_slice().get(found.vrf.0 as usize) {
-            Some(vrf) => vrf.edge.0 == node.0,
-            None => false,
-        },
+    match edge_of(scenario, iface) {
+        Some(edge) => edge.0 == node.0,
         None => false,
     }
 }

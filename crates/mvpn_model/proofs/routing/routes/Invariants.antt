@@ -1,6 +1,0 @@
-use Rattle.std.proofs.Common.{◌≡◌, ◌++◌, drop}
-use Rattle.scenario_defs.specs.Home.{routes_from}
-use Rattle.mvpn_model.proofs.routing.routes.Given as goal
-
-abbrev pub invariant-loop-number : goal.invariant-loop-number
-invariant-loop-number l = l.all ++ routes_from l.scenario l.vrf l.number (drop l.number l.sites) ≡ routes_from l.scenario l.vrf 0 l.sites

@@ -1,27 +1,37 @@
 -- Laws of the table of flows, and of the interfaces at which a datagram leaves.
-use Rattle.std.proofs.Common.{◌≡◌, ℕ, ◌+◌, Bool, true, false, List, [], ◌∷◌, map, filter, refl, sym, ap, ◌∙◌, cond, subst, suc, arith, Some}
-use Rattle.std.specs.Prelude.{◌&&◌, not, slice_get}
+use Rattle.std.proofs.Common.{◌≡◌, ℕ, ◌+◌, Bool, true, false, List, [], ◌∷◌, ◌++◌, map, filter, refl, sym, ap, ◌∙◌, cond, subst, suc, arith}
+use Rattle.std.specs.Prelude.{◌&&◌, not, slice_get, Option, None, Some}
+use Rattle.std.specs.List.{flat_map}
+use Rattle.std.specs.FinMap.{empty}
 use Rattle.std.proofs.lemmas.Bool.{and_parts}
 use Rattle.indexmap.specs.IndexMap.{IsEmpty, get}
 use Rattle.mv_base.specs.declared.ids.IfaceId.{IfaceId}
+use Rattle.mv_base.specs.declared.ids.NodeId.{NodeId}
 use Rattle.mv_base.specs.declared.ids.SiteId.{SiteId}
 use Rattle.mv_base.specs.declared.ids.VrfId.{VrfId}
 use Rattle.mv_base.specs.declared.addr.Addr.{Addr}
 use Rattle.mv_base.specs.Address.{same_addr, same_addr_equal}
 use Rattle.scenario_defs.specs.declared.scenario.Iface.{Iface}
+use Rattle.scenario_defs.specs.declared.event.Event.TheVariants as events
 use Rattle.scenario_defs.specs.declared.report.ReportLine.TheVariants as lines
-use Rattle.scenario_defs.specs.Vpn.{ifaces_where, is_of_vrf, is_of_site}
-use Rattle.pim_defs.specs.Entries.{Entries, asks}
-use Rattle.mvpn_model.specs.Past.{is_home}
+use Rattle.scenario_defs.specs.Vpn.{edge_of, entered, ifaces_where, is_of_vrf, is_of_site}
 use Rattle.mvpn_model.specs.Packet.{packet}
-use Rattle.net_defs.specs.Network.{Network, entering, leaves}
+use Rattle.pim_defs.specs.Entries.{asks}
+use Rattle.net_defs.specs.Network.{Network, entries_of_node, is_asking, is_chosen, entering, leaves}
 use Rattle.net_world.specs.declared.flows.Flow.{Flow}
-use Rattle.net_world.specs.Entering.{is_outside, outs}
+use Rattle.net_world.specs.Entering.{is_outside, outs, outs_of_each}
 use Rattle.net_world.specs.Flows.{FlowTable, same_flow, asking, AreKept, Keeps}
+use Rattle.net_world.specs.WorldState.{event_lines}
+use Rattle.net_world.proofs.DownstreamsLemmas.{none_asks}
+
+-- An interface of no edge asks for nothing.
+pub unattached_asks : (network : Network) (source group : Addr) (iface : IfaceId) → edge_of network.scenario iface ≡ None → is_asking network source group iface ≡ false
+unattached_asks network source group iface h =
+    ap (λ (o : Option NodeId). asks (elim o [ None ↦ empty | Some edge ↦ entries_of_node network edge ]) iface source group false network.clock) h ∙ none_asks iface source group network.clock
 
 -- An empty table tells nothing.
-pub keeps_none : (flows : FlowTable) (entries : Entries) (clock : ℕ) (ifaces : List Iface) → IsEmpty flows → Keeps flows entries clock ifaces
-keeps_none flows entries clock ifaces h source group = rw h tt
+pub keeps_none : (flows : FlowTable) (network : Network) → IsEmpty flows → Keeps flows network
+keeps_none flows network h source group = rw h tt
 
 same_flow_equal : (a b : Flow) → same_flow a b ≡ true → a ≡ b
 same_flow_equal a b h =
@@ -31,14 +41,14 @@ same_flow_equal a b h =
     λ i. record { source = source i; group = group i }
 
 -- With the interfaces that ask for one more flow the table still tells those that ask.
-pub keeps_more : (old new : FlowTable) (entries : Entries) (clock : ℕ) (ifaces : List Iface) (flow : Flow) (list : List IfaceId) → list ≡ asking entries clock ifaces flow.source flow.group →
-    ((q : Flow) → get same_flow new q ≡ cond (same_flow flow q) (Some list) (get same_flow old q)) → Keeps old entries clock ifaces → Keeps new entries clock ifaces
-keeps_more old new entries clock ifaces flow list told updates keeps source group =
+pub keeps_more : (old new : FlowTable) (network : Network) (flow : Flow) (list : List IfaceId) → list ≡ asking network flow.source flow.group →
+    ((q : Flow) → get same_flow new q ≡ cond (same_flow flow q) (Some list) (get same_flow old q)) → Keeps old network → Keeps new network
+keeps_more old new network flow list told updates keeps source group =
     let at : Flow = record { source = source; group = group } in
-    subst (AreKept (asking entries clock ifaces source group)) (sym (updates at)) (by (same_flow flow at) refl)
+    subst (AreKept (asking network source group)) (sym (updates at)) (by (same_flow flow at) refl)
   where
-    by : (b : Bool) → same_flow flow (record { source = source; group = group }) ≡ b → AreKept (asking entries clock ifaces source group) (cond b (Some list) (get same_flow old (record { source = source; group = group })))
-    by true h = told ∙ ap (λ (f : Flow). asking entries clock ifaces f.source f.group) (same_flow_equal flow (record { source = source; group = group }) h)
+    by : (b : Bool) → same_flow flow (record { source = source; group = group }) ≡ b → AreKept (asking network source group) (cond b (Some list) (get same_flow old (record { source = source; group = group })))
+    by true h = told ∙ ap (λ (f : Flow). asking network f.source f.group) (same_flow_equal flow (record { source = source; group = group }) h)
     by false h = keeps source group
 
 outside_cond : (b t : Bool) (id : IfaceId) (xs : List IfaceId) → cond t (cond b (id ∷ xs) xs) xs ≡ cond (b && t) (id ∷ xs) xs
@@ -71,15 +81,36 @@ outside-where all vrf site test number (iface ∷ more) at =
 at_own : (ifaces : List Iface) (k : ℕ) (iface : Iface) → slice_get ifaces k ≡ Some iface → slice_get ifaces (0 + k) ≡ Some iface
 at_own ifaces k iface h = let e : k ≡ 0 + k = omega arith in subst (λ (n : ℕ). slice_get ifaces n ≡ Some iface) e h
 
--- The lines of an entering at the home's VRF are those of the joined interfaces outside the site.
-pub entering-outs : (network : Network) (joined : List IfaceId) (vrf : VrfId) (site : SiteId) (source group : Addr) (payload : List ℕ) → is_home network.scenario vrf source site ≡ true → joined ≡ ifaces_where (λ number iface. asks network.entries number source group false network.clock) 0 network.scenario.ifaces
-    → outs network.scenario.ifaces vrf site (network.accepted + 1) (packet source group payload) joined ≡ entering network site source group payload vrf
-entering-outs network joined vrf site source group payload home told =
+-- The lines at a VRF that chooses the site are those of the datagram's entering there.
+entering-chosen : (network : Network) (site : SiteId) (source group : Addr) (payload : List ℕ) (vrf : VrfId) → is_chosen network.scenario vrf source site ≡ true
+    → outs network.scenario.ifaces site (network.accepted + 1) (packet source group payload) (asking network source group) vrf ≡ entering network site source group payload vrf
+entering-chosen network site source group payload vrf chosen =
     let out = λ (iface : IfaceId). lines.Out (network.accepted + 1) iface (packet source group payload) in
-    ap (outs network.scenario.ifaces vrf site (network.accepted + 1) (packet source group payload)) told
-    ∙ (ap (map out) (outside-where network.scenario.ifaces vrf site (λ number. asks network.entries number source group false network.clock) 0 network.scenario.ifaces (at_own network.scenario.ifaces)) ∙ sym (rw (home, entering, leaves) refl))
+    ap (map out) (outside-where network.scenario.ifaces vrf site (is_asking network source group) 0 network.scenario.ifaces (at_own network.scenario.ifaces)) ∙ sym (rw (chosen, entering, leaves) refl)
 
--- The same, from what a world keeps.
-pub outs-told : (network : Network) (ifaces : List Iface) (joined : List IfaceId) (octets : List ℕ) (vrf : VrfId) (site : SiteId) (source group : Addr) (payload : List ℕ) → is_home network.scenario vrf source site ≡ true → ifaces ≡ network.scenario.ifaces → octets ≡ packet source group payload → joined ≡ ifaces_where (λ number iface. asks network.entries number source group false network.clock) 0 network.scenario.ifaces
-    → outs ifaces vrf site (network.accepted + 1) octets joined ≡ entering network site source group payload vrf
-outs-told network ifaces joined octets vrf site source group payload home e o told = rw (e, o) (entering-outs network joined vrf site source group payload home told)
+-- Elsewhere it has no line.
+entering-unchosen : (network : Network) (site : SiteId) (source group : Addr) (payload : List ℕ) (vrf : VrfId) → is_chosen network.scenario vrf source site ≡ false → entering network site source group payload vrf ≡ []
+entering-unchosen network site source group payload vrf unchosen = rw (unchosen, entering, leaves) refl
+
+-- Lists for those that pass are lists for all, where each other one has none.
+flat-filter : {X Y : Type 0} (p : X → Bool) (f g : X → List Y) → ((x : X) → p x ≡ true → f x ≡ g x) → ((x : X) → p x ≡ false → g x ≡ []) → (xs : List X) → flat_map f (filter p xs) ≡ flat_map (λ ys. ys) (map g xs)
+flat-filter p f g same none [] = refl
+flat-filter {X} {Y} p f g same none (x ∷ xs) = by (p x) refl (flat-filter p f g same none xs)
+  where
+    by : (b : Bool) → p x ≡ b → flat_map f (filter p xs) ≡ flat_map (λ ys. ys) (map g xs) → flat_map f (cond b (x ∷ filter p xs) (filter p xs)) ≡ g x ++ flat_map (λ ys. ys) (map g xs)
+    by true h behind = λ i. same x h i ++ behind i
+    by false h behind = behind ∙ ap (λ (ys : List Y). ys ++ flat_map (λ zs. zs) (map g xs)) (sym (none x h))
+
+-- The lines at those of the VRFs that choose the site are those of an entering at each of them.
+pub entering_each : (network : Network) (site : SiteId) (source group : Addr) (payload : List ℕ) (vrfs : List VrfId)
+    → outs_of_each network.scenario.ifaces site (network.accepted + 1) (packet source group payload) (asking network source group) (filter (λ vrf. is_chosen network.scenario vrf source site) vrfs)
+    ≡ flat_map (λ act. act) (map (entering network site source group payload) vrfs)
+entering_each network site source group payload vrfs =
+    flat-filter (λ vrf. is_chosen network.scenario vrf source site) (outs network.scenario.ifaces site (network.accepted + 1) (packet source group payload) (asking network source group)) (entering network site source group payload)
+    (entering-chosen network site source group payload) (entering-unchosen network site source group payload) vrfs
+
+-- The lines of a send are those at the VRFs at which its site is attached and that choose it.
+pub sent-lines : (network : Network) (line : ℕ) (site : SiteId) (source group : Addr) (payload : List ℕ)
+    → outs_of_each network.scenario.ifaces site (network.accepted + 1) (packet source group payload) (asking network source group) (filter (λ vrf. is_chosen network.scenario vrf source site) (entered network.scenario site))
+    ≡ event_lines network line (events.Send site source group payload)
+sent-lines network line site source group payload = entering_each network site source group payload (entered network.scenario site)

@@ -1,13 +1,17 @@
 -- Flows that a message does not name are asked for as before it.
-use Rattle.std.proofs.Common.{◌≡◌, ℕ, ◌==◌, ◌&&◌, ◌||◌, Bool, true, false, cond, not, List, [], ◌∷◌, refl, sym, ap, subst, ◌∙◌}
+use Rattle.std.proofs.Common.{◌≡◌, ℕ, ◌==◌, Bool, true, false, cond, List, [], ◌∷◌, length, refl, sym, ap, subst, ◌∙◌, inl, inr, arith}
+use Rattle.std.specs.Prelude.{Option, None, Some, slice_index_or, slice_set}
 use Rattle.std.specs.List.{list_any}
-use Rattle.std.proofs.lemmas.Bool.{or_from, or_parts, false_from_ne_true, false≢true}
+use Rattle.std.specs.FinMap.{empty}
+use Rattle.std.proofs.lemmas.Bool.{or_from, or_parts, false_from_ne_true, false≢true, cases_lt, cases_order}
+use Rattle.std.proofs.lemmas.List.{get_or-set_same, get_or-set_other, set_past}
 use Rattle.indexmap.specs.IndexMap.{get}
 use Rattle.mv_base.specs.declared.ids.IfaceId.{IfaceId}
+use Rattle.mv_base.specs.declared.ids.NodeId.{NodeId}
 use Rattle.mv_base.specs.declared.addr.Addr.{Addr}
 use Rattle.scenario_defs.specs.declared.scenario.Iface.{Iface}
-use Rattle.scenario_defs.specs.declared.event.JoinEntry.TheVariants.{Star, Source, Rpt}
-use Rattle.scenario_defs.specs.Vpn.{ifaces_where}
+use Rattle.scenario_defs.specs.declared.event.JoinEntry.TheVariants.{Source}
+use Rattle.scenario_defs.specs.Vpn.{edge_of, ifaces_where}
 use Rattle.pim_joinprune.specs.declared.source.SourceKind.{SourceKind}
 use Rattle.pim_joinprune.specs.declared.source.SourceKind.TheVariants as kinds
 use Rattle.pim_joinprune.specs.declared.source.JpSource.{JpSource}
@@ -18,8 +22,10 @@ use Rattle.pim_defs.specs.Expiry.{counts}
 use Rattle.pim_defs.specs.Mention.{same_entry, entry_by, entry_of, lists, mention_of, expiry_after}
 use Rattle.pim_defs.specs.Entries.{Entries, expiry_at, applied, asks}
 use Rattle.pim_defs.proofs.EntriesLemmas.{get-applied}
+use Rattle.net_defs.specs.Network.{Network, entries_of_node, with_entries, is_asking}
 use Rattle.net_world.specs.declared.flows.Flow.{Flow}
 use Rattle.net_world.specs.Flows.{FlowTable, same_flow, asking, AreKept, Keeps, flow_of, names, names_in, unless}
+use Rattle.net_world.proofs.DownstreamsLemmas.{asks_joined}
 
 -- A source that names the entry (S,G) names the flow.
 flow_by : (kind : SourceKind) (group addr s g : Addr) → same_entry (entry_by kind group addr) (Source s g) ≡ true → same_flow (record { source = addr; group = group }) (record { source = s; group = g }) ≡ true
@@ -64,16 +70,6 @@ entry_stays entries iface message clock number s g h =
     stays true = rw (unpruned message.groups s g h, unjoined message.groups s g h) refl
     stays false = refl
 
--- Where no source is known to send, an interface asks by its entry (S,G) alone.
-only_joined : (a b c : Bool) → (a || (b && not c && false)) ≡ a
-only_joined true b c = refl
-only_joined false true true = refl
-only_joined false true false = refl
-only_joined false false c = refl
-
-asks_joined : (entries : Entries) (number : IfaceId) (s g : Addr) (clock : ℕ) → asks entries number s g false clock ≡ counts clock (expiry_at entries number (Source s g))
-asks_joined entries number s g clock = only_joined (counts clock (expiry_at entries number (Source s g))) (counts clock (expiry_at entries number (Star g))) (counts clock (expiry_at entries number (Rpt s g)))
-
 asks_stays : (entries : Entries) (iface : IfaceId) (message : JoinPrune) (clock : ℕ) (number : IfaceId) (s g : Addr) →
     list_any (λ group. names_in group (record { source = s; group = g })) message.groups ≡ false →
     asks entries number s g false clock ≡ asks (applied entries iface message clock) number s g false clock
@@ -83,17 +79,41 @@ asks_stays entries iface message clock number s g h =
 where-same : (p q : IfaceId → Bool) (number : ℕ) (ifaces : List Iface) → ((id : IfaceId) → p id ≡ q id) → ifaces_where (λ id iface. p id) number ifaces ≡ ifaces_where (λ id iface. q id) number ifaces
 where-same p q number ifaces h = ap (λ (test : IfaceId → Bool). ifaces_where (λ id iface. test id) number ifaces) (λ i id. h id i)
 
--- A table from which the flows that a message names are forgotten still tells who asks, behind the message.
-pub keeps_after : (old new : FlowTable) (entries : Entries) (iface : IfaceId) (message : JoinPrune) (clock : ℕ) (ifaces : List Iface) →
-    ((flow : Flow) → get same_flow new flow ≡ unless (list_any (λ group. names_in group flow) message.groups) (get same_flow old flow)) →
-    Keeps old entries clock ifaces → Keeps new (applied entries iface message clock) clock ifaces
-keeps_after old new entries iface message clock ifaces forgets keeps s g =
-    let flow : Flow = record { source = s; group = g } in
-    subst (AreKept (asking (applied entries iface message clock) clock ifaces s g)) (sym (forgets flow)) (by (list_any (λ group. names_in group flow) message.groups) refl)
+-- What holds of the value at each place, where it holds of the one that is set.
+set_stays : (P : Entries → Type 0) (all : List Entries) (n k : ℕ) (e : Entries) → P (slice_index_or all k empty) → (k ≡ n → P e) → P (slice_index_or (slice_set all n e) k empty)
+set_stays P all n k e h at = elim (cases_order k n) [
+  | inl same ↦ elim (cases_lt n (length all)) [
+    | inl within ↦ subst P (sym (ap (λ (m : ℕ). slice_index_or (slice_set all n e) m empty) same ∙ get_or-set_same all n e empty within)) (at same)
+    | inr past ↦ subst (λ (l : List Entries). P (slice_index_or l k empty)) (sym (set_past all n e past)) h
+  ]
+  | inr other ↦ subst P (sym (get_or-set_other all n k e empty (λ same. elim other [ inl lt ↦ omega (arith, lt, same) | inr gt ↦ omega (arith, gt, same) ]))) h
+]
+
+-- An interface asks for a flow that a message does not name as before the message, whichever edge takes it.
+asking_stays : (network : Network) (edge : NodeId) (iface : IfaceId) (message : JoinPrune) (s g : Addr) →
+    list_any (λ group. names_in group (record { source = s; group = g })) message.groups ≡ false → (id : IfaceId) →
+    is_asking network s g id ≡ is_asking (with_entries network edge (applied (entries_of_node network edge) iface message network.clock)) s g id
+asking_stays network edge iface message s g h id = by (edge_of network.scenario id)
   where
-    by : (b : Bool) → list_any (λ group. names_in group (record { source = s; group = g })) message.groups ≡ b → AreKept (asking (applied entries iface message clock) clock ifaces s g) (unless b (get same_flow old (record { source = s; group = g })))
+    by : (o : Option NodeId) → asks (elim o [ None ↦ empty | Some own ↦ slice_index_or network.entries own.0 empty ]) id s g false network.clock
+        ≡ asks (elim o [ None ↦ empty | Some own ↦ slice_index_or (slice_set network.entries edge.0 (applied (slice_index_or network.entries edge.0 empty) iface message network.clock)) own.0 empty ]) id s g false network.clock
+    by None = refl
+    by (Some own) =
+        set_stays (λ entries. asks (slice_index_or network.entries own.0 empty) id s g false network.clock ≡ asks entries id s g false network.clock) network.entries edge.0 own.0
+        (applied (slice_index_or network.entries edge.0 empty) iface message network.clock) refl
+        (λ same. ap (λ (n : ℕ). asks (slice_index_or network.entries n empty) id s g false network.clock) same ∙ asks_stays (slice_index_or network.entries edge.0 empty) iface message network.clock id s g h)
+
+-- A table from which the flows that a message names are forgotten still tells who asks, behind the message.
+pub keeps_after : (old new : FlowTable) (network : Network) (edge : NodeId) (iface : IfaceId) (message : JoinPrune) →
+    ((flow : Flow) → get same_flow new flow ≡ unless (list_any (λ group. names_in group flow) message.groups) (get same_flow old flow)) →
+    Keeps old network → Keeps new (with_entries network edge (applied (entries_of_node network edge) iface message network.clock))
+keeps_after old new network edge iface message forgets keeps s g =
+    let flow : Flow = record { source = s; group = g } in
+    subst (AreKept (asking (with_entries network edge (applied (entries_of_node network edge) iface message network.clock)) s g)) (sym (forgets flow)) (by (list_any (λ group. names_in group flow) message.groups) refl)
+  where
+    by : (b : Bool) → list_any (λ group. names_in group (record { source = s; group = g })) message.groups ≡ b →
+        AreKept (asking (with_entries network edge (applied (entries_of_node network edge) iface message network.clock)) s g) (unless b (get same_flow old (record { source = s; group = g })))
     by true h = tt
     by false h =
-        let same : asking entries clock ifaces s g ≡ asking (applied entries iface message clock) clock ifaces s g =
-        where-same (λ id. asks entries id s g false clock) (λ id. asks (applied entries iface message clock) id s g false clock) 0 ifaces (λ id. asks_stays entries iface message clock id s g h) in
+        let same = where-same (is_asking network s g) (is_asking (with_entries network edge (applied (entries_of_node network edge) iface message network.clock)) s g) 0 network.scenario.ifaces (asking_stays network edge iface message s g h) in
         subst (λ (list : List IfaceId). AreKept list (get same_flow old (record { source = s; group = g }))) same (keeps s g)

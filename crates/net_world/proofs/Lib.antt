@@ -1,4 +1,6 @@
+pub mod DownstreamsLemmas
+pub mod TablesLemmas
 pub mod EnteringLemmas
 pub mod FlowsLemmas
-pub mod WorldLemmas
 pub mod ForgetLemmas
+pub mod WorldLemmas

@@ -1,18 +1,22 @@
 -- The codes of the states of a world, by which they are told apart.
-use Rattle.std.specs.Prelude.{ℕ, Option, None, Some, refl, ◌≡◌}
-use Rattle.std.specs.Coded.{Coded, code_by, coded×, coded_ℕ, coded_option}
+use Rattle.std.specs.Prelude.{ℕ, List, Option, None, Some, refl, ◌≡◌}
+use Rattle.std.specs.Coded.{Coded, code_by, coded×, coded_list, coded_ℕ, coded_option}
 use Rattle.scenario_defs.specs.declared.scenario.Scenario.{Scenario}
 use Rattle.scenario_defs.specs.contracts.scenario.Scenario as scenarios
 use Rattle.pim_defs.specs.Entries.{Entries}
 use Rattle.pim_state.specs.Codes.{entries_code}
+use Rattle.net_defs.specs.declared.session.Session.{Session}
+use Rattle.net_defs.specs.contracts.session.Session as sessions
 use Rattle.net_defs.specs.Network.{Network}
 use Rattle.net_world.specs.declared.halt.Halt.{Halt}
 use Rattle.net_world.specs.declared.halt.Halt.TheVariants.{NoLabel, NoMemory}
 use Rattle.net_world.specs.WorldState.{WorldState}
 
 abbrev network_code : Coded Network
-network_code = code_by (Scenario × (ℕ × (ℕ × Entries))) (coded× scenarios.the_row.coded (coded× coded_ℕ (coded× coded_ℕ entries_code)))
-    (λ n. (n.scenario, (n.clock, (n.accepted, n.entries)))) (λ p. record { scenario = p.0; clock = p.1.0; accepted = p.1.1.0; entries = p.1.1.1 }) (λ _. refl)
+network_code = code_by (Scenario × (ℕ × (ℕ × (List Entries × List Session))))
+    (coded× scenarios.the_row.coded (coded× coded_ℕ (coded× coded_ℕ (coded× (coded_list entries_code) (coded_list sessions.the_row.coded)))))
+    (λ n. (n.scenario, (n.clock, (n.accepted, (n.entries, n.sessions)))))
+    (λ p. record { scenario = p.0; clock = p.1.0; accepted = p.1.1.0; entries = p.1.1.1.0; sessions = p.1.1.1.1 }) (λ _. refl)
 
 abbrev halt_to : Halt → Option ℕ
 halt_to (NoLabel node) = Some node.0

@@ -1,5 +1,5 @@
 -- The interfaces that are kept for a flow.
-use Rattle.std.specs.Prelude.{◌≡◌, ℕ, ◌&&◌, ◌||◌, Bool, false, List, [], Option, None, Some, unwrap_or, ⊤, if◌then◌else◌}
+use Rattle.std.specs.Prelude.{◌≡◌, ◌&&◌, ◌||◌, Bool, List, [], Option, None, Some, unwrap_or, ⊤, if◌then◌else◌}
 use Rattle.std.specs.List.{list_any}
 use Rattle.std.specs.declared.hash.FoldHasher.{FoldHasher}
 use Rattle.std.specs.declared.hash.BuildHasherDefault.{BuildHasherDefault}
@@ -7,12 +7,12 @@ use Rattle.indexmap.specs.IndexMap.{IndexMap, get}
 use Rattle.mv_base.specs.declared.ids.IfaceId.{IfaceId}
 use Rattle.mv_base.specs.declared.addr.Addr.{Addr}
 use Rattle.mv_base.specs.Address.{same_addr}
-use Rattle.scenario_defs.specs.declared.scenario.Iface.{Iface}
 use Rattle.scenario_defs.specs.Vpn.{ifaces_where}
 use Rattle.pim_joinprune.specs.declared.source.JpSource.{JpSource}
 use Rattle.pim_joinprune.specs.declared.group.Group.{Group}
-use Rattle.pim_defs.specs.Entries.{Entries, asks}
+use Rattle.net_defs.specs.Network.{Network, is_asking}
 use Rattle.net_world.specs.declared.flows.Flow.{Flow}
+use Rattle.net_world.specs.declared.flows.Moment.{Moment}
 
 -- whether both are one flow
 abbrev pub same_flow : Flow → Flow → Bool
@@ -26,9 +26,13 @@ FlowTable = IndexMap Flow (List IfaceId) (BuildHasherDefault FoldHasher)
 abbrev pub members : FlowTable → Addr → Addr → List IfaceId
 members flows source group = unwrap_or (get same_flow flows (record { source = source; group = group })) []
 
--- the interfaces that ask for the flow at the clock
-abbrev pub asking : Entries → ℕ → List Iface → Addr → Addr → List IfaceId
-asking entries clock ifaces source group = ifaces_where (λ number iface. asks entries number source group false clock) 0 ifaces
+-- the network at a moment, without what no interface's asking depends on
+abbrev pub seen : Moment → Network
+seen moment = record { scenario = moment.scenario.now; clock = moment.clock; accepted = 0; entries = moment.downstreams.now; sessions = [] }
+
+-- the interfaces that ask for the flow, each by the entries of its own edge
+abbrev pub asking : Network → Addr → Addr → List IfaceId
+asking network source group = ifaces_where (λ number iface. is_asking network source group number) 0 network.scenario.ifaces
 
 -- the interfaces that are kept for a flow, if any are, are these
 abbrev pub AreKept : List IfaceId → Option (List IfaceId) → Type 0
@@ -36,8 +40,8 @@ AreKept ifaces None = ⊤
 AreKept ifaces (Some found) = found ≡ ifaces
 
 -- For each flow that the table has, it tells the interfaces that ask for it.
-abbrev pub Keeps : FlowTable → Entries → ℕ → List Iface → Type 0
-Keeps flows entries clock ifaces = (source group : Addr) → AreKept (asking entries clock ifaces source group) (get same_flow flows (record { source = source; group = group }))
+abbrev pub Keeps : FlowTable → Network → Type 0
+Keeps flows network = (source group : Addr) → AreKept (asking network source group) (get same_flow flows (record { source = source; group = group }))
 
 -- ---- flows that a message names
 

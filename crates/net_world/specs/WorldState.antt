@@ -7,10 +7,9 @@ use Rattle.scenario_defs.specs.declared.scenario.Scenario.{Scenario}
 use Rattle.scenario_defs.specs.declared.event.Event.{Event}
 use Rattle.scenario_defs.specs.declared.report.ReportLine.{ReportLine}
 use Rattle.scenario_defs.specs.declared.report.ReportLine.TheVariants as lines
-use Rattle.scenario_defs.specs.Vpn.{vrf_of_site}
-use Rattle.scenario_defs.specs.Home.{routes}
+use Rattle.scenario_defs.specs.Vpn.{entered}
+use Rattle.scenario_defs.specs.Home.{local_routes}
 use Rattle.scenario_defs.specs.Rules.{Rules}
-use Rattle.pim_defs.specs.Entries.{Entries}
 use Rattle.mvpn_model.specs.declared.message.Given.{Given}
 use Rattle.net_defs.specs.Network.{Network, start, acts_of, after, message_refusal, with_message}
 use Rattle.net_world.specs.declared.halt.Halt.{Halt}
@@ -38,12 +37,13 @@ pub record AppendsFront (old new all : List ReportLine) : Type 0 where
   pub whole : all ≡ front ++ rest
   pub appended : new ≡ old ++ front
 
--- The tables of a world tell what the scenario and the entries say.
-pub record InStep (scenario : Scenario) (entries : Entries) (clock : ℕ) (flows : FlowTable) (vpns : List (List Route)) (homes : List (Option VrfId)) : Type 0 where
-  pub rules : Rules scenario
-  pub keeps : Keeps flows entries clock scenario.ifaces
-  pub vpns_told : vpns ≡ upto (λ vrf. routes scenario (record { 0 = vrf })) (length scenario.vrfs)
-  pub homes_told : homes ≡ upto (λ site. vrf_of_site scenario (record { 0 = site })) (length scenario.sites)
+-- There are entries for each node, and the tables of a world tell what the scenario and the entries say.
+pub record InStep (network : Network) (flows : FlowTable) (routes : List (List Route)) (vrfs : List (List VrfId)) : Type 0 where
+  pub rules : Rules network.scenario
+  pub nodes : length network.entries ≡ length network.scenario.nodes
+  pub keeps : Keeps flows network
+  pub routes_told : routes ≡ upto (λ vrf. local_routes network.scenario (record { 0 = vrf })) (length network.scenario.vrfs)
+  pub vrfs_told : vrfs ≡ upto (λ site. entered network.scenario (record { 0 = site })) (length network.scenario.sites)
 
 -- The world went on by the event, whose lines were appended.
 pub record Acts (old : WorldState) (line : ℕ) (event : Event) (new : WorldState) (before behind : List ReportLine) : Type 0 where

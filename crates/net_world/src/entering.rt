@@ -1,11 +1,51 @@
-//! A datagram's entering at a VRF.
-ghost use Rattle.std.specs.Prelude.{◌≡◌, ◌++◌, [], ◌∷◌, OnOk, OnErr, IfOk};
-ghost use Rattle.net_world.specs.Entering.{is_outside, outs};
+//! Where a datagram enters, and at which interfaces it leaves.
+ghost use Rattle.std.specs.Prelude.{◌≡◌, ◌++◌, [], ◌∷◌, slice_index_or, OnOk, OnErr, IfOk};
+ghost use Rattle.net_world.specs.Entering.{choose, choosing, is_outside, outs, outs_of_each};
 ghost use Rattle.net_world.specs.WorldState.{AppendsFront};
 
-use mv_base::{Bytes, IfaceId, NoMemory, Seq, SiteId, VrfId};
-use scenario_defs::{Iface, Lines, ReportLine};
+use mv_base::{Addr, Bytes, IfaceId, NoMemory, Seq, SiteId, VrfId};
+use mvpn_model::home_among;
+use scenario_defs::{Iface, Lines, ReportLine, Route};
 use std::alloc::Global;
+
+/// Whether the choice for the source by these routes is the site.
+fn choose(routes: &[Route], source: Addr, site: SiteId) -> bool
+    ensures { result ≡ choose routes.now source site }
+{
+    match home_among(routes, source) {
+        Some(found) => found.0 == site.0,
+        None => false,
+    }
+}
+
+/// Whether the VRF's choice for the source is the site, by a table of the routes of each VRF.
+fn chooses(table: &[Seq<Route>], vrf: VrfId, source: Addr, site: SiteId) -> bool
+    ensures { result ≡ choose (slice_index_or table.now vrf.0 []) source site }
+{
+    match table.get(usize::from(vrf.0)) {
+        Some(routes) => choose(routes.as_slice(), source, site),
+        None => false,
+    }
+}
+
+/// Of the VRFs those whose choice for the source is the site.
+pub(crate) fn choosing(
+    alloc: Global,
+    table: &[Seq<Route>],
+    source: Addr,
+    site: SiteId,
+    vrfs: &[VrfId],
+) -> Result<Seq<VrfId>, NoMemory>
+    ensures { IfOk result (λ found. found ≡ choosing table.now source site vrfs.now) }
+{
+    let mut found = Seq::new(alloc);
+    for vrf in vrfs {
+        if chooses(table, *vrf, source, site) {
+            found.push(*vrf)?;
+        }
+    }
+    Ok(found)
+}
 
 /// Whether the interface of that number is of the VRF and belongs to another site.
 fn is_outside(ifaces: &[Iface], vrf: VrfId, site: SiteId, number: IfaceId) -> bool
@@ -44,30 +84,47 @@ fn leave(
     })
 }
 
-/// Where a datagram enters, and which one it is.
+/// A datagram that enters: its site, which one it is, its octets, and the interfaces that ask for its flow.
 #[derive(Clone, Copy)]
 pub(crate) struct Entering<'a> {
-    pub vrf: VrfId,
     pub site: SiteId,
     pub number: u64,
     pub octets: &'a [u8],
+    pub asking: &'a [IfaceId],
 }
 
-/// Appends a line for each of the interfaces that are of the VRF and belong to another site.
-pub(crate) fn enter(
+/// Appends a line for each of the asking interfaces that are of the VRF and belong to another site.
+fn enter(
     alloc: Global,
     ifaces: &[Iface],
-    joined: &[IfaceId],
+    vrf: VrfId,
     entering: &Entering<'_>,
     lines: &mut Lines,
 ) -> Result<(), NoMemory>
-    ensures ok { OnOk result (lines.new ≡ lines.old ++ outs ifaces.now entering.now.vrf entering.now.site entering.now.number entering.now.octets.now joined.now) }
-    ensures err { OnErr result (AppendsFront lines.old lines.new (outs ifaces.now entering.now.vrf entering.now.site entering.now.number entering.now.octets.now joined.now)) }
+    ensures ok { OnOk result (lines.new ≡ lines.old ++ outs ifaces.now entering.now.site entering.now.number entering.now.octets.now entering.now.asking.now vrf) }
+    ensures err { OnErr result (AppendsFront lines.old lines.new (outs ifaces.now entering.now.site entering.now.number entering.now.octets.now entering.now.asking.now vrf)) }
 {
-    for iface in joined {
-        if is_outside(ifaces, entering.vrf, entering.site, *iface) {
+    for iface in entering.asking {
+        if is_outside(ifaces, vrf, entering.site, *iface) {
             leave(alloc, entering.number, *iface, entering.octets, lines)?;
         }
+    }
+    Ok(())
+}
+
+/// Appends the lines of the datagram's entering at each of the VRFs, in order.
+pub(crate) fn enter_each(
+    alloc: Global,
+    ifaces: &[Iface],
+    vrfs: &[VrfId],
+    entering: &Entering<'_>,
+    lines: &mut Lines,
+) -> Result<(), NoMemory>
+    ensures ok { OnOk result (lines.new ≡ lines.old ++ outs_of_each ifaces.now entering.now.site entering.now.number entering.now.octets.now entering.now.asking.now vrfs.now) }
+    ensures err { OnErr result (AppendsFront lines.old lines.new (outs_of_each ifaces.now entering.now.site entering.now.number entering.now.octets.now entering.now.asking.now vrfs.now)) }
+{
+    for vrf in vrfs {
+        enter(alloc, ifaces, *vrf, entering, lines)?;
     }
     Ok(())
 }

@@ -1,17 +1,16 @@
 //! The interfaces that ask for a flow, kept for each flow until an event may change them.
-ghost use Rattle.std.specs.Prelude.{◌≡◌, ◌≤◌, ◌^◌, false, length, IfOk, OnOk};
-ghost use Rattle.scenario_defs.specs.Vpn.{ifaces_where};
-ghost use Rattle.pim_defs.specs.Entries.{asks};
+ghost use Rattle.std.specs.Prelude.{◌≡◌, ◌≤◌, ◌^◌, length, IfOk, OnOk};
 ghost use Rattle.std.specs.List.{list_any};
 ghost use Rattle.indexmap.specs.IndexMap.{get};
+ghost use Rattle.net_defs.specs.Network.{is_asking};
 ghost use Rattle.net_world.specs.declared.flows.Flow.{Flow};
-ghost use Rattle.net_world.specs.Flows.{members, same_flow, Keeps, flow_of, names, names_in, unless};
+ghost use Rattle.net_world.specs.Flows.{members, same_flow, seen, asking, Keeps, flow_of, names, names_in, unless};
 
+use crate::downstreams::Downstreams;
 use indexmap::IndexMap;
 use mv_base::{Addr, IfaceId, NoMemory, Seq};
 use pim_joinprune::{Group, JpSource};
-use pim_state::Downstream;
-use scenario_defs::{Iface, IfaceList};
+use scenario_defs::{IfaceList, Scenario, edge_of};
 use std::alloc::Global;
 
 /// A flow: a source and a group.
@@ -21,29 +20,35 @@ pub struct Flow {
     pub group: Addr,
 }
 
-/// The joined state of the edge at a moment, and the interfaces.
+/// What the interfaces' asking for flows depends on: the joined state of each node at a moment, and the scenario.
 #[derive(Clone, Copy)]
 pub(crate) struct Moment<'a> {
-    pub downstream: &'a Downstream,
+    pub scenario: &'a Scenario,
+    pub downstreams: &'a Downstreams,
     pub clock: u64,
-    pub ifaces: &'a [Iface],
 }
 
-/// Whether a source is known to send: no line notes that yet.
-const ACTIVE: bool = false;
+/// Whether the interface asks for the flow, by the entries of its edge.
+fn is_asking(moment: &Moment<'_>, flow: Flow, iface: IfaceId) -> bool
+    ensures { result ≡ is_asking (seen moment.now) flow.source flow.group iface }
+{
+    match edge_of(moment.scenario, iface) {
+        Some(edge) => moment
+            .downstreams
+            .asks(edge, iface, flow.source, flow.group, moment.clock),
+        None => false,
+    }
+}
 
 /// The interfaces that ask for the flow, in order.
 fn asking(alloc: Global, moment: &Moment<'_>, flow: Flow) -> Result<IfaceList, NoMemory>
-    requires { length moment.now.ifaces.now ≤ 2 ^ 16 }
-    ensures { IfOk result (λ found. found ≡ ifaces_where (λ number iface. asks moment.now.downstream.now number flow.source flow.group false moment.now.clock) 0 moment.now.ifaces.now) }
+    requires { length moment.now.scenario.now.ifaces ≤ 2 ^ 16 }
+    ensures { IfOk result (λ found. found ≡ asking (seen moment.now) flow.source flow.group) }
 {
     let mut found = Seq::new(alloc);
-    for (number, _iface) in moment.ifaces.iter().enumerate() {
+    for (number, _iface) in moment.scenario.ifaces.as_slice().iter().enumerate() {
         let id = IfaceId(number as u16);
-        if moment
-            .downstream
-            .asks(id, flow.source, flow.group, ACTIVE, moment.clock)
-        {
+        if is_asking(moment, flow, id) {
             found.push(id)?;
         }
     }
@@ -67,10 +72,10 @@ pub(crate) fn look_up(
     moment: &Moment<'_>,
     flow: Flow,
 ) -> Result<(), NoMemory>
-    requires few { length moment.now.ifaces.now ≤ 2 ^ 16 }
-    requires keeps { Keeps flows.old moment.now.downstream.now moment.now.clock moment.now.ifaces.now }
-    ensures keeps { Keeps flows.new moment.now.downstream.now moment.now.clock moment.now.ifaces.now }
-    ensures at { OnOk result (members flows.new flow.source flow.group ≡ ifaces_where (λ number iface. asks moment.now.downstream.now number flow.source flow.group false moment.now.clock) 0 moment.now.ifaces.now) }
+    requires few { length moment.now.scenario.now.ifaces ≤ 2 ^ 16 }
+    requires keeps { Keeps flows.old (seen moment.now) }
+    ensures keeps { Keeps flows.new (seen moment.now) }
+    ensures at { OnOk result (members flows.new flow.source flow.group ≡ asking (seen moment.now) flow.source flow.group) }
 {
     if flows.contains_key(&flow) {
         return Ok(());

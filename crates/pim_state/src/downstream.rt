@@ -1,5 +1,5 @@
 //! The entries of an edge's interfaces.
-ghost use Rattle.std.specs.Prelude.{◌≡◌, ◌<◌, ◌^◌, ◌&&◌, not, true, false, not, count_by, Err, IfOk, OnOk, OnErr};
+ghost use Rattle.std.specs.Prelude.{◌≡◌, ◌<◌, ◌≤◌, ◌^◌, ◌&&◌, not, true, false, not, count_by, Err, IfOk, OnOk, OnErr};
 ghost use Rattle.std.specs.FinMap.{empty, len};
 ghost use Rattle.pim_defs.specs.Expiry.{is_after};
 ghost use Rattle.scenario_defs.specs.declared.event.JoinEntry.TheVariants as entries;
@@ -116,7 +116,8 @@ impl Downstream {
 
     /// Removes the entries that have ended at the clock. It takes no memory.
     pub fn timers(&mut self, now: u64)
-        ensures { self.new ≡ kept_at self.old now }
+        ensures kept { self.new ≡ kept_at self.old now }
+        ensures fewer { len self.new ≤ len self.old }
     {
         self.entries.retain(
             |_at: &IfaceEntry, expiry: &mut Expiry| -> bool

@@ -1,24 +1,23 @@
-use Rattle.std.proofs.Common.{◌≡◌, ◌++◌, List, true, sym, ap, subst, ◌∙◌}
-use Rattle.std.specs.Prelude.{OnOk, OnErr}
+use Rattle.std.proofs.Common.{◌≡◌, ◌+◌, List, ap, subst, ◌∙◌}
+use Rattle.std.specs.Prelude.{OnErr}
 use Rattle.scenario_defs.specs.declared.report.ReportLine.{ReportLine}
-use Rattle.mvpn_model.specs.Past.{is_home}
-use Rattle.net_defs.specs.Network.{Network, entering}
+use Rattle.mvpn_model.specs.Packet.{packet}
+use Rattle.net_world.specs.Entering.{outs_of_each}
+use Rattle.net_world.specs.Flows.{asking}
 use Rattle.net_world.specs.WorldState.{WorldState, AppendsFront}
-use Rattle.net_world.proofs.FlowsLemmas.{outs-told}
 use Rattle.net_world.proofs.world.World.enter_at.Goals as goal
 
-pub returns-clause-ok : goal.returns-clause-ok
-returns-clause-ok c =
-    let network : Network = record { scenario = c.self.inside.scenario; clock = c.self.inside.clock; accepted = c.self.inside.accepted; entries = c.self.inside.downstream } in
-    let home : is_home network.scenario c.args.vrf c.args.flow.source c.args.site ≡ true = subst (λ (w : WorldState). is_home w.network.scenario c.args.vrf c.args.flow.source c.args.site ≡ true) (sym c.self.view_is) c.requires.home in
-    let told = outs-told network c.as_slice-ifaces.result.now c.members-asking.result.now c.as_slice.result.now c.args.vrf c.args.site c.args.flow.source c.args.flow.group c.args.payload.now home c.as_slice-ifaces.ensures (c.as_slice.ensures ∙ c.in_ok-octets.ensures) (c.members-asking.ensures ∙ (rw c.as_slice-ifaces.ensures at c.in_ok-look_up.ensures.at)) in
-    let seen = told ∙ ap (λ (w : WorldState). entering w.network c.args.site c.args.flow.source c.args.flow.group c.args.payload.now c.args.vrf) c.self.view_is in
-    subst (λ (l : List ReportLine). OnOk c.enter.result (c.enter.new.lines ≡ c.args.lines.now ++ l)) seen c.enter.ensures.ok
+pub invariant_of-self-2 : goal.invariant_of-self-2
+invariant_of-self-2 c = λ halt.
+    let tables = c.self.invariant halt in
+    record { rules = tables.rules; nodes = tables.nodes; keeps = c.in_ok-look_up.ensures.keeps; routes_told = tables.routes_told; vrfs_told = tables.vrfs_told }
 
 pub returns-clause-err : goal.returns-clause-err
 returns-clause-err c =
-    let network : Network = record { scenario = c.self.inside.scenario; clock = c.self.inside.clock; accepted = c.self.inside.accepted; entries = c.self.inside.downstream } in
-    let home : is_home network.scenario c.args.vrf c.args.flow.source c.args.site ≡ true = subst (λ (w : WorldState). is_home w.network.scenario c.args.vrf c.args.flow.source c.args.site ≡ true) (sym c.self.view_is) c.requires.home in
-    let told = outs-told network c.as_slice-ifaces.result.now c.members-asking.result.now c.as_slice.result.now c.args.vrf c.args.site c.args.flow.source c.args.flow.group c.args.payload.now home c.as_slice-ifaces.ensures (c.as_slice.ensures ∙ c.in_ok-octets.ensures) (c.members-asking.ensures ∙ (rw c.as_slice-ifaces.ensures at c.in_ok-look_up.ensures.at)) in
-    let seen = told ∙ ap (λ (w : WorldState). entering w.network c.args.site c.args.flow.source c.args.flow.group c.args.payload.now c.args.vrf) c.self.view_is in
-    subst (λ (l : List ReportLine). OnErr c.enter.result (AppendsFront c.args.lines.now c.enter.new.lines l)) seen c.enter.ensures.err
+    let ifaces = c.as_slice-2.ensures ∙ ap (λ (w : WorldState). w.network.scenario.ifaces) c.self.view_is in
+    let number = ap (λ (w : WorldState). w.network.accepted + 1) c.self.view_is in
+    let octets = c.as_slice.ensures ∙ c.in_ok-octets.ensures in
+    let members = c.members.ensures ∙ (c.in_ok-look_up.ensures.at ∙ ap (λ (w : WorldState). asking w.network c.args.flow.source c.args.flow.group) c.self.view_is) in
+    let told : outs_of_each c.as_slice-2.result.now c.args.site (c.self.inside.accepted + 1) c.as_slice.result.now c.members.result.now c.args.vrfs.now ≡ outs_of_each c.args.self.now.network.scenario.ifaces c.args.site (c.args.self.now.network.accepted + 1) (packet c.args.flow.source c.args.flow.group c.args.payload.now) (asking c.args.self.now.network c.args.flow.source c.args.flow.group) c.args.vrfs.now =
+    λ i. outs_of_each (ifaces i) c.args.site (number i) (octets i) (members i) c.args.vrfs.now in
+    subst (λ (l : List ReportLine). OnErr c.enter_each.result (AppendsFront c.args.lines.now c.enter_each.new.lines l)) told c.enter_each.ensures.err

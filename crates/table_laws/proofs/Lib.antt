@@ -1,0 +1,5 @@
+pub mod CompareLemmas
+pub mod TableLemmas
+pub mod KeyLemmas
+pub mod OrderLemmas
+pub mod PendingLemmas

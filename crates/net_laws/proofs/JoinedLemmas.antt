@@ -46,7 +46,7 @@ stands_at network iface entry = record { clock = network.clock; expiry = expiry_
 abbrev pub stands_by : Scenario → List ℕ → List Timed → IfaceId → JoinEntry → Standing
 stands_by scenario refused done iface entry = fold (stands_after scenario refused iface entry) (record { clock = 0; expiry = None }) done
 
--- The state tells what the events did that are done.
+-- The state tells what the events did that are done, and has entries for each node.
 pub record Tells (refused : List ℕ) (done : List Timed) (network : Network) : Type 0 where
   pub standing : (iface : IfaceId) → iface.0 < length network.scenario.ifaces → (entry : JoinEntry) → stands_by network.scenario refused done iface entry ≡ stands_at network iface entry
   pub accepted : network.accepted ≡ length (datagrams refused 0 done)

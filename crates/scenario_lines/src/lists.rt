@@ -47,6 +47,7 @@ pub fn is_any_mixed(scenario: &Scenario, new: &Iface, ifaces: &[Iface]) -> bool
     ifaces.iter().any(|iface| is_mixed(scenario, new, iface))
 }
 
+/// The prefixes are compared first: where they differ, as they do between the sites of one VPN, no targets need be.
 fn is_taken(scenario: &Scenario, new: &Iface, iface: &Iface) -> bool
     ensures { result ≡ is_taken scenario.now new.now iface.now }
 {

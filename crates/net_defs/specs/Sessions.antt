@@ -1,5 +1,5 @@
 -- The sessions of a network, in their order.
-use Rattle.std.specs.Prelude.{ℕ, ◌+◌, Bool, false, not, List, [], ◌∷◌, ◌++◌, map, count_by, if◌then◌else◌}
+use Rattle.std.specs.Prelude.{ℕ, ◌+◌, false, not, List, [], ◌∷◌, ◌++◌, map, count_by, if◌then◌else◌}
 use Rattle.mv_base.specs.declared.ids.NodeId.{NodeId}
 use Rattle.mv_base.specs.declared.core_link.Link.{Link}
 use Rattle.scenario_defs.specs.declared.event.Kind.TheVariants as kinds

@@ -1,11 +1,13 @@
 -- What an event leaves as it is, and the lines and the text of its acts.
 use Rattle.std.proofs.Common.{◌≡◌, ℕ, ◌+◌, ◌<◌, ◌≤◌, List, [], ◌∷◌, ◌++◌, map, true, Bool, suc, length, refl, ap, ◌∙◌, arith}
-use Rattle.std.specs.Prelude.{Option, None, Some, slice_get}
+use Rattle.std.specs.Prelude.{Option, None, Some, slice_get, slice_set}
 use Rattle.std.specs.List.{flat_map, All, AllByRecursion}
 use Rattle.std.proofs.lemmas.Bool.{cond_both}
+use Rattle.std.proofs.lemmas.List.{length-set}
 use Rattle.std.proofs.lemmas.List.Concat.{flat_map-append}
 use Rattle.std.proofs.lemmas.List.Elements.{All-from_recursion}
 use Rattle.std.proofs.lemmas.Option.{slice_get_within}
+use Rattle.mv_base.specs.declared.ids.NodeId.{NodeId}
 use Rattle.mv_base.specs.declared.ids.IfaceId.{IfaceId}
 use Rattle.mv_base.specs.declared.ids.SiteId.{SiteId}
 use Rattle.mv_base.specs.declared.ids.VrfId.{VrfId}
@@ -19,14 +21,13 @@ use Rattle.scenario_defs.specs.declared.report.ReportLine.TheVariants as lines
 use Rattle.scenario_defs.specs.declared.report.Refusal.{Refusal}
 use Rattle.scenario_defs.specs.Rules.{IsEventOf}
 use Rattle.scenario_defs.specs.Text.{line_text, IsLineOf}
-use Rattle.scenario_defs.specs.Vpn.{ifaces_where, entered}
-use Rattle.mvpn_model.specs.Past.{is_home}
+use Rattle.scenario_defs.specs.Vpn.{edge_of, ifaces_where, entered}
 use Rattle.mvpn_model.specs.Packet.{packet}
 use Rattle.mvpn_model.specs.Report.{Entry, lines_of, report_text}
 use Rattle.mvpn_model.specs.declared.message.Given.{Given}
 use Rattle.mvpn_model.specs.Messages.{message_of}
-use Rattle.pim_defs.specs.Entries.{Entries, applied}
-use Rattle.net_defs.specs.Network.{Network, refusal, accepted_acts, acts_of, with_message, accepted_after, after, leaves_at, leaves, entering}
+use Rattle.pim_defs.specs.Entries.{Entries, applied, kept_at}
+use Rattle.net_defs.specs.Network.{Network, entries_of_node, with_entries, refusal, accepted_acts, acts_of, with_message, accepted_after, after, is_chosen, leaves_at, leaves, entering}
 use Rattle.net_defs.specs.Run.{entries_of}
 use Rattle.mvpn_model.proofs.ListLemmas.{all-append}
 
@@ -49,22 +50,38 @@ acts-either P network line event h k = by (refusal network event)
     by None = k
     by (Some reason) = h reason
 
--- What holds of the state, whatever its entries are, holds behind a message.
-pub message-either : (P : Network → Type 0) (network : Network) (o : Option Given) → ((entries : Entries) → P (record network { entries = entries })) → P (with_message network o)
-message-either P network None h = h network.entries
-message-either P network (Some given) h = h (applied network.entries given.iface given.message network.clock)
+-- What holds of the state, whatever is in the maps of its nodes, holds behind a message.
+pub message-either : (P : Network → Type 0) (network : Network) (o : Option Given) →
+    ((maps : List Entries) → length maps ≡ length network.entries → P (record network { entries = maps })) → P (with_message network o)
+message-either P network None h = h network.entries refl
+message-either P network (Some given) h = by (edge_of network.scenario given.iface)
+  where
+    by : (o : Option NodeId) → P (elim o [ None ↦ network | Some edge ↦ with_entries network edge (applied (entries_of_node network edge) given.iface given.message network.clock) ])
+    by None = h network.entries refl
+    by (Some edge) =
+        let own = applied (entries_of_node network edge) given.iface given.message network.clock in
+        h (slice_set network.entries edge.0 own) (length-set network.entries edge.0 own)
 
 -- ---- what an event leaves as it is
 
+-- what no event changes: the scenario, the sessions, and how many maps of entries there are
+pub record Keeps (old new : Network) : Type 0 where
+  pub scenario : new.scenario ≡ old.scenario
+  pub sessions : new.sessions ≡ old.sessions
+  pub maps : length new.entries ≡ length old.entries
+
+pub after-keeps : (network : Network) (event : Event) → Keeps network (after network event)
+after-keeps network event = after-either (Keeps network) network event (record { scenario = refl; sessions = refl; maps = refl }) (accepted event)
+  where
+    accepted : (event : Event) → Keeps network (accepted_after network event)
+    accepted (events.Tick count) = record { scenario = refl; sessions = refl; maps = refl }
+    accepted (events.Timers node) = record { scenario = refl; sessions = refl; maps = length-set network.entries node.0 (kept_at (entries_of_node network node) network.clock) }
+    accepted (events.Send site source group payload) = record { scenario = refl; sessions = refl; maps = refl }
+    accepted other = message-either (Keeps network) network (message_of network.scenario other) (λ maps e. record { scenario = refl; sessions = refl; maps = e })
+
 -- An event leaves the scenario as it is.
 pub after-scenario : (network : Network) (event : Event) → (after network event).scenario ≡ network.scenario
-after-scenario network event = after-either (λ n. n.scenario ≡ network.scenario) network event refl (accepted event)
-  where
-    accepted : (event : Event) → (accepted_after network event).scenario ≡ network.scenario
-    accepted (events.Tick count) = refl
-    accepted (events.Timers node) = refl
-    accepted (events.Send site source group payload) = refl
-    accepted other = message-either (λ n. n.scenario ≡ network.scenario) network (message_of network.scenario other) (λ entries. refl)
+after-scenario network event = (after-keeps network event).scenario
 
 -- The event sends nothing.
 abbrev pub IsQuiet : Event → Type 0
@@ -79,7 +96,7 @@ quiet-accepted network event h = after-either (λ n. n.accepted ≡ network.acce
     accepted (events.Tick count) k = refl
     accepted (events.Timers node) k = refl
     accepted (events.Send site source group payload) k = absurd k
-    accepted other k = message-either (λ n. n.accepted ≡ network.accepted) network (message_of network.scenario other) (λ entries. refl)
+    accepted other k = message-either (λ n. n.accepted ≡ network.accepted) network (message_of network.scenario other) (λ maps e. refl)
 
 -- An event counts at most one datagram.
 pub after-accepted : (network : Network) (event : Event) → (after network event).accepted ≤ network.accepted + 1
@@ -94,7 +111,7 @@ after-clock network event h = after-either (λ n. n.clock ≤ network.clock + 10
     accepted (events.Tick count) k = omega (arith, k.1)
     accepted (events.Timers node) k = omega arith
     accepted (events.Send site source group payload) k = omega arith
-    accepted other k = message-either (λ n. n.clock ≤ network.clock + 1000000) network (message_of network.scenario other) (λ entries. omega arith)
+    accepted other k = message-either (λ n. n.clock ≤ network.clock + 1000000) network (message_of network.scenario other) (λ maps e. omega arith)
 
 -- ---- the lines of an event
 
@@ -137,6 +154,18 @@ pub acts-all : (P : ReportLine → Type 0) (act : VrfId → List ReportLine) (vr
 acts-all P act [] h = tt
 acts-all P act (vrf ∷ more) h = all-append P (act vrf) (flat_map (λ l. l) (map act more)) (h vrf) (acts-all P act more h)
 
+-- What holds of each VRF holds of its act.
+pub each-act : (P : VrfId → Type 0) (Q : List ReportLine → Type 0) (act : VrfId → List ReportLine) (vrfs : List VrfId) →
+    ((vrf : VrfId) → P vrf → Q (act vrf)) → AllByRecursion P vrfs → AllByRecursion Q (map act vrfs)
+each-act P Q act [] h k = tt
+each-act P Q act (vrf ∷ more) h k = (h vrf k.0, each-act P Q act more h k.1)
+
+-- What holds of each act of an event holds of its entry.
+pub entries-all : (P : Entry → Type 0) (number : ℕ) (acts : List (List ReportLine)) →
+    AllByRecursion (λ act. P (record { event = number; lines = act })) acts → AllByRecursion P (entries_of number acts)
+entries-all P number [] h = tt
+entries-all P number (act ∷ acts) h = (h.0, entries-all P number acts h.1)
+
 -- Each line of a datagram's entering at a VRF has a property that each out line of the datagram has.
 pub entering-all : (P : ReportLine → Type 0) (network : Network) (site : SiteId) (source group : Addr) (payload : List ℕ) (vrf : VrfId) →
     ((iface : IfaceId) → iface.0 < length network.scenario.ifaces → P (lines.Out (network.accepted + 1) iface (packet source group payload))) →
@@ -144,7 +173,7 @@ pub entering-all : (P : ReportLine → Type 0) (network : Network) (site : SiteI
 entering-all P network site source group payload vrf h =
     let Q : IfaceId → Type 0 = λ iface. P (lines.Out (network.accepted + 1) iface (packet source group payload)) in
     outs-all P (network.accepted + 1) (packet source group payload) (leaves network site source group vrf)
-    (cond_both (is_home network.scenario vrf source site) (ifaces_where (leaves_at network vrf site source group) 0 network.scenario.ifaces) [] (AllByRecursion Q)
+    (cond_both (is_chosen network.scenario vrf source site) (ifaces_where (leaves_at network vrf site source group) 0 network.scenario.ifaces) [] (AllByRecursion Q)
     (λ t. ifaces_where-all Q (leaves_at network vrf site source group) 0 network.scenario.ifaces (λ i j iface e d t. h (record { 0 = j }) (omega (arith, e, slice_get_within network.scenario.ifaces i iface d))))
     (λ f. tt))
 

@@ -4,4 +4,5 @@ pub mod AcceptedLemmas
 pub mod JoinedLemmas
 pub mod SafeLemmas
 pub mod OutLemmas
+pub mod CalmLemmas
 pub mod OnceLemmas

@@ -1,4 +1,4 @@
--- In each run each datagram leaves once at each of its receivers, and nowhere else.
+-- In each run of a scenario with at most one edge each datagram leaves once at each of its receivers, and nowhere else.
 use Rattle.std.proofs.Common.{◌≡◌, ℕ, ◌+◌, ◌<◌, ◌≤◌, List, [], ◌∷◌, ◌++◌, map, take, false, Bool, cond, not, zero, suc, length, refl, sym, ap, subst, append_assoc, ◌∙◌, arith}
 use Rattle.std.specs.Prelude.{◌==◌, ◌&&◌, Option, None, Some, slice_get}
 use Rattle.std.specs.List.{list_any, flat_map, count_by, AllByRecursion}
@@ -23,15 +23,16 @@ use Rattle.scenario_defs.specs.Vpn.{same_vpn, is_of_site, vrf_of_site, ifaces_wh
 use Rattle.mvpn_model.specs.Past.{is_accepted, is_home, asks, receives, receivers}
 use Rattle.mvpn_model.specs.Packet.{packet}
 use Rattle.mvpn_model.specs.Report.{Entry, Datagram, datagrams, sent_by, refused_lines, is_out_at, outs_at}
-use Rattle.mvpn_model.specs.Once.{Once}
-use Rattle.net_defs.specs.Network.{Network, start, acts_of, after, leaves_at, leaves, entering, is_asking}
+use Rattle.mvpn_model.specs.Once.{Once, IsDeliveredOnce}
+use Rattle.net_defs.specs.Network.{Network, start, acts_of, after, is_chosen, leaves_at, leaves, entering, is_asking}
 use Rattle.net_defs.specs.Run.{Run, entries_of}
 use Rattle.mvpn_model.proofs.ListLemmas.{none_either_way}
 use Rattle.net_laws.proofs.RunLemmas.{report_from, runs_are}
-use Rattle.mvpn_model.proofs.VpnLemmas.{IsVrfOfSite, vrf_of_site-is, vrf_is_vpn, entered-one}
+use Rattle.mvpn_model.proofs.VpnLemmas.{HasOneEdge, IsVrfOfSite, vrf_of_site-is, vrf_is_vpn, entered-one, local_choice-home}
 use Rattle.net_laws.proofs.FrameLemmas.{quiet-accepted, after-scenario}
 use Rattle.net_laws.proofs.AcceptedLemmas.{is_refused, Agrees, agrees-of_report, send-outs}
 use Rattle.net_laws.proofs.JoinedLemmas.{Tells, tells-start, tells-snoc}
+use Rattle.net_laws.proofs.CalmLemmas.{calm-one_edge}
 use Rattle.net_laws.proofs.OutLemmas.{outs_of, outs_at-append, outs_at-entries, quiet-outs, outs-other, outs-own, ifaces_where-once, ifaces_where-same_at}
 
 -- An event does not lower the count of datagrams.
@@ -71,29 +72,37 @@ asks-are refused done old tells source group iface lt =
     sym (λ k. asks_by (joined k).clock false (joined k).expiry (shared k).expiry (pruned k).expiry)
 
 -- the interfaces of the VRF at which a datagram leaves are those of its VPN that receive it
-leaves-are : (refused : List ℕ) (done : List Timed) (old : Network) → Rules old.scenario → Tells refused done old →
+leaves-are : (refused : List ℕ) (done : List Timed) (old : Network) → Rules old.scenario → HasOneEdge old.scenario → Tells refused done old →
     (site : SiteId) (source group : Addr) (vrf : VrfId) → IsVrfOfSite old.scenario site vrf →
     ifaces_where (leaves_at old vrf site source group) 0 old.scenario.ifaces ≡ ifaces_where (receives (record { scenario = old.scenario; events = done; refused = refused }) vrf site source group) 0 old.scenario.ifaces
-leaves-are refused done old rules tells site source group vrf is =
+leaves-are refused done old rules one tells site source group vrf is =
     ifaces_where-same_at (leaves_at old vrf site source group) (receives (record { scenario = old.scenario; events = done; refused = refused }) vrf site source group) 0 old.scenario.ifaces (λ i j iface e d.
-    ap (λ b. (b && not (is_of_site site iface)) && is_asking old source group (record { 0 = j })) (vrf_is_vpn old.scenario rules vrf is.known i iface d)
+    ap (λ b. (b && not (is_of_site site iface)) && is_asking old source group (record { 0 = j })) (vrf_is_vpn old.scenario rules one vrf is.known i iface d)
     ∙ ap (λ b. (same_vpn old.scenario vrf iface.vrf && not (is_of_site site iface)) && b) (asks-are refused done old tells source group (record { 0 = j }) (omega (arith, e, slice_get_within old.scenario.ifaces i iface d))))
 
+-- A VRF chooses the site that is the home.
+chosen-home : (scenario : Scenario) → Rules scenario → HasOneEdge scenario → (vrf : VrfId) → vrf.0 < length scenario.vrfs → (source : Addr) (site : SiteId) →
+    is_chosen scenario vrf source site ≡ is_home scenario vrf source site
+chosen-home scenario rules one vrf known source site =
+    ap (λ (o : Option SiteId). elim o [ None ↦ false | Some found ↦ found.0 == site.0 ]) (local_choice-home scenario rules one vrf known source)
+
 -- A datagram leaves once at each of its receivers, by the acts of its own event.
-send-once : (refused : List ℕ) (done : List Timed) (old : Network) → Rules old.scenario → Tells refused done old →
+send-once : (refused : List ℕ) (done : List Timed) (old : Network) → Rules old.scenario → HasOneEdge old.scenario → Tells refused done old →
     (site : SiteId) (source group : Addr) (payload : List ℕ) (iface : IfaceId) →
     outs_of (map (entering old site source group payload) (entered old.scenario site)) (old.accepted + 1) iface ≡ cond (is_one_of (receivers (record { scenario = old.scenario; events = done; refused = refused }) site source group) iface) 1 0
-send-once refused done old rules tells site source group payload iface =
-    ap (λ (vrfs : List VrfId). outs_of (map (entering old site source group payload) vrfs) (old.accepted + 1) iface) (entered-one old.scenario rules site)
+send-once refused done old rules one tells site source group payload iface =
+    ap (λ (vrfs : List VrfId). outs_of (map (entering old site source group payload) vrfs) (old.accepted + 1) iface) (entered-one old.scenario rules one site)
     ∙ found (vrf_of_site old.scenario site) refl
   where
     found : (o : Option VrfId) → vrf_of_site old.scenario site ≡ o → outs_of (map (entering old site source group payload) (option_to_list o)) (old.accepted + 1) iface ≡ cond (is_one_of (elim o [ None ↦ [] | Some vrf ↦ cond (is_home old.scenario vrf source site) (ifaces_where (receives (record { scenario = old.scenario; events = done; refused = refused }) vrf site source group) 0 old.scenario.ifaces) [] ]) iface) 1 0
     found None e = refl
     found (Some vrf) e =
-        let is = vrf_of_site-is old.scenario rules site vrf e in
+        let is = vrf_of_site-is old.scenario rules one site vrf e in
         let list = ifaces_where (receives (record { scenario = old.scenario; events = done; refused = refused }) vrf site source group) 0 old.scenario.ifaces in
         let home = is_home old.scenario vrf source site in
-        let same : leaves old site source group vrf ≡ cond home list [] = ap (λ l. cond home l []) (leaves-are refused done old rules tells site source group vrf is) in
+        let same : leaves old site source group vrf ≡ cond home list [] =
+        ap (λ l. cond (is_chosen old.scenario vrf source site) l []) (leaves-are refused done old rules one tells site source group vrf is)
+        ∙ ap (λ b. cond b list []) (chosen-home old.scenario rules one vrf is.known source site) in
         ap (count_by (is_out_at (old.accepted + 1) iface)) (append-nil (entering old site source group payload vrf))
         ∙ outs-own (old.accepted + 1) (packet source group payload) iface (leaves old site source group vrf)
         ∙ ap (count_by (λ i. i.0 == iface.0)) same
@@ -137,18 +146,18 @@ once-sent scenario refused whole iface own sent accepted next acts place rest a 
     omega (arith, outs_at-append (entries_of place acts) rest number iface, front, behind)
 
 -- Each datagram leaves as often as it is to, from one event on, if each later one does.
-once-step : (scenario : Scenario) → Rules scenario →
+once-step : (scenario : Scenario) → Rules scenario → HasOneEdge scenario →
     (refused : List ℕ) (whole done : List Timed) (old : Network) (number line : ℕ) (event : Event) (more : List Timed) (iface : IfaceId) →
     take number whole ≡ done → old.scenario ≡ scenario → is_accepted refused (record { line = line; event = event }) ≡ not (is_refused old event) → Tells refused done old →
     EachOnce scenario refused whole iface (datagrams refused (number + 1) more) (after old event).accepted (report_from (after old event) (number + 1) more) →
     EachOnce scenario refused whole iface (cond (is_accepted refused (record { line = line; event = event })) (sent_by number event) [] ++ datagrams refused (number + 1) more) old.accepted (entries_of number (acts_of old line event) ++ report_from (after old event) (number + 1) more)
-once-step scenario rules refused whole done old number line (events.Send site source group payload) more iface w s a tells later =
+once-step scenario rules one refused whole done old number line (events.Send site source group payload) more iface w s a tells later =
     let event : Event = events.Send site source group payload in
     let own : Datagram = record { event = number; site = site; source = source; group = group; octets = packet source group payload } in
     let sent = datagrams refused (number + 1) more in
     let rest = report_from (after old event) (number + 1) more in
     let once : outs_of (acts_of old line event) (old.accepted + 1) iface ≡ expected scenario refused whole own iface =
-    send-once refused done old (subst Rules (sym s) rules) tells site source group payload iface
+    send-once refused done old (subst Rules (sym s) rules) (subst HasOneEdge (sym s) one) tells site source group payload iface
     ∙ ap (λ (x : Scenario). cond (is_one_of (receivers (record { scenario = x; events = done; refused = refused }) site source group) iface) 1 0) s
     ∙ ap (λ (x : List Timed). cond (is_one_of (receivers (record { scenario = scenario; events = x; refused = refused }) site source group) iface) 1 0) (sym w) in
     subst (λ (l : List Datagram). EachOnce scenario refused whole iface (l ++ sent) old.accepted (entries_of number (acts_of old line event) ++ rest)) (sym (cond-true (is_accepted refused (record { line = line; event = event })) (own ∷ []) [] a))
@@ -156,30 +165,37 @@ once-step scenario rules refused whole done old number line (events.Send site so
     (λ n other. acts-other old line event n iface other)
     (λ n le. outs-before (after old event) (number + 1) more n iface le)
     later)
-once-step scenario rules refused whole done old number line other more iface w s a tells later =
+once-step scenario rules one refused whole done old number line other more iface w s a tells later =
     once-unsent scenario refused whole iface (cond (is_accepted refused (record { line = line; event = other })) [] []) (datagrams refused (number + 1) more) old.accepted (after old other).accepted (acts_of old line other) number (report_from (after old other) (number + 1) more)
     (none_either_way (is_accepted refused (record { line = line; event = other }))) (quiet-accepted old other tt) (λ n. quiet-outs old line other tt n iface) later
 
 -- Each datagram of the events behind those that are done leaves as often as it is to.
-once-from : (scenario : Scenario) → Rules scenario →
+once-from : (scenario : Scenario) → Rules scenario → HasOneEdge scenario →
     (refused : List ℕ) (whole done timeds : List Timed) (old : Network) (number : ℕ) (iface : IfaceId) → whole ≡ done ++ timeds →
     number ≡ length done → old.scenario ≡ scenario → AllByRecursion (λ timed. IsEventOf scenario timed.event) timeds → Agrees refused old timeds → Tells refused done old →
     EachOnce scenario refused whole iface (datagrams refused number timeds) old.accepted (report_from old number timeds)
-once-from scenario rules refused whole done [] old number iface w n s known agrees tells = λ place datagram e. absurd cc
-once-from scenario rules refused whole done (timed ∷ more) old number iface w n s known agrees tells =
+once-from scenario rules one refused whole done [] old number iface w n s known agrees tells = λ place datagram e. absurd cc
+once-from scenario rules one refused whole done (timed ∷ more) old number iface w n s known agrees tells =
     let own_rules : Rules old.scenario = subst Rules (sym s) rules in
     let own_event : IsEventOf old.scenario timed.event = subst (λ (x : Scenario). IsEventOf x timed.event) (sym s) known.0 in
     let split : whole ≡ (done ++ timed ∷ []) ++ more = w ∙ sym (append_assoc done (timed ∷ []) more) in
     let so_far : take number whole ≡ done = ap (take number) w ∙ take_at done (timed ∷ more) number (sym n) in
-    once-step scenario rules refused whole done old number timed.line timed.event more iface so_far s agrees.0 tells
-    (once-from scenario rules refused whole (done ++ timed ∷ []) more (after old timed.event) (number + 1) iface split (ap (λ k. k + 1) n ∙ sym (length_push done timed)) (after-scenario old timed.event ∙ s) known.1 agrees.1 (tells-snoc refused done old own_rules timed own_event agrees.0 tells))
+    once-step scenario rules one refused whole done old number timed.line timed.event more iface so_far s agrees.0 tells
+    (once-from scenario rules one refused whole (done ++ timed ∷ []) more (after old timed.event) (number + 1) iface split (ap (λ k. k + 1) n ∙ sym (length_push done timed)) (after-scenario old timed.event ∙ s) known.1 agrees.1 (tells-snoc refused done old own_rules timed own_event agrees.0 tells))
+
+-- In each run of a scenario with at most one edge each datagram leaves once at each of its receivers.
+pub one_edge-once : (script : Script) → ScriptRules script → HasOneEdge script.scenario →
+    (place : ℕ) (datagram : Datagram) → slice_get (datagrams (refused_lines (report_from (start script.scenario) 0 script.events)) 0 script.events) place ≡ Some datagram →
+    IsDeliveredOnce script.scenario script.events (report_from (start script.scenario) 0 script.events) (place + 1) datagram
+one_edge-once script rules one place datagram e iface =
+    let old = start script.scenario in
+    let refused = refused_lines (report_from old 0 script.events) in
+    once-from script.scenario rules.scenario one refused script.events [] script.events old 0 iface refl refl refl rules.events (agrees-of_report old 0 script.events rules.lines) (tells-start refused script.scenario) place datagram e (place + 1) (omega arith)
 
 -- In each run each datagram leaves once at each of its receivers, in each window.
 pub run_is_once : (script : Script) (report : List Entry) (new : Network) → ScriptRules script → Run script script.events report new →
     Once script.scenario script.events report
 run_is_once script report new rules run =
-    let old = start script.scenario in
-    let all = report_from old 0 script.events in
-    let is = runs_are old 0 script.events report new run in
-    subst (λ (r : List Entry). Once script.scenario script.events r) (sym is.0) (λ first last window place datagram e low high iface.
-    once-from script.scenario rules.scenario (refused_lines all) script.events [] script.events old 0 iface refl refl refl rules.events (agrees-of_report old 0 script.events rules.lines) (tells-start (refused_lines all) script.scenario) place datagram e (place + 1) (omega arith))
+    let is = runs_are (start script.scenario) 0 script.events report new run in
+    subst (λ (r : List Entry). Once script.scenario script.events r) (sym is.0) (λ first last window place datagram e low high.
+    one_edge-once script rules (calm-one_edge script.scenario script.events window.calm window.is_calm) place datagram e)

@@ -18,7 +18,7 @@ use Rattle.net_laws.proofs.FrameLemmas.{IsQuiet, acts-either, lines_of-entries, 
 use Rattle.net_laws.proofs.AcceptedLemmas.{IsOutOf}
 
 -- the count of one more element in front
-count-cons : {X : Type 0} (test : X → Bool) (x : X) (xs : List X) → count_by test (x ∷ xs) ≡ cond (test x) 1 0 + count_by test xs
+pub count-cons : {X : Type 0} (test : X → Bool) (x : X) (xs : List X) → count_by test (x ∷ xs) ≡ cond (test x) 1 0 + count_by test xs
 count-cons test x xs = sum_by-cons (λ y. cond (test y) 1 0) x xs
 
 -- An element that fails is not counted.
@@ -117,9 +117,3 @@ ifaces_where-same_at p q number (iface ∷ more) h =
     let rest = ifaces_where-same_at p q (number + 1) more (λ i j found e d. h (suc i) j found (omega (arith, e)) d) in
     ap (λ b. cond b (record { 0 = number } ∷ ifaces_where p (number + 1) more) (ifaces_where p (number + 1) more)) (h 0 number iface (omega arith) refl)
     ∙ ap (λ l. cond (q (record { 0 = number }) iface) (record { 0 = number } ∷ l) l) rest
-
--- Two tests that agree at each interface pass the same interfaces.
-pub ifaces_where-same : (p q : IfaceId → Iface → Bool) (number : ℕ) (ifaces : List Iface) →
-    ((i j : ℕ) (iface : Iface) → slice_get ifaces i ≡ Some iface → p (record { 0 = j }) iface ≡ q (record { 0 = j }) iface) →
-    ifaces_where p number ifaces ≡ ifaces_where q number ifaces
-ifaces_where-same p q number ifaces h = ifaces_where-same_at p q number ifaces (λ i j iface e d. h i j iface d)

@@ -57,7 +57,7 @@ runs_go_on_lemma old number (timed ∷ more) (suc count) part middle h =
     record { more = r.more; new = r.new; run = (h.0 ++ r.more, ap (λ l. l ++ r.more) h.1 ∙ append_assoc (entries_of number (acts_of old timed.line timed.event)) h.0 r.more, r.run) }
 
 -- A run goes on by one event, of the number that comes next.
-pub runs-snoc_at : (old : Network) (number : ℕ) (done : List Timed) (place : ℕ) (timed : Timed) (report : List Entry) (middle : Network) →
+runs-snoc_at : (old : Network) (number : ℕ) (done : List Timed) (place : ℕ) (timed : Timed) (report : List Entry) (middle : Network) →
     place ≡ number + length done → Runs old number done report middle →
     Runs old number (done ++ timed ∷ []) (report ++ entries_of place (acts_of middle timed.line timed.event)) (after middle timed.event)
 runs-snoc_at old number [] place timed report middle e h =
@@ -68,25 +68,13 @@ runs-snoc_at old number (first ∷ done) place timed report middle e h =
     let r = runs-snoc_at (after old first.event) (number + 1) done place timed h.0 middle p h.2 in
     (h.0 ++ entries_of place (acts_of middle timed.line timed.event), ap (λ l. l ++ entries_of place (acts_of middle timed.line timed.event)) h.1 ∙ append_assoc (entries_of number (acts_of old first.line first.event)) h.0 (entries_of place (acts_of middle timed.line timed.event)), r)
 
--- A run goes on by one event.
-pub runs-snoc : (old : Network) (number : ℕ) (done : List Timed) (timed : Timed) (report : List Entry) (middle : Network) →
-    Runs old number done report middle →
-    Runs old number (done ++ timed ∷ []) (report ++ entries_of (number + length done) (acts_of middle timed.line timed.event)) (after middle timed.event)
-runs-snoc old number done timed report middle h = runs-snoc_at old number done (number + length done) timed report middle refl h
-
 -- The same, over the first events of a list.
-pub run-take_at : (old : Network) (number : ℕ) (events : List Timed) (i place : ℕ) (default : Timed) (report : List Entry) (middle : Network) →
+run-take_at : (old : Network) (number : ℕ) (events : List Timed) (i place : ℕ) (default : Timed) (report : List Entry) (middle : Network) →
     i < length events → place ≡ number + i → Runs old number (take i events) report middle →
     Runs old number (take (i + 1) events) (report ++ entries_of place (acts_of middle (get_or events i default).line (get_or events i default).event)) (after middle (get_or events i default).event)
 run-take_at old number events i place default report middle lt at h =
     let e : place ≡ number + length (take i events) = at ∙ ap (λ k. number + k) (sym (length-take-le i events (omega (arith, lt)))) in
     rw (take_more events i default lt) (runs-snoc_at old number (take i events) place (get_or events i default) report middle e h)
-
--- The same, from that number on.
-pub run-take : (old : Network) (number : ℕ) (events : List Timed) (i : ℕ) (default : Timed) (report : List Entry) (middle : Network) →
-    i < length events → Runs old number (take i events) report middle →
-    Runs old number (take (i + 1) events) (report ++ entries_of (number + i) (acts_of middle (get_or events i default).line (get_or events i default).event)) (after middle (get_or events i default).event)
-run-take old number events i default report middle lt h = run-take_at old number events i (number + i) default report middle lt refl h
 
 -- The same, of a run from 0 on.
 pub run-take_zero : (old : Network) (events : List Timed) (i : ℕ) (default : Timed) (report : List Entry) (middle : Network) → i < length events →

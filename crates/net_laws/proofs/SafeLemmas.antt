@@ -1,9 +1,8 @@
--- Each run is safe: a datagram leaves only at interfaces of the VRF in which its site is.
-use Rattle.std.proofs.Common.{◌≡◌, ℕ, ◌+◌, ◌-◌, List, [], ◌∷◌, ◌++◌, map, take, true, not, zero, suc, length, refl, sym, ap, subst, append_assoc, ◌∙◌, arith}
-use Rattle.std.specs.Prelude.{◌&&◌, Option, None, Some, slice_get}
+-- Each run is safe: a datagram leaves only at interfaces of VRFs at which its site is attached.
+use Rattle.std.proofs.Common.{◌≡◌, ℕ, ◌+◌, ◌-◌, List, [], ◌∷◌, ◌++◌, take, true, not, zero, suc, length, refl, sym, ap, subst, append_assoc, ◌∙◌, arith}
+use Rattle.std.specs.Prelude.{◌&&◌, Some, slice_get}
 use Rattle.std.specs.List.{AllByRecursion}
-use Rattle.std.specs.Option.{option_to_list}
-use Rattle.std.proofs.lemmas.Bool.{cond_both, cond-true, and_parts, eqb-true}
+use Rattle.std.proofs.lemmas.Bool.{cond_both, cond-true, and_parts, eqb-true, eq-eqb}
 use Rattle.std.proofs.lemmas.List.{take_at, length_push}
 use Rattle.mv_base.specs.declared.ids.IfaceId.{IfaceId}
 use Rattle.mv_base.specs.declared.ids.SiteId.{SiteId}
@@ -17,17 +16,17 @@ use Rattle.scenario_defs.specs.declared.event.Event.{Event}
 use Rattle.scenario_defs.specs.declared.event.Event.TheVariants as events
 use Rattle.scenario_defs.specs.declared.report.ReportLine.{ReportLine}
 use Rattle.scenario_defs.specs.Rules.{Rules, IsEventOf, ScriptRules}
-use Rattle.scenario_defs.specs.Vpn.{is_of_site, is_of_vrf, vrf_of_site, ifaces_where}
-use Rattle.mvpn_model.specs.Past.{is_accepted, is_home}
+use Rattle.scenario_defs.specs.Vpn.{is_of_site, is_of_vrf, ifaces_where, entered}
+use Rattle.mvpn_model.specs.Past.{is_accepted}
 use Rattle.mvpn_model.specs.Packet.{packet}
 use Rattle.mvpn_model.specs.Report.{Entry, Datagram, datagrams, refused_lines}
 use Rattle.mvpn_model.specs.Safe.{IsAdmitted, IsSafeOut, IsSafeLine, IsSafeEntry, Safe}
-use Rattle.net_defs.specs.Network.{Network, start, acts_of, after, leaves_at, leaves, entering, is_asking}
+use Rattle.net_defs.specs.Network.{Network, start, acts_of, after, is_chosen, leaves_at, leaves, entering, is_asking}
 use Rattle.net_defs.specs.Run.{Run, entries_of}
 use Rattle.mvpn_model.proofs.ListLemmas.{all-append, any-from_at}
 use Rattle.net_laws.proofs.RunLemmas.{report_from, runs_are}
-use Rattle.mvpn_model.proofs.VpnLemmas.{IsVrfOfSite, vrf_of_site-is, admits_itself, entered-one}
-use Rattle.net_laws.proofs.FrameLemmas.{after-scenario, acts-either, ifaces_where-all, outs-all}
+use Rattle.mvpn_model.proofs.VpnLemmas.{EntersAt, entered-each, admits-entered}
+use Rattle.net_laws.proofs.FrameLemmas.{after-scenario, acts-either, ifaces_where-all, outs-all, each-act, entries-all}
 use Rattle.net_laws.proofs.AcceptedLemmas.{is_refused, Agrees, agrees-of_report}
 use Rattle.net_laws.proofs.JoinedLemmas.{Tells, tells-start, tells-snoc, datagrams-snoc}
 
@@ -52,31 +51,30 @@ send-counted refused done old line site source group payload a tells =
 
 -- An interface at which a datagram leaves is admitted for its site.
 leaves-admitted : (network : Network) → Rules network.scenario → (site : SiteId) (source group : Addr) (vrf : VrfId) →
-    IsVrfOfSite network.scenario site vrf → (i j : ℕ) (own : Iface) → j ≡ i → slice_get network.scenario.ifaces i ≡ Some own →
+    EntersAt network.scenario site vrf → (i j : ℕ) (own : Iface) → j ≡ i → slice_get network.scenario.ifaces i ≡ Some own →
     leaves_at network vrf site source group (record { 0 = j }) own ≡ true → IsAdmitted network.scenario (record { 0 = j }) site
 leaves-admitted network rules site source group vrf is i j own e d t =
     let front = and_parts (is_of_vrf vrf own && not (is_of_site site own)) (is_asking network source group (record { 0 = j })) t in
     let first = and_parts (is_of_vrf vrf own) (not (is_of_site site own)) front.0 in
-    let in_vrf : own.vrf.0 ≡ vrf.0 = eqb-true own.vrf.0 vrf.0 first.0 in
     record {
       own = own;
       known = ap (λ k. slice_get network.scenario.ifaces k) e ∙ d;
-      attached = any-from_at (is_of_site site) network.scenario.ifaces is.place is.first is.at is.of_site;
-      admitted = λ k other found s. admits_itself network.scenario rules own.vrf other.vrf (omega (arith, in_vrf, is.known)) (in_vrf ∙ sym (is.one k other found s));
+      attached = any-from_at (is_of_site site) network.scenario.ifaces is.place is.iface is.at (eq-eqb is.iface.site.0 site.0 is.of_site);
+      admitted = λ k other found s. admits-entered network.scenario rules site vrf is own.vrf (eqb-true own.vrf.0 vrf.0 first.0) k other found (eqb-true other.site.0 site.0 s);
     }
 
--- The lines of a datagram's entering at its site's VRF are safe.
+-- The lines of a datagram's entering at a VRF at which its site is attached are safe.
 entering-safe : (refused : List ℕ) (done : List Timed) (old : Network) → Rules old.scenario →
     (line : ℕ) (site : SiteId) (source group : Addr) (payload : List ℕ) (vrf : VrfId) →
     is_accepted refused (record { line = line; event = events.Send site source group payload }) ≡ true → Tells refused done old →
-    IsVrfOfSite old.scenario site vrf →
+    EntersAt old.scenario site vrf →
     AllByRecursion (IsSafeLine old.scenario (done ++ record { line = line; event = events.Send site source group payload } ∷ []) refused) (entering old site source group payload vrf)
 entering-safe refused done old rules line site source group payload vrf a tells is =
     let timed : Timed = record { line = line; event = events.Send site source group payload } in
     let datagram : Datagram = record { event = length done; site = site; source = source; group = group; octets = packet source group payload } in
     let Q : IfaceId → Type 0 = λ iface. IsSafeOut old.scenario (done ++ timed ∷ []) refused (old.accepted + 1) iface (packet source group payload) in
     outs-all (IsSafeLine old.scenario (done ++ timed ∷ []) refused) (old.accepted + 1) (packet source group payload) (leaves old site source group vrf)
-    (cond_both (is_home old.scenario vrf source site) (ifaces_where (leaves_at old vrf site source group) 0 old.scenario.ifaces) [] (AllByRecursion Q)
+    (cond_both (is_chosen old.scenario vrf source site) (ifaces_where (leaves_at old vrf site source group) 0 old.scenario.ifaces) [] (AllByRecursion Q)
     (λ t. ifaces_where-all Q (leaves_at old vrf site source group) 0 old.scenario.ifaces (λ i j own e d h. record {
       datagram = datagram;
       counted = omega arith;
@@ -92,22 +90,13 @@ acts-safe : (refused : List ℕ) (done : List Timed) (old : Network) → Rules o
     AllByRecursion (λ act. AllByRecursion (IsSafeLine old.scenario (done ++ record { line = line; event = event } ∷ []) refused) act) (acts_of old line event)
 acts-safe refused done old rules line (events.Send site source group payload) a tells =
     let P : ReportLine → Type 0 = IsSafeLine old.scenario (done ++ record { line = line; event = events.Send site source group payload } ∷ []) refused in
-    subst (λ (vrfs : List VrfId). AllByRecursion (λ act. AllByRecursion P act) (map (entering old site source group payload) vrfs)) (sym (entered-one old.scenario rules site)) (found (vrf_of_site old.scenario site) refl)
-  where
-    found : (o : Option VrfId) → vrf_of_site old.scenario site ≡ o → AllByRecursion (λ act. AllByRecursion (IsSafeLine old.scenario (done ++ record { line = line; event = events.Send site source group payload } ∷ []) refused) act) (map (entering old site source group payload) (option_to_list o))
-    found None e = tt
-    found (Some vrf) e = (entering-safe refused done old rules line site source group payload vrf a tells (vrf_of_site-is old.scenario rules site vrf e), tt)
+    each-act (EntersAt old.scenario site) (λ act. AllByRecursion P act) (entering old site source group payload) (entered old.scenario site)
+    (λ vrf is. entering-safe refused done old rules line site source group payload vrf a tells is)
+    (entered-each old.scenario site)
 acts-safe refused done old rules line events.State a tells = ((tt, tt), tt)
 acts-safe refused done old rules line events.Drain a tells = tt
 acts-safe refused done old rules line other a tells =
     acts-either (λ acts. AllByRecursion (λ act. AllByRecursion (IsSafeLine old.scenario (done ++ record { line = line; event = other } ∷ []) refused) act) acts) old line other (λ reason. ((tt, tt), tt)) (tt, tt)
-
--- Entries are safe whose lines are.
-entries-safe : (scenario : Scenario) (whole : List Timed) (refused : List ℕ) (number : ℕ) (acts : List (List ReportLine)) →
-    AllByRecursion (λ act. AllByRecursion (IsSafeLine scenario (take (number + 1) whole) refused) act) acts →
-    AllByRecursion (IsSafeEntry scenario whole refused) (entries_of number acts)
-entries-safe scenario whole refused number [] h = tt
-entries-safe scenario whole refused number (act ∷ acts) h = (h.0, entries-safe scenario whole refused number acts h.1)
 
 -- The report of the events behind those that are done is safe.
 safe-from : (scenario : Scenario) → Rules scenario → (refused : List ℕ) (whole done timeds : List Timed) (old : Network) (number : ℕ) →
@@ -124,7 +113,7 @@ safe-from scenario rules refused whole done (timed ∷ more) old number w n s kn
     let own_here : AllByRecursion (λ act. AllByRecursion (IsSafeLine scenario (done ++ timed ∷ []) refused) act) acts = subst (λ (x : Scenario). AllByRecursion (λ act. AllByRecursion (IsSafeLine x (done ++ timed ∷ []) refused) act) acts) s own in
     let own_safe : AllByRecursion (λ act. AllByRecursion (IsSafeLine scenario (take (number + 1) whole) refused) act) acts = subst (λ (x : List Timed). AllByRecursion (λ act. AllByRecursion (IsSafeLine scenario x refused) act) acts) (sym so_far) own_here in
     all-append (IsSafeEntry scenario whole refused) (entries_of number acts) (report_from (after old timed.event) (number + 1) more)
-    (entries-safe scenario whole refused number acts own_safe)
+    (entries-all (IsSafeEntry scenario whole refused) number acts own_safe)
     (safe-from scenario rules refused whole (done ++ timed ∷ []) more (after old timed.event) (number + 1) split (ap (λ k. k + 1) n ∙ sym (length_push done timed)) (after-scenario old timed.event ∙ s) known.1 agrees.1 (tells-snoc refused done old own_rules timed own_event agrees.0 tells))
 
 -- Each run is safe.

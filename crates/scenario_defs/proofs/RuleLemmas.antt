@@ -1,5 +1,5 @@
 -- What the rules say of the thing at a place.
-use Rattle.std.proofs.Common.{◌≡◌, ℕ, ◌<◌, List, length, subst}
+use Rattle.std.proofs.Common.{◌≡◌, ℕ, ◌<◌, List, subst}
 use Rattle.std.specs.Prelude.{Some, slice_get, slice_index_or, All, AllPairs}
 use Rattle.std.proofs.lemmas.Option.{slice_get_within, get_or_from_slice_get}
 use Rattle.scenario_defs.specs.declared.scenario.Vrf.{Vrf}

@@ -1,11 +1,10 @@
 -- What every scenario and script that is read meets.
-use Rattle.std.specs.Prelude.{◌≡◌, ◌≢◌, ◌⊎◌, ℕ, ◌<◌, ◌≤◌, true, false, List, [], ◌∷◌, length, slice_get, slice_index, Option, Some, All, AllPairs, count_by}
+use Rattle.std.specs.Prelude.{◌≡◌, ◌≢◌, ◌⊎◌, ℕ, ◌<◌, ◌≤◌, true, false, List, [], ◌∷◌, length, slice_get, slice_index, Some, All, AllPairs, count_by}
 use Rattle.std.specs.List.{AllByRecursion}
 use Rattle.mv_base.specs.declared.ids.NodeId.{NodeId}
 use Rattle.mv_base.specs.declared.addr.Addr.{Addr}
 use Rattle.mv_base.specs.declared.addr.Addr.TheVariants.{V4, V6}
 use Rattle.mv_base.specs.declared.prefix.Prefix.{Prefix}
-use Rattle.mv_base.specs.declared.rd.Rule.{Rule}
 use Rattle.mv_base.specs.declared.rd.Rule.TheVariants.{Highest, Nearest}
 use Rattle.mv_base.specs.Address.{same_addr}
 use Rattle.mv_base.specs.Prefix.{IsPrefixOf}

@@ -38,19 +38,30 @@ lines-cons : (x : List ℕ) (parts : List (List ℕ)) → 0 < length parts → l
 lines-cons x [] h = absurd (omega arith)
 lines-cons x (y ∷ more) h = refl
 
+-- The part before the first cut, and the parts behind it.
+pub split_first : (p : ℕ → Bool) (xs : List ℕ) (i : ℕ) → position p xs ≡ Some i → slice_split p xs ≡ take i xs ∷ slice_split p (drop (i + 1) xs)
+split_first p xs i h =
+    let found : (i < length xs) × (p (get_or xs i 0) ≡ true) × ((k : ℕ) → k < i → p (get_or xs k 0) ≡ false) = position-Some p xs i 0 h in
+    let e : position_or_len p xs ≡ i = position_or_len_is p xs i 0 (omega (arith, found.0)) found.2 (λ _. found.1) in
+    let s : slice_split p xs ≡ before_first p xs ∷ slice_split p (after_first p xs) = slice_split_first p xs 0 (omega (arith, found.0, e)) in
+    s ∙ ap (λ (n : ℕ). take n xs ∷ slice_split p (drop (n + 1) xs)) e
+
 -- The line before the first line feed, and the lines behind it.
 pub lines-first : (xs : List ℕ) (i : ℕ) → position (λ b. b == 10) xs ≡ Some i → lines xs ≡ strip_carriage_return (take i xs) ∷ lines (drop (i + 1) xs)
 lines-first xs i h =
     let p : ℕ → Bool = λ b. b == 10 in
-    let found : (i < length xs) × (p (get_or xs i 0) ≡ true) × ((k : ℕ) → k < i → p (get_or xs k 0) ≡ false) = position-Some p xs i 0 h in
-    let e : position_or_len p xs ≡ i = position_or_len_is p xs i 0 (omega (arith, found.0)) found.2 (λ _. found.1) in
-    let s : slice_split p xs ≡ before_first p xs ∷ slice_split p (after_first p xs) = slice_split_first p xs 0 (omega (arith, found.0, e)) in
-    let t : slice_split p xs ≡ take i xs ∷ slice_split p (drop (i + 1) xs) = s ∙ ap (λ (n : ℕ). take n xs ∷ slice_split p (drop (n + 1) xs)) e in
-    ap lines_of_parts t ∙ lines-cons (take i xs) _ (omega (arith, length-slice_split p (drop (i + 1) xs)))
+    ap lines_of_parts (split_first p xs i h) ∙ lines-cons (take i xs) _ (omega (arith, length-slice_split p (drop (i + 1) xs)))
 
 none_found : (n k : ℕ) (b : Bool) → nat_lt n k ≡ b → cond {A = Option ℕ} b (Some n) None ≡ None → k ≤ n
 none_found n k true e h = absurd cc
 none_found n k false e h = grind (arith, nat_tests)
+
+-- Where there is no cut, the list is one part.
+pub split_whole : (p : ℕ → Bool) (xs : List ℕ) → position p xs ≡ None → slice_split p xs ≡ xs ∷ []
+split_whole p xs h =
+    let n : length xs ≤ position_or_len p xs = none_found _ _ _ refl h in
+    let fails : All (λ y. p y ≡ false) xs = λ k d m. fails_before_first p xs k d (omega (arith, n, m)) in
+    slice_split_none p xs fails
 
 last_part : (part : List ℕ) (b : Bool) → b ≡ false → cond b [] (part ∷ []) ≡ part ∷ []
 last_part part b h = rw h refl
@@ -63,12 +74,7 @@ whole_line x more parts e =
 -- A text without a line feed is one line.
 pub lines-whole : (xs : List ℕ) → 0 < length xs → position (λ b. b == 10) xs ≡ None → lines xs ≡ xs ∷ []
 lines-whole [] l h = absurd (omega arith)
-lines-whole (x ∷ more) l h =
-    let p : ℕ → Bool = λ b. b == 10 in
-    let n : length (x ∷ more) ≤ position_or_len p (x ∷ more) = none_found _ _ _ refl h in
-    let fails : All (λ y. p y ≡ false) (x ∷ more) = λ k d m. fails_before_first p (x ∷ more) k d (omega (arith, n, m)) in
-    let e : slice_split p (x ∷ more) ≡ (x ∷ more) ∷ [] = slice_split_none p (x ∷ more) fails in
-    whole_line x more (slice_split p (x ∷ more)) e
+lines-whole (x ∷ more) l h = whole_line x more (slice_split (λ b. b == 10) (x ∷ more)) (split_whole (λ b. b == 10) (x ∷ more) h)
 
 -- A part is shorter than what is to come.
 pub part_fits : (parts : List (Bor (List ℕ))) (i : ℕ) (d : Bor (List ℕ)) (column n : ℕ) → i < length parts → 1 ≤ column → column + total (map (λ p. p.now) (drop i parts)) ≡ 1 + total (map (λ p. p.now) parts) → total (map (λ p. p.now) parts) ≡ n + 1 → length (get_or parts i d).now ≤ n

@@ -2,3 +2,4 @@ pub mod Words
 pub mod Answers
 pub mod FaultText
 pub mod Forms
+pub mod Parts

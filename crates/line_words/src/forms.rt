@@ -6,14 +6,14 @@ ghost use Rattle.mv_base.specs.Dotted.{dotted_of};
 ghost use Rattle.line_words.specs.Answers.{Gives};
 ghost use Rattle.line_words.specs.Words.{placed_word};
 ghost use Rattle.scenario_defs.specs.Names.{is_letter, is_name_octet as name_octet, is_name};
-ghost use Rattle.line_words.specs.Forms.{addr_of, is_unicast, is_group, addr_at, source_at, group_at, vrf_number_of, numbered_of, addressed_of, rd_of, target_of, targets_at, rule_at, prefix_if, prefix_of, prefixes_at, payload_at, or_fault};
+ghost use Rattle.line_words.specs.Forms.{addr_of, is_unicast, is_group, addr_at, source_at, group_at, vrf_number_of, numbered_of, addressed_of, rd_of, target_of, rule_at, prefix_if, prefix_of, payload_at, or_fault};
 
 use crate::fault::fault_at;
 use crate::{ReadFault, Reason, Row, TextFault, Word};
 use hex::FromHexError;
 use mv_base::{Addr, Bytes, Prefix, Rd, Rule, cut_at, read_number};
-use route_targets::{ExtComm, Target, Targets};
-use scenario_defs::{NAME_LIMIT, Prefixes};
+use route_targets::{ExtComm, Target};
+use scenario_defs::NAME_LIMIT;
 use std::alloc::Global;
 
 fn is_letter(b: u8) -> bool
@@ -205,14 +205,6 @@ pub fn target_of(text: &[u8]) -> Option<Target>
     Some(Target(ExtComm(octets)))
 }
 
-/// The 1 to 8 distinct Route Targets that a word writes with commas, or `Targets`; or want of memory.
-#[tactic(auto, unfolding(crate::specs::Forms::targets_at))]
-pub fn targets_at(alloc: Global, row: Row, word: &Word) -> Result<Targets, ReadFault>
-    ensures { Gives result (targets_at row (placed_word word.now)) }
-{
-    Err(ReadFault::NoMemory)
-}
-
 /// The rule for upstream hops that a word names, or `Choice`.
 #[tactic(auto, unfolding(crate::specs::Forms::rule_at))]
 pub fn rule_at(row: Row, word: &Word) -> Result<Rule, TextFault>
@@ -236,23 +228,15 @@ fn prefix_if(addr: Addr, bits: u64) -> Option<Prefix>
     }
 }
 
+/// The prefix that a text `ADDR/N` writes, with no bit set behind the first N.
 #[tactic(auto, unfolding(crate::specs::Forms::prefix_of))]
-fn prefix_of(text: &[u8]) -> Option<Prefix>
+pub(crate) fn prefix_of(text: &[u8]) -> Option<Prefix>
     ensures { result ≡ prefix_of text.now }
 {
     let (front, rest) = cut_at(text, b'/')?;
     let addr = Addr::read_dotted(front)?;
     let bits = read_number(rest)?;
     prefix_if(addr, bits)
-}
-
-/// The 1 to 8 distinct prefixes that a word writes with commas, each `ADDR/N` with no bit set behind the first N, or
-/// `Prefix`; or want of memory.
-#[tactic(auto, unfolding(crate::specs::Forms::prefixes_at))]
-pub fn prefixes_at(alloc: Global, row: Row, word: &Word) -> Result<Prefixes, ReadFault>
-    ensures { Gives result (prefixes_at row (placed_word word.now)) }
-{
-    Err(ReadFault::NoMemory)
 }
 
 /// The octets that a word writes in hexadecimal digits, two each, or none as `-`; else `Hex`, or want of memory.

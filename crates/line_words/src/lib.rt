@@ -3,11 +3,16 @@
 
 mod fault;
 mod forms;
+mod lists;
 mod words;
 
 pub use fault::{ReadFault, Reason, TEXT_LIMIT, TextFault, fault_at, reason_word};
 pub use forms::{
-    addr_at, group_at, is_name, is_unicast, or_fault, payload_at, prefixes_at, rd_of, rule_at,
-    source_at, target_of, targets_at, vrf_number_of,
+    addr_at, group_at, is_name, is_unicast, or_fault, payload_at, rd_of, rule_at, source_at,
+    target_of, vrf_number_of,
 };
+pub use lists::{prefixes_at, targets_at};
 pub use words::{Row, Word, split_line, words_of};
+
+#[cfg(test)]
+mod tests;

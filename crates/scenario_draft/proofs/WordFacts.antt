@@ -1,8 +1,10 @@
 -- What a word that is without fault keeps to.
-use Rattle.std.proofs.Common.{◌≡◌, ℕ, ◌<◌, ◌≤◌, ◌==◌, Bool, true, false, not, ◌&&◌, List, [], length, refl, sym, subst, cond, arith, nat_eq, nat_le, slice_index, slice_get, Option, Some, None}
-use Rattle.std.specs.Prelude.{Result, Ok, Err, option_map}
+use Rattle.std.proofs.Common.{◌≡◌, ℕ, ◌-◌, ◌%◌, ◌^◌, ◌<◌, ◌≤◌, ◌==◌, Bool, true, false, not, ◌&&◌, ◌||◌, List, [], length, refl, sym, ap, subst, cond, arith, nat_eq, nat_le, slice_index, slice_get, Option, Some, None, inl, inr}
+use Rattle.std.specs.Prelude.{◌≢◌, ◌⊎◌, Result, Ok, Err, option_map, All, AllPairs}
+use Rattle.std.specs.List.{list_any}
+use Rattle.std.specs.Int.{w32, from_be_bytes}
 use Rattle.std.specs.Map.{lookup}
-use Rattle.std.specs.Cmp.Lexicographic.{pointwise}
+use Rattle.std.specs.Cmp.Lexicographic.{pointwise, other_text}
 use Rattle.std.proofs.lemmas.Bool.Decides.{nat_tests}
 use Rattle.std.proofs.lemmas.Option.{slice_get_within}
 use Rattle.hex.specs.declared.error.FromHexError.{FromHexError}
@@ -10,20 +12,30 @@ use Rattle.hex.specs.Hex.{decode_of}
 use Rattle.hex.proofs.HexLemmas.{decode_of-ok}
 use Rattle.mv_base.specs.declared.addr.Addr.{Addr}
 use Rattle.mv_base.specs.declared.addr.Addr.TheVariants.{V4, V6}
-use Rattle.mv_base.specs.Number.{◌>>?◌, only_if}
+use Rattle.mv_base.specs.declared.ids.NodeId.{NodeId}
+use Rattle.mv_base.specs.declared.core_link.Link.{Link}
+use Rattle.mv_base.specs.declared.rd.Rd.{Rd}
+use Rattle.mv_base.specs.declared.rd.Rule.TheVariants.{Highest, Nearest}
+use Rattle.mv_base.specs.Address.{same_addr}
+use Rattle.mv_base.specs.Number.{number_of, cut_of, ◌>>?◌, only_if}
 use Rattle.mv_base.specs.Dotted.{octet_of, octet_front_of, dotted_of}
-use Rattle.scenario_defs.specs.Rules.{IsIpv4, IsUnicast, IsGroup}
+use Rattle.core_walks.specs.Topology.{JoinsSamePair}
+use Rattle.route_targets.specs.Targets.{same_target}
+use Rattle.scenario_defs.specs.declared.scenario.Vrf.{Vrf}
+use Rattle.scenario_defs.specs.Prefixes.{same_prefix}
+use Rattle.scenario_defs.specs.Rules.{IsIpv4, IsUnicast, IsGroup, IsEdge, IsSitePrefix}
 use Rattle.line_words.specs.declared.fault.TextFault.{TextFault}
 use Rattle.line_words.specs.declared.fault.Reason.{Reason}
 use Rattle.line_words.specs.declared.fault.Reason.TheVariants as reasons
 use Rattle.line_words.specs.declared.words.Row.{Row}
 use Rattle.line_words.specs.Words.{Placed}
-use Rattle.line_words.specs.Forms.{◌>>=◌, or_fault, addr_of, addr_at, source_at, group_at, payload_at, is_unicast, is_group}
+use Rattle.line_words.specs.Forms.{◌>>=◌, or_fault, addr_of, addr_at, source_at, group_at, payload_at, is_unicast, is_group, vrf_number_of, rd_of, target_of, targets_at, rule_at, is_prefix, prefix_of, prefixes_at}
+use Rattle.line_words.proofs.ListFacts.{none_any, distinct_pairs, each_holds, list_is}
 use Rattle.scenario_defs.specs.declared.scenario.Thing.{Thing}
 use Rattle.scenario_defs.specs.Names.{is_name}
 use Rattle.scenario_draft.specs.Drafted.{Drafted}
-use Rattle.scenario_draft.specs.Naming.{new_name, node_of, vrf_of, site_of, iface_of, named, node_named, edge_named, vrf_named, site_named, iface_named, node_at, edge_at, vrf_at, site_at, iface_at}
-use Rattle.scenario_draft.specs.Adding.{IsFree}
+use Rattle.scenario_draft.specs.Naming.{new_name, node_of, vrf_of, site_of, iface_of, named, node_named, edge_named, vrf_named, site_named, iface_named, node_at, edge_at, vrf_at, site_at, iface_at, is_at, node_addr_at, has_number, vrf_number_at, has_rd, rd_at, joins, other_end_at}
+use Rattle.scenario_draft.specs.Declaring.{IsNewName}
 
 -- Each value without fault has the property.
 pub record Meets {A : Type 0} (P : A → Type 0) (r : Result A TextFault) : Type 0 where
@@ -82,9 +94,9 @@ node_finds : (draft : Drafted) (text : List ℕ) → Finds (λ id. id.0 < length
 unfolding node_named
 node_finds draft text = bind_finds _ (named draft text) _ (λ thing _. bind_finds _ (node_of thing) _ (λ id _. bind_finds _ (slice_get draft.scenario.nodes id.0) _ (λ found e. some_finds _ id (slice_get_within draft.scenario.nodes id.0 found e))))
 
-edge_finds : (draft : Drafted) (text : List ℕ) → Finds (λ id. id.0 < length draft.scenario.nodes) (edge_named draft text)
+edge_finds : (draft : Drafted) (text : List ℕ) → Finds (IsEdge draft.scenario) (edge_named draft text)
 unfolding edge_named
-edge_finds draft text = bind_finds _ (named draft text) _ (λ thing _. bind_finds _ (node_of thing) _ (λ id _. bind_finds _ (slice_get draft.scenario.nodes id.0) _ (λ node e. only_finds _ node.edge id (λ _. slice_get_within draft.scenario.nodes id.0 node e))))
+edge_finds draft text = bind_finds _ (named draft text) _ (λ thing _. bind_finds _ (node_of thing) _ (λ id _. bind_finds _ (slice_get draft.scenario.nodes id.0) _ (λ node e. only_finds _ node.edge id (λ edge. record { node = node; at = e; edge = edge }))))
 
 vrf_finds : (draft : Drafted) (text : List ℕ) → Finds (λ id. id.0 < length draft.scenario.vrfs) (vrf_named draft text)
 unfolding vrf_named
@@ -98,19 +110,19 @@ iface_finds : (draft : Drafted) (text : List ℕ) → Finds (λ id. id.0 < lengt
 unfolding iface_named
 iface_finds draft text = bind_finds _ (named draft text) _ (λ thing _. bind_finds _ (iface_of thing) _ (λ id _. bind_finds _ (slice_get draft.scenario.ifaces id.0) _ (λ found e. some_finds _ id (slice_get_within draft.scenario.ifaces id.0 found e))))
 
-free_name : (draft : Drafted) (text : List ℕ) (e : TextFault) (o : Option Thing) → lookup (pointwise nat_eq text) draft.names ≡ o → Meets (IsFree draft) (elim o [ None ↦ Ok text | Some thing ↦ Err e ])
-free_name draft text e None h = ok_meets _ text h
-free_name draft text e (Some thing) h = err_meets _ e
+free_name : (draft : Drafted) (text : List ℕ) (e : TextFault) (o : Option Thing) → is_name text ≡ true → lookup (pointwise nat_eq text) draft.names ≡ o → Meets (IsNewName draft) (elim o [ None ↦ Ok text | Some thing ↦ Err e ])
+free_name draft text e None n h = ok_meets _ text (n, h)
+free_name draft text e (Some thing) n h = err_meets _ e
 
-pub name_meets : (draft : Drafted) (row : Row) (word : Placed) → Meets (IsFree draft) (new_name draft row word)
+pub name_meets : (draft : Drafted) (row : Row) (word : Placed) → Meets (IsNewName draft) (new_name draft row word)
 unfolding new_name
-name_meets draft row word = then_meets _ (is_name word.text) _ _ (λ b. free_name draft word.text _ (named draft word.text) (sym (rw b refl)))
+name_meets draft row word = then_meets _ (is_name word.text) _ _ (λ b. free_name draft word.text _ (named draft word.text) b (sym (rw b refl)))
 
 pub node_meets : (draft : Drafted) (row : Row) (word : Placed) → Meets (λ id. id.0 < length draft.scenario.nodes) (node_at draft row word)
 unfolding node_at
 node_meets draft row word = or_fault_meets _ _ row word _ (node_finds draft word.text)
 
-pub edge_meets : (draft : Drafted) (row : Row) (word : Placed) → Meets (λ id. id.0 < length draft.scenario.nodes) (edge_at draft row word)
+pub edge_meets : (draft : Drafted) (row : Row) (word : Placed) → Meets (IsEdge draft.scenario) (edge_at draft row word)
 unfolding edge_at
 edge_meets draft row word = or_fault_meets _ _ row word _ (edge_finds draft word.text)
 
@@ -184,3 +196,88 @@ payload_meets row word l = payload_if _ _ (decoded word.text _ (decode_of word.t
 
 pub below : (limit n : ℕ) → nat_le limit n ≡ false → n < limit
 below limit n h = grind (arith, nat_tests)
+
+-- ---- what is new beside what is there
+
+all_weaker : {A : Type 0} (P Q : A → Type 0) (xs : List A) → ((x : A) → P x → Q x) → All P xs → All Q xs
+all_weaker P Q xs f h = λ k d within. f _ (h k d within)
+
+pub node_addr_meets : (draft : Drafted) (row : Row) (word : Placed) → Meets (λ addr. IsUnicast addr × All (λ other. same_addr other.addr addr ≡ false) draft.scenario.nodes) (node_addr_at draft row word)
+unfolding node_addr_at
+node_addr_meets draft row word =
+    bind_meets _ (addr_at row word) _ (λ addr a. then_meets _ _ _ _ (λ b. if_meets _ (list_any (is_at addr) draft.scenario.nodes) _ _ (λ new.
+    ok_meets _ addr (is_source addr ((addr_meets row word).holds addr a) b, none_any (is_at addr) draft.scenario.nodes new))))
+
+number_finds : (text : List ℕ) → Finds (λ number. (1 ≤ number) × (number ≤ 4095)) (vrf_number_of text)
+unfolding vrf_number_of
+number_finds text = bind_finds _ (number_of text) _ (λ number _. only_finds _ _ number (within number 1 4095))
+
+differs : (x y m n : ℕ) → (x == y && m == n) ≡ false → x ≡ y → m ≢ n
+differs x y m n h e d = grind (arith, nat_tests)
+
+other_number : (edge : NodeId) (number : ℕ) (vrfs : List Vrf) → list_any (has_number edge number) vrfs ≡ false → All (λ other. other.edge.0 ≡ edge.0 → other.number ≢ number) vrfs
+other_number edge number vrfs h = all_weaker _ _ vrfs (λ vrf k. differs vrf.edge.0 edge.0 vrf.number number k) (none_any (has_number edge number) vrfs h)
+
+pub vrf_number_meets : (draft : Drafted) (row : Row) (edge : NodeId) (word : Placed) → Meets (λ number. (1 ≤ number) × (number ≤ 4095) × All (λ other. other.edge.0 ≡ edge.0 → other.number ≢ number) draft.scenario.vrfs) (vrf_number_at draft row edge word)
+unfolding vrf_number_at
+vrf_number_meets draft row edge word =
+    bind_meets _ (or_fault (vrf_number_of word.text) row word reasons.Number) _ (λ number n. if_meets _ (list_any (has_number edge number) draft.scenario.vrfs) _ _ (λ new.
+    let bounds = (or_fault_meets _ (vrf_number_of word.text) row word reasons.Number (number_finds word.text)).holds number n in
+    ok_meets _ number (bounds.0, bounds.1, other_number edge number draft.scenario.vrfs new)))
+
+second_false : (x y : ℕ) (b : Bool) → (x == y && b) ≡ false → x ≡ y → b ≡ false
+second_false x y b h e = grind (arith, nat_tests)
+
+other_rd : (edge : NodeId) (rd : Rd) (vrf : Vrf) → has_rd edge rd vrf ≡ false → vrf.edge.0 ≡ edge.0 → vrf.rd ≢ rd
+other_rd edge rd vrf h e d = other_text vrf.rd.0 rd.0 (sym (second_false vrf.edge.0 edge.0 _ h e)) (ap (λ (r : Rd). r.0) d)
+
+pub rd_meets : (draft : Drafted) (row : Row) (edge : NodeId) (word : Placed) → Meets (λ rd. All (λ other. other.edge.0 ≡ edge.0 → other.rd ≢ rd) draft.scenario.vrfs) (rd_at draft row edge word)
+unfolding rd_at
+rd_meets draft row edge word =
+    bind_meets _ (or_fault (rd_of word.text) row word reasons.Rd) _ (λ rd _. if_meets _ (list_any (has_rd edge rd) draft.scenario.vrfs) _ _ (λ new.
+    ok_meets _ rd (all_weaker _ _ draft.scenario.vrfs (other_rd edge rd) (none_any (has_rd edge rd) draft.scenario.vrfs new))))
+
+no_pair : (x y a b : ℕ) → ((x == a && y == b) || (x == b && y == a)) ≡ false → ((x ≡ a) × (y ≡ b)) ⊎ ((x ≡ b) × (y ≡ a)) → ⊥
+no_pair x y a b h (inl p) = grind (arith, nat_tests)
+no_pair x y a b h (inr p) = grind (arith, nat_tests)
+
+-- No link joins the nodes that a new link joins.
+pub not_joined : (a b : NodeId) (cost : ℕ) (links : List Link) → list_any (joins a b) links ≡ false → All (λ other. ¬ (JoinsSamePair other (record { a = a; b = b; cost = cost }))) links
+not_joined a b cost links h = all_weaker _ _ links (λ other k. no_pair other.a.0 other.b.0 a.0 b.0 k) (none_any (joins a b) links h)
+
+pub other_end_meets : (draft : Drafted) (row : Row) (a : NodeId) (word : Placed)
+    → Meets (λ b. (b.0 < length draft.scenario.nodes) × ((cost : ℕ) → All (λ other. ¬ (JoinsSamePair other (record { a = a; b = b; cost = cost }))) draft.scenario.links)) (other_end_at draft row a word)
+unfolding other_end_at
+other_end_meets draft row a word =
+    bind_meets _ (node_at draft row word) _ (λ b n. if_meets _ (list_any (joins a b) draft.scenario.links) _ _ (λ new.
+    ok_meets _ b ((node_meets draft row word).holds b n, λ cost. not_joined a b cost draft.scenario.links new)))
+
+-- ---- lists
+
+pub targets_meets : (row : Row) (word : Placed) → Meets (λ targets. (0 < length targets) × (length targets ≤ 8) × AllPairs (λ target other. same_target target other ≡ false) targets) (targets_at row word)
+unfolding targets_at
+targets_meets row word = or_fault_meets _ _ row word _ (record { holds = λ targets h. let list = list_is same_target target_of word.text targets h in (list.some, list.few, distinct_pairs same_target targets list.distinct) })
+
+no_rest : (bits rest : ℕ) → (nat_le bits 32 && rest == 0) ≡ true → (bits ≤ 32) × (rest ≡ 0)
+no_rest bits rest h = grind (arith, nat_tests)
+
+site_prefix : (addr : Addr) (bits : ℕ) → IsIpv4 addr → is_prefix addr bits ≡ true → IsSitePrefix (record { addr = addr; bits = bits })
+site_prefix (V4 octets) bits four h = record { ipv4 = four; bits = no_rest bits (from_be_bytes w32 octets % 2 ^ (32 - bits)) h }
+site_prefix (V6 octets) bits four h = absurd four
+
+prefix_finds : (text : List ℕ) → Finds IsSitePrefix (prefix_of text)
+unfolding prefix_of
+prefix_finds text = bind_finds _ (cut_of 47 text) _ (λ cut _. bind_finds _ (addr_of cut.0) _ (λ addr a. bind_finds _ (number_of cut.1) _ (λ bits _. only_finds _ (is_prefix addr bits) _ (site_prefix addr bits ((addr_finds cut.0).holds addr a)))))
+
+pub prefixes_meets : (row : Row) (word : Placed) → Meets (λ prefixes. (0 < length prefixes) × (length prefixes ≤ 8) × All IsSitePrefix prefixes × AllPairs (λ prefix other. same_prefix prefix other ≡ false) prefixes) (prefixes_at row word)
+unfolding prefixes_at
+prefixes_meets row word =
+    or_fault_meets _ _ row word _ (record {
+      holds = λ prefixes h.
+          let list = list_is same_prefix prefix_of word.text prefixes h in
+          (list.some, list.few, each_holds IsSitePrefix prefix_of (λ text prefix p. (prefix_finds text).holds prefix p) _ prefixes list.each, distinct_pairs same_prefix prefixes list.distinct);
+    })
+
+pub rule_meets : (row : Row) (word : Placed) → Meets (λ rule. (rule ≡ Highest) ⊎ (rule ≡ Nearest)) (rule_at row word)
+unfolding rule_at
+rule_meets row word = either_meets _ _ _ _ (ok_meets _ Highest (inl refl)) (then_meets _ _ _ _ (λ _. ok_meets _ Nearest (inr refl)))

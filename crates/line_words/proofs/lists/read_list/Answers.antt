@@ -1,4 +1,4 @@
-use Rattle.std.proofs.Common.{◌≡◌, ◌∷◌, ◌++◌, [], ◌∙◌, ◌==◌, ℕ, Bor, List, Option, ap, sym, refl, rules, arith, length, length-append, true}
+use Rattle.std.proofs.Common.{◌∷◌, ◌++◌, [], ◌∙◌, ◌==◌, ℕ, Bor, List, Option, ap, sym, refl, rules, arith, length-append}
 use Rattle.std.specs.List.{slice_split}
 use Rattle.line_words.specs.Parts.{parts_behind}
 use Rattle.line_words.proofs.ListFacts.{list_from, from_start, taken, too_many, again, distinct_push, list_done, some_part}

@@ -1,13 +1,12 @@
 //! Looks through the lists of a scenario.
 ghost use Rattle.std.specs.Prelude.{◌≡◌};
 ghost use Rattle.std.specs.List.{list_any};
-ghost use Rattle.scenario_defs.specs.Prefixes.{prefixes_of, same_prefix, share_prefix};
 ghost use Rattle.scenario_lines.specs.VrfGrammar.{overlaps, is_vpn_at};
 ghost use Rattle.scenario_lines.specs.SiteGrammar.{is_mixed, is_taken};
 
-use mv_base::{NodeId, Prefix, SiteId};
+use mv_base::NodeId;
 use route_targets::Targets;
-use scenario_defs::{Iface, Scenario, Vrf, same_vpn};
+use scenario_defs::{Iface, Scenario, Vrf, prefixes_of, same_vpn, share_prefix};
 
 fn overlaps(targets: &Targets, vrf: &Vrf) -> bool
     ensures { result ≡ overlaps targets.now vrf.now }
@@ -35,33 +34,6 @@ pub fn is_vpn_taken(edge: NodeId, targets: &Targets, vrfs: &[Vrf]) -> bool
     vrfs.iter().any(|vrf| is_vpn_at(edge, targets, vrf))
 }
 
-fn prefixes_of(scenario: &Scenario, site: SiteId) -> &[Prefix]
-    ensures { result.now ≡ prefixes_of scenario.now site }
-{
-    match scenario.sites.as_slice().get(usize::from(site.0)) {
-        Some(found) => found.prefixes.as_slice(),
-        None => &[],
-    }
-}
-
-fn same_prefix(a: Prefix, b: Prefix) -> bool
-    ensures { result ≡ same_prefix a b }
-{
-    a.addr.same(b.addr) && a.bits == b.bits
-}
-
-fn is_among(prefix: Prefix, prefixes: &[Prefix]) -> bool
-    ensures { result ≡ list_any (same_prefix prefix) prefixes.now }
-{
-    prefixes.iter().any(|other| same_prefix(prefix, *other))
-}
-
-fn share_prefix(a: &[Prefix], b: &[Prefix]) -> bool
-    ensures { result ≡ share_prefix a.now b.now }
-{
-    a.iter().any(|prefix| is_among(*prefix, b))
-}
-
 fn is_mixed(scenario: &Scenario, new: &Iface, iface: &Iface) -> bool
     ensures { result ≡ is_mixed scenario.now new.now iface.now }
 {
@@ -75,6 +47,7 @@ pub fn is_any_mixed(scenario: &Scenario, new: &Iface, ifaces: &[Iface]) -> bool
     ifaces.iter().any(|iface| is_mixed(scenario, new, iface))
 }
 
+/// The prefixes are compared first: where they differ, as they do between the sites of one VPN, no targets need be.
 fn is_taken(scenario: &Scenario, new: &Iface, iface: &Iface) -> bool
     ensures { result ≡ is_taken scenario.now new.now iface.now }
 {

@@ -78,16 +78,6 @@ fn events_line(draft: &Draft, row: Row, words: &[Word]) -> Result<Line, TextFaul
     }
 }
 
-/// The same, or out of memory.
-fn told(answer: Result<Line, TextFault>) -> Result<Line, ReadFault>
-    ensures { Gives result answer }
-{
-    match answer {
-        Ok(said) => Ok(said),
-        Err(fault) => Err(ReadFault::Text(fault)),
-    }
-}
-
 #[tactic(auto, unfolding(crate::specs::ScenarioGrammar::scenario_words))]
 fn scenario_words(
     alloc: Global,
@@ -101,14 +91,14 @@ fn scenario_words(
     ensures { Gives result (scenario_words draft.now row kind (placed_word first.now) (map placed_word rest.now)) }
 {
     match kind {
-        ScenarioWord::Edge => told(node_line(draft, row, true, first, rest)),
-        ScenarioWord::Core => told(node_line(draft, row, false, first, rest)),
-        ScenarioWord::Link => told(link_line(draft, row, first, rest)),
+        ScenarioWord::Edge => Ok(node_line(draft, row, true, first, rest)?),
+        ScenarioWord::Core => Ok(node_line(draft, row, false, first, rest)?),
+        ScenarioWord::Link => Ok(link_line(draft, row, first, rest)?),
         ScenarioWord::Vrf => vrf_line(alloc, draft, row, first, rest),
         ScenarioWord::Site => site_line(alloc, draft, row, first, rest),
-        ScenarioWord::Iface => told(iface_line(draft, row, first, rest)),
-        ScenarioWord::Setting(setting) => told(setting_line(draft, row, setting, first, rest)),
-        ScenarioWord::Events => told(events_line(draft, row, rest)),
+        ScenarioWord::Iface => Ok(iface_line(draft, row, first, rest)?),
+        ScenarioWord::Setting(setting) => Ok(setting_line(draft, row, setting, first, rest)?),
+        ScenarioWord::Events => Ok(events_line(draft, row, rest)?),
     }
 }
 

@@ -9,7 +9,8 @@ use Rattle.line_words.specs.declared.fault.Reason.TheVariants as reasons
 use Rattle.line_words.specs.Forms.{◌>>=◌}
 use Rattle.scenario_draft.specs.declared.line.Line.{Line}
 use Rattle.scenario_draft.specs.Drafted.{Drafted}
-use Rattle.scenario_text.specs.Grammar.{line_of, added, empty_draft, script_at, script_of, script_from}
+use Rattle.scenario_draft.specs.Adding.{added, empty_draft}
+use Rattle.scenario_text.specs.Grammar.{line_of, script_at, script_of, script_from}
 use Rattle.scenario_text.specs.Faults.{Says, SaysScript, FirstFault, IsFaultyAt}
 
 end_fault : (old : Drafted) (number : ℕ) (fault : TextFault) (b : Bool) → old.begun ≡ b → cond {A = Result Script TextFault} b (Ok (script_at old number)) (Err (record { line = number; column = 1; reason = reasons.Events })) ≡ Err fault → IsFaultyAt old number [] fault

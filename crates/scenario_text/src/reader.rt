@@ -1,17 +1,17 @@
 //! Reads a text.
 ghost use Rattle.std.specs.Prelude.{◌≡◌, ◌==◌, ◌≤◌, length, map, position, IfOk};
-ghost use Rattle.std.specs.List.{list_all, list_any};
+ghost use Rattle.std.specs.List.{list_all};
+ghost use Rattle.core_walks.specs.Topology.{IsTopology};
 ghost use Rattle.scenario_defs.specs.Rules.{ScriptRules};
 ghost use Rattle.line_words.specs.Answers.{Gives};
 ghost use Rattle.line_words.specs.Words.{placed_word};
 ghost use Rattle.scenario_text.specs.Grammar.{is_outside, is_blank, row_of, words_line, line_of, script_of};
 
-use crate::draft::Draft;
-use crate::event_lines::event_line;
-use crate::line::Line;
-use crate::scenario_lines::scenario_line;
+use event_lines::event_line;
 use line_words::{ReadFault, Reason, Row, TEXT_LIMIT, Word, fault_at, split_line, words_of};
 use scenario_defs::Script;
+use scenario_draft::{Draft, Line};
+use scenario_lines::scenario_line;
 use std::alloc::Global;
 
 const LINE_LIMIT: usize = 4096;
@@ -45,18 +45,6 @@ fn is_blank(octets: &[u8]) -> bool
     }
 }
 
-fn has_comma(octets: &[u8]) -> bool
-    ensures { result ≡ list_any (λ b. b == 44) octets.now }
-{
-    octets.iter().any(|b| *b == b',')
-}
-
-fn has_point(octets: &[u8]) -> bool
-    ensures { result ≡ list_any (λ b. b == 46) octets.now }
-{
-    octets.iter().any(|b| *b == b'.')
-}
-
 fn row_of(number: u32, octets: &[u8]) -> Row
     requires { length octets.now ≤ LINE_LIMIT }
     ensures { result ≡ row_of number octets.now }
@@ -64,13 +52,12 @@ fn row_of(number: u32, octets: &[u8]) -> Row
     Row {
         number,
         after: octets.len() as u32 + 1,
-        comma: has_comma(octets),
-        point: has_point(octets),
     }
 }
 
 #[tactic(auto, unfolding(crate::specs::Grammar::words_line))]
 fn words_line(alloc: Global, draft: &Draft, row: Row, words: &[Word]) -> Result<Line, ReadFault>
+    requires topology { IsTopology (length draft.now.scenario.nodes) draft.now.scenario.links }
     ensures { Gives result (words_line draft.now row (map placed_word words.now)) }
 {
     match words {
@@ -79,10 +66,7 @@ fn words_line(alloc: Global, draft: &Draft, row: Row, words: &[Word]) -> Result<
             if draft.begun() {
                 return event_line(alloc, draft, row, first, rest);
             }
-            match scenario_line(draft, row, first, rest) {
-                Ok(said) => Ok(said),
-                Err(fault) => Err(ReadFault::Text(fault)),
-            }
+            scenario_line(alloc, draft, row, first, rest)
         }
     }
 }
@@ -90,6 +74,7 @@ fn words_line(alloc: Global, draft: &Draft, row: Row, words: &[Word]) -> Result<
 /// What a line says, given what the lines before it declared.
 #[tactic(auto, unfolding(crate::specs::Grammar::line_of))]
 fn line_of(alloc: Global, draft: &Draft, number: u32, octets: &[u8]) -> Result<Line, ReadFault>
+    requires topology { IsTopology (length draft.now.scenario.nodes) draft.now.scenario.links }
     ensures { Gives result (line_of draft.now number octets.now) }
 {
     if is_blank(octets) {

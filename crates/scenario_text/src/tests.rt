@@ -289,6 +289,32 @@ fn a_line_has_up_to_4096_octets(rt: HostRuntime) -> Result<(), Fail> {
 }
 
 #[test]
+fn a_text_has_up_to_16777216_octets(rt: HostRuntime) -> Result<(), Fail> {
+    for (length, wanted) in [
+        (16_777_216, fault_at(2, 1, Reason::Events)),
+        (16_777_217, fault_at(1, 1, Reason::Long)),
+    ] {
+        let text = filled(rt.alloc(), b"#", length)?;
+        assert_eq!(rt; fault_of(rt.alloc(), text.as_slice()), Some(wanted));
+    }
+    Ok(())
+}
+
+#[test]
+fn a_script_has_up_to_200000_events(rt: HostRuntime) -> Result<(), Fail> {
+    let mut text = text_of(rt.alloc(), SCENARIO, b"")?;
+    put_each(&mut text, b"drain", 1, 200_000)?;
+    let Ok(script) = read(rt.alloc(), text.as_slice()) else {
+        return Err(Fail::new("refused"));
+    };
+    assert_eq!(rt; script.events.len(), 200_000);
+    text.extend(b"drain")?;
+    let refused = fault_of(rt.alloc(), text.as_slice());
+    assert_eq!(rt; refused, Some(fault_at(200_006, 1, Reason::Limit)));
+    Ok(())
+}
+
+#[test]
 fn faults_of_events_stand_at_their_places(rt: HostRuntime) -> Result<(), Fail> {
     for (line, column, reason) in [
         (b"heal".as_slice(), 1, Reason::Later),

@@ -1,0 +1,5 @@
+pub mod Keys
+pub mod LabelData
+pub mod Settling
+pub mod Steps
+pub mod Settled

@@ -1,0 +1,15 @@
+//! The label part of a node, as plain data: what its labels are used for, the branches and leaves of its trees, and the
+//! ends of its LDP sessions; and the steps that change it (RFC 6388 section 2, RFC 5036 section 3.5).
+#![tactic(auto)]
+
+mod branch;
+mod change;
+mod end;
+mod label_use;
+mod put;
+
+pub use branch::Branch;
+pub use change::Change;
+pub use end::End;
+pub use label_use::LabelUse;
+pub use put::Put;

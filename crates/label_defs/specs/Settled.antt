@@ -1,12 +1,12 @@
 -- What holds of each tree of a node after every label step.
-use Rattle.std.specs.Prelude.{◌≡◌, ℕ, ◌&&◌, true, not, is_some, Some, Option}
+use Rattle.std.specs.Prelude.{◌≡◌, ℕ, ◌&&◌, true, false, not, is_some, Some, Option, ⊤}
 use Rattle.std.specs.FinSet as sets
 use Rattle.mv_base.specs.declared.ids.NodeId.{NodeId}
 use Rattle.mldp_fec.specs.declared.fec.Fec.{Fec}
 use Rattle.label_defs.specs.declared.label_use.LabelUse.TheVariants as uses
-use Rattle.label_defs.specs.LabelData.{Place, LabelData, use_of, has_tree, is_ready}
+use Rattle.label_defs.specs.LabelData.{Place, LabelData, use_of, has_tree, is_up, is_ready}
 use Rattle.label_defs.specs.Settling.{is_ready_to}
-use Rattle.label_defs.specs.Steps.{Call}
+use Rattle.label_defs.specs.Steps.{Call, Raised}
 
 -- the label is mapped to the tree towards that neighbour
 abbrev pub Maps : LabelData → Fec → ℕ → NodeId → Type 0
@@ -25,3 +25,8 @@ pub record Settled (place : Place) (part : LabelData) (fec : Fec) : Type 0 where
 -- each tree of the node is settled
 abbrev pub AllSettled : Place → LabelData → Type 0
 AllSettled place part = (fec : Fec) → Settled place part fec
+
+-- An end comes up only where it was down.
+abbrev pub MayBe : LabelData → Call → Type 0
+MayBe part (Raised peer) = is_up part peer ≡ false
+MayBe part other = ⊤

@@ -6,10 +6,12 @@ mod branch;
 mod change;
 mod end;
 mod label_use;
+mod laws;
 mod put;
 
 pub use branch::Branch;
 pub use change::Change;
 pub use end::End;
 pub use label_use::LabelUse;
+pub use laws::{fresh_is_settled, settled_needs_nothing, steps_keep_settled};
 pub use put::Put;

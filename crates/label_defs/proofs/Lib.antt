@@ -1,0 +1,9 @@
+pub mod KeyLemmas
+pub mod UseLemmas
+pub mod SetLemmas
+pub mod TreeLemmas
+pub mod SettleLemmas
+pub mod EffectLemmas
+pub mod LossLemmas
+pub mod TimerLemmas
+pub mod StepLemmas

@@ -7,3 +7,8 @@ pub mod EffectLemmas
 pub mod LossLemmas
 pub mod TimerLemmas
 pub mod StepLemmas
+pub mod TurnLemmas
+pub mod OwnLemmas
+pub mod RestLemmas
+pub mod HoldLemmas
+pub mod MappingLemmas

@@ -3,3 +3,4 @@ pub mod LabelData
 pub mod Settling
 pub mod Steps
 pub mod Settled
+pub mod Laws

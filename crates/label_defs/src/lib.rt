@@ -13,5 +13,8 @@ pub use branch::Branch;
 pub use change::Change;
 pub use end::End;
 pub use label_use::LabelUse;
-pub use laws::{fresh_is_settled, settled_needs_nothing, steps_keep_settled};
+pub use laws::{
+    fresh_is_settled, holds_wait, labels_rest, losses_end_a_session, mappings_wait,
+    settled_needs_nothing, steps_keep_settled, withdraws_are_answered,
+};
 pub use put::Put;

@@ -12,3 +12,6 @@ pub mod OwnLemmas
 pub mod RestLemmas
 pub mod HoldLemmas
 pub mod MappingLemmas
+pub mod CountLemmas
+pub mod LackLemmas
+pub mod NoLabelLemmas

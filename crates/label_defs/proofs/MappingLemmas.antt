@@ -65,7 +65,7 @@ same_uses : (old next : LabelData) (labels : List LabelUse) → next.labels ≡ 
 same_uses old next labels e k = ap (λ (ls : List LabelUse). used ls k) e
 
 module _ (place : Place) (start old : LabelData) (fec : Fec) (next : LabelData) (puts more : List Put) where
-  quiet_traced : Turn place old fec next more → Quiet old next more → Traced place start old puts → Traced place start next (puts ++ more)
+  quiet_traced : Turn place old fec next more → Quiet place old fec next more → Traced place start old puts → Traced place start next (puts ++ more)
   quiet_traced t q x =
       let same : (k : ℕ) → use_of next k ≡ use_of old k = same_uses old next old.labels q.labels in
       let none : puts ++ more ≡ puts = ap (λ (ps : List Put). puts ++ ps) q.silent ∙ append-nil puts in

@@ -30,7 +30,7 @@ set_other (x ∷ xs) (suc k) zero t ne = refl
 set_other (x ∷ xs) (suc k) (suc l) t ne = set_other xs k l t (λ e. ne (ap suc e))
 
 -- where no element passes
-none_passes : {X : Type 0} (p : X → Bool) (xs : List X) → position p xs ≡ None → (k : ℕ) (x : X) → slice_get xs k ≡ Some x → p x ≡ false
+pub none_passes : {X : Type 0} (p : X → Bool) (xs : List X) → position p xs ≡ None → (k : ℕ) (x : X) → slice_get xs k ≡ Some x → p x ≡ false
 none_passes p xs e k x at =
     let past : length xs ≤ position_or_len p xs = grind (arith, common_steps) in
     let within = slice_get_within xs k x at in

@@ -1,6 +1,8 @@
 -- What the laws of the label steps speak of.
-use Rattle.std.specs.Prelude.{◌≡◌, ℕ, ◌<◌, ◌==◌, nat_le, Bool, true, false, List, [], ◌∷◌, Some, ◌⊎◌}
-use Rattle.std.specs.List.{list_any}
+use Rattle.std.specs.Prelude.{◌≡◌, ℕ, ◌<◌, ◌==◌, ◌&&◌, nat_le, Bool, true, false, not, List, [], ◌∷◌, Some, is_some, count_by, ◌⊎◌}
+use Rattle.std.specs.List.{list_any, filter}
+use Rattle.std.specs.FinSet as sets
+use Rattle.std.specs.FinSet.{FinSet}
 use Rattle.mv_base.specs.declared.ids.NodeId.{NodeId}
 use Rattle.mldp_fec.specs.declared.fec.Fec.{Fec}
 use Rattle.mldp_msgs.specs.declared.message.LabelMessage.{LabelMessage}
@@ -8,8 +10,10 @@ use Rattle.mldp_msgs.specs.declared.message.LabelMessage.TheVariants as messages
 use Rattle.label_defs.specs.declared.label_use.LabelUse.{LabelUse}
 use Rattle.label_defs.specs.declared.label_use.LabelUse.TheVariants as uses
 use Rattle.label_defs.specs.declared.put.Put.{Put}
-use Rattle.label_defs.specs.LabelData.{Place, LabelData, use_of, is_ready}
-use Rattle.label_defs.specs.Steps.{Call, Taken, Noticed, Timers}
+use Rattle.label_defs.specs.Keys.{fec_cmp}
+use Rattle.label_defs.specs.LabelData.{Place, LabelData, use_of, mapped_label, has_tree, is_ready}
+use Rattle.label_defs.specs.Settling.{is_ready_to}
+use Rattle.label_defs.specs.Steps.{Call, Taken, Noticed, Timers, effect}
 use Rattle.label_defs.specs.Settled.{Maps}
 
 -- ---- releases
@@ -65,3 +69,17 @@ pub record MappingIs (place : Place) (now : ℕ) (part : LabelData) (call : Call
   pub free : FreeIn now part call label
   pub least : (lower : ℕ) → lower < label → FreeIn now part call lower → list_any (λ (put : Put). takes lower put.message) before ≡ true
   pub holds : Maps new fec label to
+
+-- ---- labels that are lacking
+
+-- whether the tree needs a label: the node is on it, no label is mapped to it, and the session towards its root is ready
+abbrev pub needs_label : Place → LabelData → Fec → Bool
+needs_label place part fec = has_tree part fec && (not (is_some (mapped_label part fec)) && is_ready_to part (place.upstream fec))
+
+-- the trees among these that need one
+abbrev pub needing : Place → LabelData → List Fec → FinSet fec_cmp
+needing place part fecs = sets.from_list {R = fec_cmp} (filter (needs_label place part) fecs)
+
+-- more trees of the step need a label than are free in it
+abbrev pub LacksLabels : Place → ℕ → LabelData → Call → Type 0
+LacksLabels place now part call = let own = effect place now part call in count_by (is_free_in now call) part.labels < sets.len (needing place own.0.part own.1)

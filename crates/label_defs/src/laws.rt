@@ -1,5 +1,5 @@
 //! Laws of the label steps of a node.
-ghost use Rattle.std.specs.Prelude.{◌≡◌, ℕ, ◌+◌, ◌<◌, ◌≤◌, ◌==◌, ◌&&◌, ◌⊎◌, true, false, not, List, [], ◌∷◌, ◌++◌, Some};
+ghost use Rattle.std.specs.Prelude.{◌≡◌, ℕ, ◌+◌, ◌<◌, ◌≤◌, ◌==◌, ◌&&◌, ◌⊎◌, ◌↔◌, ◌≢◌, true, false, not, List, [], ◌∷◌, ◌++◌, None, Some};
 ghost use Rattle.std.specs.List.{filter};
 ghost use Rattle.std.specs.FinMap as maps;
 ghost use Rattle.std.specs.FinSet as sets;
@@ -13,9 +13,9 @@ ghost use Rattle.label_defs.specs.declared.label_use.LabelUse.TheVariants as use
 ghost use Rattle.label_defs.specs.declared.put.Put.{Put};
 ghost use Rattle.label_defs.specs.LabelData.{Place, LabelData, fresh, use_of, is_up};
 ghost use Rattle.label_defs.specs.Settling.{Stepped, settle_all};
-ghost use Rattle.label_defs.specs.Steps.{Call, Taken, Noticed, Timers, label_step};
+ghost use Rattle.label_defs.specs.Steps.{Call, Taken, Raised, Noticed, Timers, label_step};
 ghost use Rattle.label_defs.specs.Settled.{Settled, AllSettled, MayBe};
-ghost use Rattle.label_defs.specs.Laws.{releases, owed_releases, StopsLeaving, is_towards, MappingIs};
+ghost use Rattle.label_defs.specs.Laws.{releases, owed_releases, StopsLeaving, is_towards, MappingIs, LacksLabels};
 
 /// In a node in which nothing has happened each tree is settled.
 pub fn fresh_is_settled()
@@ -72,4 +72,24 @@ pub fn losses_end_a_session()
 pub fn mappings_wait()
     ensures { (place : Place) (now : ℕ) (part : LabelData) (call : Call) (new : Stepped) (before behind : List Put) (to : NodeId) (fec : Fec) (label : ℕ) → label_step place now part call ≡ Some new →
         new.puts ≡ before ++ record { to = to; message = messages.Mapping fec label } ∷ behind → MappingIs place now part call new.part before to fec label }
+{}
+
+/// A mapping of what is no tree changes nothing and puts nothing, and so does a release of a label that is not leaving towards
+/// that neighbour for that tree.
+pub fn messages_are_passed_over()
+    ensures mapping { (place : Place) (now : ℕ) (part : LabelData) (from : NodeId) (fec : Fec) (label : ℕ) → place.is_tree fec ≡ false → Settled place part fec →
+        label_step place now part (Taken from (messages.Mapping fec label)) ≡ Some (record { part = part; puts = [] }) }
+    ensures release { (place : Place) (now : ℕ) (part : LabelData) (from : NodeId) (fec : Fec) (label : ℕ) → use_of part label ≢ Some (uses.Leaving fec from) →
+        label_step place now part (Taken from (messages.Release fec label)) ≡ Some (record { part = part; puts = [] }) }
+{}
+
+/// There is no step exactly where more of its trees need a label than are free in it.
+pub fn no_label()
+    ensures { (place : Place) (now : ℕ) (part : LabelData) (call : Call) → (label_step place now part call ≡ None) ↔ LacksLabels place now part call }
+{}
+
+/// A noticed loss and a raise need no label.
+pub fn losses_need_no_label()
+    ensures noticed { (place : Place) (now : ℕ) (part : LabelData) (peer : NodeId) → AllSettled place part → label_step place now part (Noticed peer) ≢ None }
+    ensures raised { (place : Place) (now : ℕ) (part : LabelData) (peer : NodeId) → label_step place now part (Raised peer) ≢ None }
 {}

@@ -1,0 +1,114 @@
+-- How many labels are free, and how many trees need one.
+use Rattle.std.proofs.Common.{◌≡◌, ℕ, ◌+◌, ◌-◌, ◌<◌, ◌==◌, nat_le, zero, suc, Bool, true, false, not, cond, ◌&&◌, ◌||◌, List, [], ◌∷◌, map, filter, count_by, length, get_or, slice_get, slice_set, Option, Some, None, inl, inr, refl, sym, ap, subst, ◌∙◌, arith}
+use Rattle.std.specs.List.{list_any}
+use Rattle.std.specs.Ordering.{eq_by_cmp}
+use Rattle.std.specs.FinSet as sets
+use Rattle.std.specs.FinSet.{FinSet}
+use Rattle.std.proofs.lemmas.Bool.{cases_Bool, or_left, or_right, and_left, false_from_ne_true}
+use Rattle.std.proofs.lemmas.List.Sums.{sum_by-cons, sum_by-set}
+use Rattle.std.proofs.lemmas.Option.{slice_get_within, get_or_from_slice_get, none-some}
+use Rattle.mldp_fec.specs.declared.fec.Fec.{Fec}
+use Rattle.label_defs.specs.Keys.{fec_cmp}
+use Rattle.label_defs.specs.LabelData.{same_fec}
+use Rattle.label_defs.proofs.KeyLemmas.{fec_cmp_total, fec_cmp_exact, fec_cases, same_fec_equal, same_fec_itself, fec_apart}
+use Rattle.label_defs.proofs.TreeLemmas.{not_both}
+
+module _ {X : Type 0} (p : X → Bool) where
+  pub count-cons : (x : X) (xs : List X) → count_by p (x ∷ xs) ≡ cond (p x) 1 0 + count_by p xs
+  count-cons x xs = sum_by-cons (λ y. cond (p y) 1 0) x xs
+
+  pub count_none : (xs : List X) → ((k : ℕ) (x : X) → slice_get xs k ≡ Some x → p x ≡ false) → count_by p xs ≡ 0
+  count_none [] none = refl
+  count_none (x ∷ xs) none =
+      let rest = count_none xs (λ k y e. none (suc k) y e) in
+      count-cons x xs ∙ ap (λ b. cond b 1 0 + count_by p xs) (none 0 x refl) ∙ ap (λ n. 0 + n) rest
+
+  -- one element changes
+  pub count_set : (xs : List X) (k : ℕ) (old new : X) → slice_get xs k ≡ Some old → count_by p (slice_set xs k new) + cond (p old) 1 0 ≡ count_by p xs + cond (p new) 1 0
+  count_set xs k old new e =
+      ap (λ x. count_by p (slice_set xs k new) + cond (p x) 1 0) (sym (get_or_from_slice_get xs k old old e)) ∙ sum_by-set (λ y. cond (p y) 1 0) xs k new old (slice_get_within xs k old e)
+
+-- a test of changed elements
+pub count-map : {X : Type 0} (p q : X → Bool) (change : X → X) → ((x : X) → p (change x) ≡ q x) → (xs : List X) → count_by p (map change xs) ≡ count_by q xs
+count-map p q change same [] = refl
+count-map p q change same (x ∷ xs) =
+    count-cons p (change x) (map change xs) ∙ (λ i. cond (same x i) 1 0 + count-map p q change same xs i) ∙ sym (count-cons q x xs)
+
+pub count_as : {X : Type 0} (p q : X → Bool) → ((x : X) → p x ≡ q x) → (xs : List X) → count_by p xs ≡ count_by q xs
+count_as p q same [] = refl
+count_as p q same (x ∷ xs) = count-cons p x xs ∙ (λ i. cond (same x i) 1 0 + count_as p q same xs i) ∙ sym (count-cons q x xs)
+
+-- ---- trees that pass
+
+abbrev pub passing : (Fec → Bool) → List Fec → FinSet fec_cmp
+passing p fecs = sets.from_list {R = fec_cmp} (filter p fecs)
+
+any_filtered : (p : Fec → Bool) (q : Fec) (fecs : List Fec) → list_any (same_fec q) (filter p fecs) ≡ (p q && list_any (same_fec q) fecs)
+any_filtered p q [] = by (p q)
+  where
+    by : (t : Bool) → false ≡ (t && false)
+    by true = refl
+    by false = refl
+any_filtered p q (x ∷ xs) = by (p x) refl (any_filtered p q xs)
+  where
+    swap : (t a b : Bool) → a ≡ false → (t && b) ≡ (t && (a || b))
+    swap t true b e = absurd cc
+    swap t false b e = refl
+
+    by : (t : Bool) → p x ≡ t → list_any (same_fec q) (filter p xs) ≡ (p q && list_any (same_fec q) xs) → list_any (same_fec q) (cond t (x ∷ filter p xs) (filter p xs)) ≡ (p q && (same_fec q x || list_any (same_fec q) xs))
+    by true e rest = elim (fec_cases q x) [
+      | inl same ↦
+          let here : same_fec q x ≡ true = subst (λ y. same_fec q y ≡ true) same (same_fec_itself q) in
+          or_left (same_fec q x) (list_any (same_fec q) (filter p xs)) here ∙ sym (λ i. (ap p same ∙ e) i && (here i || list_any (same_fec q) xs))
+      | inr ne ↦ ap (λ b. b || list_any (same_fec q) (filter p xs)) (fec_apart q x ne) ∙ rest ∙ swap (p q) (same_fec q x) (list_any (same_fec q) xs) (fec_apart q x ne)
+    ]
+    by false e rest = elim (fec_cases q x) [
+      | inl same ↦ rest ∙ (λ i. (ap p same ∙ e) i && list_any (same_fec q) xs) ∙ sym (λ i. (ap p same ∙ e) i && (same_fec q x || list_any (same_fec q) xs))
+      | inr ne ↦ rest ∙ swap (p q) (same_fec q x) (list_any (same_fec q) xs) (fec_apart q x ne)
+    ]
+
+pub contains-passing : (p : Fec → Bool) (q : Fec) (fecs : List Fec) → sets.contains (passing p fecs) q ≡ (p q && list_any (same_fec q) fecs)
+contains-passing p q fecs = sets.contains-from_list fec_cmp_total (filter p fecs) q ∙ any_filtered p q fecs
+
+-- a test that one tree no longer passes
+pub one_less : (p q : Fec → Bool) (fec : Fec) (fecs : List Fec) → q fec ≡ false → ((other : Fec) → (other ≡ fec → ⊥) → q other ≡ p other) → passing q fecs ≡ sets.remove (passing p fecs) fec
+one_less p q fec fecs no_more same =
+    sets.same_set fec_cmp_total fec_cmp_exact (passing q fecs) (sets.remove (passing p fecs) fec) (λ x. contains-passing q x fecs ∙ by x ∙ sym (sets.contains-remove fec_cmp_total (passing p fecs) fec x ∙ ap (λ b. not (same_fec x fec) && b) (contains-passing p x fecs)))
+  where
+    by : (x : Fec) → (q x && list_any (same_fec x) fecs) ≡ (not (same_fec x fec) && (p x && list_any (same_fec x) fecs))
+    by x = elim (fec_cases x fec) [
+      | inl e ↦
+          let here : same_fec x fec ≡ true = subst (λ y. same_fec x y ≡ true) e (same_fec_itself x) in
+          (λ i. (ap q e ∙ no_more) i && list_any (same_fec x) fecs) ∙ sym (λ i. not (here i) && (p x && list_any (same_fec x) fecs))
+      | inr ne ↦ (λ i. same x ne i && list_any (same_fec x) fecs) ∙ sym (λ i. not (fec_apart x fec ne i) && (p x && list_any (same_fec x) fecs))
+    ]
+
+-- a set with a member is not empty
+pub has_member : (s : FinSet fec_cmp) (fec : Fec) → sets.contains s fec ≡ true → 0 < sets.len s
+has_member s fec e = by (sets.len s) refl
+  where
+    by : (n : ℕ) → sets.len s ≡ n → 0 < n
+    by zero h = absurd (not_both (sets.contains s fec) e (ap (λ t. sets.contains t fec) (sets.empty_of_len s h) ∙ sets.contains-empty fec_cmp fec))
+    by (suc n) h = omega arith
+
+-- how many pass, where the first no longer passes
+pub fewer : (p q : Fec → Bool) (fec : Fec) (more : List Fec) → q fec ≡ false → ((other : Fec) → (other ≡ fec → ⊥) → q other ≡ p other)
+    → sets.len (passing q more) + cond (p fec) 1 0 ≡ sets.len (passing p (fec ∷ more))
+fewer p q fec more no_more same =
+    by (p fec) (sets.contains (passing p more) fec) refl refl (ap sets.len (one_less p q fec more no_more same) ∙ sets.len-remove fec_cmp_total (passing p more) fec)
+  where
+    by : (t c : Bool) → p fec ≡ t → sets.contains (passing p more) fec ≡ c → sets.len (passing q more) ≡ cond (sets.contains (passing p more) fec) (sets.len (passing p more) - 1) (sets.len (passing p more))
+        → sets.len (passing q more) + cond t 1 0 ≡ sets.len (sets.from_list {R = fec_cmp} (cond t (fec ∷ filter p more) (filter p more)))
+    by true true e h left =
+        let less = left ∙ ap (λ b. cond b (sets.len (passing p more) - 1) (sets.len (passing p more))) h in
+        let whole = sets.len-insert fec_cmp_total (passing p more) fec ∙ ap (λ b. cond b (sets.len (passing p more)) (sets.len (passing p more) + 1)) h in
+        let some = has_member (passing p more) fec h in
+        omega (arith, less, some) ∙ sym whole
+    by true false e h left =
+        let less = left ∙ ap (λ b. cond b (sets.len (passing p more) - 1) (sets.len (passing p more))) h in
+        let whole = sets.len-insert fec_cmp_total (passing p more) fec ∙ ap (λ b. cond b (sets.len (passing p more)) (sets.len (passing p more) + 1)) h in
+        omega (arith, less) ∙ sym whole
+    by false true e h left = absurd (not_both (sets.contains (passing p more) fec) h (contains-passing p fec more ∙ and_left (p fec) (list_any (same_fec fec) more) e))
+    by false false e h left =
+        let less = left ∙ ap (λ b. cond b (sets.len (passing p more) - 1) (sets.len (passing p more))) h in
+        omega (arith, less)

@@ -1,0 +1,17 @@
+pub mod KeyLemmas
+pub mod UseLemmas
+pub mod SetLemmas
+pub mod TreeLemmas
+pub mod SettleLemmas
+pub mod EffectLemmas
+pub mod LossLemmas
+pub mod TimerLemmas
+pub mod StepLemmas
+pub mod TurnLemmas
+pub mod OwnLemmas
+pub mod RestLemmas
+pub mod HoldLemmas
+pub mod MappingLemmas
+pub mod CountLemmas
+pub mod LackLemmas
+pub mod NoLabelLemmas

@@ -1,0 +1,85 @@
+-- What the laws of the label steps speak of.
+use Rattle.std.specs.Prelude.{◌≡◌, ℕ, ◌<◌, ◌==◌, ◌&&◌, nat_le, Bool, true, false, not, List, [], ◌∷◌, Some, is_some, count_by, ◌⊎◌}
+use Rattle.std.specs.List.{list_any, filter}
+use Rattle.std.specs.FinSet as sets
+use Rattle.std.specs.FinSet.{FinSet}
+use Rattle.mv_base.specs.declared.ids.NodeId.{NodeId}
+use Rattle.mldp_fec.specs.declared.fec.Fec.{Fec}
+use Rattle.mldp_msgs.specs.declared.message.LabelMessage.{LabelMessage}
+use Rattle.mldp_msgs.specs.declared.message.LabelMessage.TheVariants as messages
+use Rattle.label_defs.specs.declared.label_use.LabelUse.{LabelUse}
+use Rattle.label_defs.specs.declared.label_use.LabelUse.TheVariants as uses
+use Rattle.label_defs.specs.declared.put.Put.{Put}
+use Rattle.label_defs.specs.Keys.{fec_cmp}
+use Rattle.label_defs.specs.LabelData.{Place, LabelData, use_of, mapped_label, has_tree, is_ready}
+use Rattle.label_defs.specs.Settling.{is_ready_to}
+use Rattle.label_defs.specs.Steps.{Call, Taken, Noticed, Timers, effect}
+use Rattle.label_defs.specs.Settled.{Maps}
+
+-- ---- releases
+
+-- whether the message is a release
+abbrev pub releases : LabelMessage → Bool
+releases (messages.Release fec label) = true
+releases other = false
+
+-- the releases that a step owes: the answer to a withdraw that it takes
+abbrev pub owed_releases : Call → List Put
+owed_releases (Taken from (messages.Withdraw fec label)) = record { to = from; message = messages.Release fec label } ∷ []
+owed_releases other = []
+
+-- ---- labels that leave
+
+-- the label stops leaving: its release comes from that neighbour, or the loss of that session is noticed
+abbrev pub StopsLeaving : Call → Fec → NodeId → ℕ → Type 0
+StopsLeaving call fec upstream label = (call ≡ Taken upstream (messages.Release fec label)) ⊎ (call ≡ Noticed upstream)
+
+-- whether the use is of a session with the neighbour
+abbrev pub is_towards : NodeId → LabelUse → Bool
+is_towards node (uses.Mapped fec upstream) = upstream.0 == node.0
+is_towards node (uses.Leaving fec upstream) = upstream.0 == node.0
+is_towards node other = false
+
+-- ---- labels that are taken
+
+-- whether a label that is used so is free in a step: it was free, or rested until a moment that the timers find past, or was of
+-- the session whose loss is noticed
+abbrev pub is_free_in : ℕ → Call → LabelUse → Bool
+is_free_in now call uses.Free = true
+is_free_in now Timers (uses.Resting until) = nat_le until now
+is_free_in now (Noticed peer) (uses.Mapped fec upstream) = upstream.0 == peer.0
+is_free_in now (Noticed peer) (uses.Leaving fec upstream) = upstream.0 == peer.0
+is_free_in now call other = false
+
+-- the label is free in the step
+abbrev pub FreeIn : ℕ → LabelData → Call → ℕ → Type 0
+FreeIn now part call label = (usage : LabelUse) × (use_of part label ≡ Some usage) × (is_free_in now call usage ≡ true)
+
+-- whether the message maps the label
+abbrev pub takes : ℕ → LabelMessage → Bool
+takes label (messages.Mapping fec own) = own == label
+takes label other = false
+
+-- A mapping that a step puts, behind others. It goes to the neighbour towards the root of the tree, and the session with it is
+-- ready. It takes a label that is free in the step, and each lower one that is so was taken by a mapping before. Behind the step
+-- the label is mapped so.
+pub record MappingIs (place : Place) (now : ℕ) (part : LabelData) (call : Call) (new : LabelData) (before : List Put) (to : NodeId) (fec : Fec) (label : ℕ) : Type 0 where
+  pub toward : place.upstream fec ≡ Some to
+  pub ready : is_ready new to ≡ true
+  pub free : FreeIn now part call label
+  pub least : (lower : ℕ) → lower < label → FreeIn now part call lower → list_any (λ (put : Put). takes lower put.message) before ≡ true
+  pub holds : Maps new fec label to
+
+-- ---- labels that are lacking
+
+-- whether the tree needs a label: the node is on it, no label is mapped to it, and the session towards its root is ready
+abbrev pub needs_label : Place → LabelData → Fec → Bool
+needs_label place part fec = has_tree part fec && (not (is_some (mapped_label part fec)) && is_ready_to part (place.upstream fec))
+
+-- the trees among these that need one
+abbrev pub needing : Place → LabelData → List Fec → FinSet fec_cmp
+needing place part fecs = sets.from_list {R = fec_cmp} (filter (needs_label place part) fecs)
+
+-- more trees of the step need a label than are free in it
+abbrev pub LacksLabels : Place → ℕ → LabelData → Call → Type 0
+LacksLabels place now part call = let own = effect place now part call in count_by (is_free_in now call) part.labels < sets.len (needing place own.0.part own.1)

@@ -1,0 +1,6 @@
+pub mod Keys
+pub mod LabelData
+pub mod Settling
+pub mod Steps
+pub mod Settled
+pub mod Laws

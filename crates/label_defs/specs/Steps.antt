@@ -1,0 +1,124 @@
+-- The label steps of a node.
+use Rattle.std.specs.Prelude.{ℕ, ◌+◌, ◌==◌, ◌||◌, ◌&&◌, Bool, false, not, nat_le, List, [], ◌∷◌, map, Option, None, Some, option_map, if◌then◌else◌}
+use Rattle.std.specs.FinMap as maps
+use Rattle.std.specs.FinMap.{FinMap}
+use Rattle.std.specs.FinSet as sets
+use Rattle.mv_base.specs.declared.ids.NodeId.{NodeId}
+use Rattle.mldp_fec.specs.declared.fec.Fec.{Fec}
+use Rattle.mldp_msgs.specs.declared.message.LabelMessage.{LabelMessage}
+use Rattle.mldp_msgs.specs.declared.message.LabelMessage.TheVariants as messages
+use Rattle.label_defs.specs.declared.branch.Branch.{Branch}
+use Rattle.label_defs.specs.declared.end.End.{End}
+use Rattle.label_defs.specs.declared.label_use.LabelUse.{LabelUse}
+use Rattle.label_defs.specs.declared.label_use.LabelUse.TheVariants as uses
+use Rattle.label_defs.specs.declared.put.Put.{Put}
+use Rattle.label_defs.specs.Keys.{node_cmp}
+use Rattle.label_defs.specs.LabelData.{Place, LabelData, same_fec, use_of, trees, is_hold_due}
+use Rattle.label_defs.specs.Settling.{with_use, Stepped, settle_all}
+
+-- ---- what a taken message itself changes
+
+-- the branch of a neighbour's label
+abbrev pub branch_to : NodeId → Fec → ℕ → Branch
+branch_to from fec label = record { fec = fec; node = from; label = label }
+
+-- a label that the neighbour releases rests, where it was leaving towards that neighbour for that tree
+abbrev pub released : NodeId → Fec → ℕ → LabelUse → LabelUse
+released from fec until (uses.Leaving own upstream) = if same_fec own fec && upstream.0 == from.0 then uses.Resting until else uses.Leaving own upstream
+released from fec until other = other
+
+-- the node behind a release
+abbrev pub with_release : LabelData → NodeId → Fec → ℕ → ℕ → LabelData
+with_release part from fec label until = elim (use_of part label) [ None ↦ part | Some usage ↦ with_use part label (released from fec until usage) ]
+
+-- A mapping of a tree adds a branch, a withdraw drops one, and from a release on the label rests for more than the life of
+-- a copy.
+abbrev pub taken : Place → ℕ → LabelData → NodeId → LabelMessage → LabelData
+taken place now part from (messages.Mapping fec label) = if place.is_tree fec then record part { branches = sets.insert part.branches (branch_to from fec label) } else part
+taken place now part from (messages.Withdraw fec label) = record part { branches = sets.remove part.branches (branch_to from fec label) }
+taken place now part from (messages.Release fec label) = with_release part from fec label (now + place.life + 1)
+taken place now part from (messages.Ignored kind) = part
+
+-- a withdraw is answered by a release, whatever it names (RFC 5036 section 3.5.10.1)
+abbrev pub answers : NodeId → LabelMessage → List Put
+answers from (messages.Withdraw fec label) = record { to = from; message = messages.Release fec label } ∷ []
+answers from other = []
+
+-- the trees whose branches a message may change
+abbrev pub trees_of : LabelMessage → List Fec
+trees_of (messages.Mapping fec label) = fec ∷ []
+trees_of (messages.Withdraw fec label) = fec ∷ []
+trees_of other = []
+
+-- ---- losses and timers
+
+-- a noticed loss frees the labels of that session at once
+abbrev pub freed : NodeId → LabelUse → LabelUse
+freed node (uses.Mapped fec upstream) = if upstream.0 == node.0 then uses.Free else uses.Mapped fec upstream
+freed node (uses.Leaving fec upstream) = if upstream.0 == node.0 then uses.Free else uses.Leaving fec upstream
+freed node other = other
+
+-- the node behind a noticed loss of the session with a neighbour
+abbrev pub without_session : LabelData → NodeId → LabelData
+without_session part node =
+    record part {
+      labels = map (freed node) part.labels;
+      branches = sets.retain part.branches (λ branch. not (branch.node.0 == node.0));
+      ends = maps.remove part.ends node;
+      ids = maps.remove part.ids node;
+    }
+
+-- a resting label is free from its moment on
+abbrev pub woken : ℕ → LabelUse → LabelUse
+woken now (uses.Resting until) = if nat_le until now then uses.Free else uses.Resting until
+woken now other = other
+
+-- a hold that is due is run
+abbrev pub hold_run : ℕ → ℕ → End → End
+hold_run life now end = record end { held = end.held || is_hold_due life now end }
+
+abbrev pub holds_run : ℕ → ℕ → FinMap node_cmp End → FinMap node_cmp End
+holds_run life now ends = maps.from_entries (map (λ entry. (entry.0, hold_run life now entry.1)) (maps.entries ends))
+
+-- the node behind its timers, before its trees settle: first the resting labels, then the holds
+abbrev pub timed : Place → ℕ → LabelData → LabelData
+timed place now part = record part { labels = map (woken now) part.labels; ends = holds_run place.life now part.ends }
+
+-- ---- steps
+
+-- What makes a label step: a message that is taken, a tree of which the node becomes or stops being a leaf, an end that
+-- comes up, a loss that is noticed, and the timers.
+pub data Call : Type 0 where
+  Taken : (from : NodeId) → (message : LabelMessage) → Call
+  Want : (fec : Fec) → Call
+  Unwant : (fec : Fec) → Call
+  Raised : (peer : NodeId) → Call
+  Noticed : (peer : NodeId) → Call
+  Timers : Call
+
+-- the node behind the call's own effect, what answers it, and the trees that settle then, in their order
+abbrev pub effect : Place → ℕ → LabelData → Call → Stepped × List Fec
+effect place now part (Taken from message) = (record { part = taken place now part from message; puts = answers from message }, trees_of message)
+effect place now part (Want fec) = (record { part = record part { leaves = sets.insert part.leaves fec }; puts = [] }, fec ∷ [])
+effect place now part (Unwant fec) = (record { part = record part { leaves = sets.remove part.leaves fec }; puts = [] }, fec ∷ [])
+effect place now part (Raised peer) = (record { part = record part { ends = maps.insert part.ends peer (record { raised = now; held = false }); ids = maps.insert part.ids peer 1 }; puts = [] }, [])
+effect place now part (Noticed peer) = (record { part = without_session part peer; puts = [] }, trees part)
+effect place now part Timers = (record { part = timed place now part; puts = [] }, sets.items part.waiting)
+
+-- the id behind that of a message: they grow by one, and 1 follows the highest
+abbrev pub next_id : ℕ → ℕ
+next_id id = if id == 4294967295 then 1 else id + 1
+
+-- the ids behind messages
+abbrev pub ids_after : FinMap node_cmp ℕ → List Put → FinMap node_cmp ℕ
+ids_after ids [] = ids
+ids_after ids (put ∷ more) = elim (maps.get ids put.to) [ None ↦ ids_after ids more | Some id ↦ ids_after (maps.insert ids put.to (next_id id)) more ]
+
+-- the node with the ids that come next
+abbrev pub counted : Stepped → Stepped
+counted new = record { part = record new.part { ids = ids_after new.part.ids new.puts }; puts = new.puts }
+
+-- A label step: the call's own effect, and then the trees that it may have changed settle. There is none where they need
+-- more labels than are free.
+abbrev pub label_step : Place → ℕ → LabelData → Call → Option Stepped
+label_step place now part call = let own = effect place now part call in option_map counted (settle_all place own.1 own.0)

@@ -1,0 +1,10 @@
+//! Ends of sessions.
+
+/// The end of an LDP session that is up.
+#[derive(Clone, Copy, Debug, PartialEq, Eq)]
+pub struct End {
+    /// The clock at which it came up.
+    pub raised: u64,
+    /// Whether its hold was run: no copy that was put before the raise is on the link any more.
+    pub held: bool,
+}

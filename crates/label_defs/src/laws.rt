@@ -1,0 +1,95 @@
+//! Laws of the label steps of a node.
+ghost use Rattle.std.specs.Prelude.{◌≡◌, ℕ, ◌+◌, ◌<◌, ◌≤◌, ◌==◌, ◌&&◌, ◌⊎◌, ◌↔◌, ◌≢◌, true, false, not, List, [], ◌∷◌, ◌++◌, None, Some};
+ghost use Rattle.std.specs.List.{filter};
+ghost use Rattle.std.specs.FinMap as maps;
+ghost use Rattle.std.specs.FinSet as sets;
+ghost use Rattle.mv_base.specs.declared.ids.NodeId.{NodeId};
+ghost use Rattle.mldp_fec.specs.declared.fec.Fec.{Fec};
+ghost use Rattle.mldp_msgs.specs.declared.message.LabelMessage.TheVariants as messages;
+ghost use Rattle.label_defs.specs.declared.branch.Branch.{Branch};
+ghost use Rattle.label_defs.specs.declared.end.End.{End};
+ghost use Rattle.label_defs.specs.declared.label_use.LabelUse.{LabelUse};
+ghost use Rattle.label_defs.specs.declared.label_use.LabelUse.TheVariants as uses;
+ghost use Rattle.label_defs.specs.declared.put.Put.{Put};
+ghost use Rattle.label_defs.specs.LabelData.{Place, LabelData, fresh, use_of, is_up};
+ghost use Rattle.label_defs.specs.Settling.{Stepped, settle_all};
+ghost use Rattle.label_defs.specs.Steps.{Call, Taken, Raised, Noticed, Timers, label_step};
+ghost use Rattle.label_defs.specs.Settled.{Settled, AllSettled, MayBe};
+ghost use Rattle.label_defs.specs.Laws.{releases, owed_releases, StopsLeaving, is_towards, MappingIs, LacksLabels};
+
+/// In a node in which nothing has happened each tree is settled.
+pub fn fresh_is_settled()
+    ensures { (place : Place) (count : ℕ) → AllSettled place (fresh count) }
+{}
+
+/// Each label step leaves each tree settled.
+pub fn steps_keep_settled()
+    ensures { (place : Place) (now : ℕ) (part : LabelData) (call : Call) (new : Stepped) → MayBe part call → AllSettled place part → label_step place now part call ≡ Some new → AllSettled place new.part }
+{}
+
+/// The settling of a settled tree changes nothing and puts nothing.
+pub fn settled_needs_nothing()
+    ensures { (place : Place) (old : Stepped) (fec : Fec) → Settled place old.part fec → settle_all place (fec ∷ []) old ≡ Some old }
+{}
+
+/// A step that takes a withdraw puts its release first, and no step puts any other release (RFC 5036 section 3.5.10.1).
+pub fn withdraws_are_answered()
+    ensures first { (place : Place) (now : ℕ) (part : LabelData) (from : NodeId) (fec : Fec) (label : ℕ) (new : Stepped) → label_step place now part (Taken from (messages.Withdraw fec label)) ≡ Some new →
+        (rest : List Put) × (new.puts ≡ record { to = from; message = messages.Release fec label } ∷ rest) }
+    ensures only { (place : Place) (now : ℕ) (part : LabelData) (call : Call) (new : Stepped) → label_step place now part call ≡ Some new →
+        filter (λ (put : Put). releases put.message) new.puts ≡ owed_releases call }
+{}
+
+/// A label that was withdrawn leaves until its neighbour releases it or the loss of that session is noticed. From its release
+/// on it rests for more than the life of a copy, whatever is done meanwhile.
+pub fn labels_rest()
+    ensures leaves { (place : Place) (now : ℕ) (part : LabelData) (call : Call) (new : Stepped) (label : ℕ) (fec : Fec) (to : NodeId) → use_of part label ≡ Some (uses.Leaving fec to) → label_step place now part call ≡ Some new →
+        (use_of new.part label ≡ Some (uses.Leaving fec to)) ⊎ StopsLeaving call fec to label }
+    ensures released { (place : Place) (now : ℕ) (part : LabelData) (from : NodeId) (fec : Fec) (label : ℕ) (new : Stepped) → use_of part label ≡ Some (uses.Leaving fec from) → label_step place now part (Taken from (messages.Release fec label)) ≡ Some new →
+        use_of new.part label ≡ Some (uses.Resting (now + place.life + 1)) }
+    ensures rests { (place : Place) (now : ℕ) (part : LabelData) (call : Call) (new : Stepped) (label until : ℕ) → now < until → use_of part label ≡ Some (uses.Resting until) → label_step place now part call ≡ Some new →
+        use_of new.part label ≡ Some (uses.Resting until) }
+{}
+
+/// The hold of an end is run by the timers alone, and exactly when more than the life of a copy has passed since it came up.
+pub fn holds_wait()
+    ensures not_before { (place : Place) (now : ℕ) (part : LabelData) (call : Call) (new : Stepped) (node : NodeId) (end : End) → label_step place now part call ≡ Some new → maps.get new.part.ends node ≡ Some end → end.held ≡ true →
+        (maps.get part.ends node ≡ Some end) ⊎ ((call ≡ Timers) × (end.raised + place.life + 1 ≤ now)) }
+    ensures due { (place : Place) (now : ℕ) (part : LabelData) (new : Stepped) (node : NodeId) (end : End) → label_step place now part Timers ≡ Some new → maps.get part.ends node ≡ Some end → end.raised + place.life + 1 ≤ now →
+        maps.get new.part.ends node ≡ Some (record { raised = end.raised; held = true }) }
+{}
+
+/// A noticed loss of a session frees its labels at once, drops its branches and no others, and its end is down.
+pub fn losses_end_a_session()
+    ensures labels { (place : Place) (now : ℕ) (part : LabelData) (peer : NodeId) (new : Stepped) (label : ℕ) (usage : LabelUse) → label_step place now part (Noticed peer) ≡ Some new → use_of new.part label ≡ Some usage →
+        is_towards peer usage ≡ false }
+    ensures branches { (place : Place) (now : ℕ) (part : LabelData) (peer : NodeId) (new : Stepped) (branch : Branch) → label_step place now part (Noticed peer) ≡ Some new →
+        sets.contains new.part.branches branch ≡ (sets.contains part.branches branch && not (branch.node.0 == peer.0)) }
+    ensures down { (place : Place) (now : ℕ) (part : LabelData) (peer : NodeId) (new : Stepped) → label_step place now part (Noticed peer) ≡ Some new → is_up new.part peer ≡ false }
+{}
+
+/// Each mapping that a step puts waited for the session towards the root, and takes the least label that is free then.
+pub fn mappings_wait()
+    ensures { (place : Place) (now : ℕ) (part : LabelData) (call : Call) (new : Stepped) (before behind : List Put) (to : NodeId) (fec : Fec) (label : ℕ) → label_step place now part call ≡ Some new →
+        new.puts ≡ before ++ record { to = to; message = messages.Mapping fec label } ∷ behind → MappingIs place now part call new.part before to fec label }
+{}
+
+/// A mapping of what is no tree changes nothing and puts nothing, and so does a release of a label that is not leaving towards
+/// that neighbour for that tree.
+pub fn messages_are_passed_over()
+    ensures mapping { (place : Place) (now : ℕ) (part : LabelData) (from : NodeId) (fec : Fec) (label : ℕ) → place.is_tree fec ≡ false → Settled place part fec →
+        label_step place now part (Taken from (messages.Mapping fec label)) ≡ Some (record { part = part; puts = [] }) }
+    ensures release { (place : Place) (now : ℕ) (part : LabelData) (from : NodeId) (fec : Fec) (label : ℕ) → use_of part label ≢ Some (uses.Leaving fec from) →
+        label_step place now part (Taken from (messages.Release fec label)) ≡ Some (record { part = part; puts = [] }) }
+{}
+
+/// There is no step exactly where more of its trees need a label than are free in it.
+pub fn no_label()
+    ensures { (place : Place) (now : ℕ) (part : LabelData) (call : Call) → (label_step place now part call ≡ None) ↔ LacksLabels place now part call }
+{}
+
+/// A noticed loss and a raise need no label.
+pub fn losses_need_no_label()
+    ensures noticed { (place : Place) (now : ℕ) (part : LabelData) (peer : NodeId) → AllSettled place part → label_step place now part (Noticed peer) ≢ None }
+    ensures raised { (place : Place) (now : ℕ) (part : LabelData) (peer : NodeId) → label_step place now part (Raised peer) ≢ None }
+{}

@@ -90,16 +90,6 @@ fn bare_line(row: Row, said: Line, words: &[Word]) -> Result<Line, TextFault>
     }
 }
 
-/// The same, or out of memory.
-fn told(answer: Result<Line, TextFault>) -> Result<Line, ReadFault>
-    ensures { Gives result answer }
-{
-    match answer {
-        Ok(said) => Ok(said),
-        Err(fault) => Err(ReadFault::Text(fault)),
-    }
-}
-
 #[tactic(auto, unfolding(crate::specs::EventGrammar::event_words))]
 fn event_words(
     alloc: Global,
@@ -111,26 +101,26 @@ fn event_words(
     ensures { Gives result (event_words draft.now row kind (map placed_word rest.now)) }
 {
     match kind {
-        EventWord::Tick => told(tick_line(row, rest)),
-        EventWord::Timers => told(timers_line(draft, row, rest)),
-        EventWord::Join => told(join_line(draft, row, rest)),
-        EventWord::Prune => told(prune_line(draft, row, rest)),
+        EventWord::Tick => Ok(tick_line(row, rest)?),
+        EventWord::Timers => Ok(timers_line(draft, row, rest)?),
+        EventWord::Join => Ok(join_line(draft, row, rest)?),
+        EventWord::Prune => Ok(prune_line(draft, row, rest)?),
         EventWord::Pim => pim_line(alloc, draft, row, rest),
         EventWord::Send => send_line(alloc, draft, row, rest),
-        EventWord::Drain => told(bare_line(
+        EventWord::Drain => Ok(bare_line(
             row,
             Line::Event {
                 event: Event::Drain,
             },
             rest,
-        )),
-        EventWord::State => told(bare_line(
+        )?),
+        EventWord::State => Ok(bare_line(
             row,
             Line::Event {
                 event: Event::State,
             },
             rest,
-        )),
+        )?),
     }
 }
 

@@ -103,7 +103,7 @@ fn scenarios_are_replayed(rt: HostRuntime) -> Result<(), Fail> {
 
 #[test]
 fn faults_of_edges_and_their_vrfs_are_told(rt: HostRuntime) -> Result<(), Fail> {
-    let rows: [(&str, &str); 12] = [
+    let rows: [(&str, &str); 11] = [
         ("", "fault 1:1 events\n"),
         ("edge E1 224.0.2.1\n", "fault 1:9 address\n"),
         ("edge 1E 192.0.2.1\n", "fault 1:6 name\n"),
@@ -121,10 +121,6 @@ fn faults_of_edges_and_their_vrfs_are_told(rt: HostRuntime) -> Result<(), Fail> 
         (
             "edge E1 192.0.2.1\ncore C 192.0.2.9\nevents\n",
             "fault 3:1 apart\n",
-        ),
-        (
-            "edge E1 192.0.2.1\nvrf V1 E1 1 65000:1 65000 highest\n",
-            "fault 2:21 targets\n",
         ),
         (
             "edge E1 192.0.2.1\nedge E1 192.0.2.2\n",

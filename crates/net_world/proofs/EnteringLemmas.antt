@@ -14,17 +14,17 @@ use Rattle.net_world.specs.Entering.{outs, is_outside}
 use Rattle.net_world.specs.WorldState.{AppendsFront}
 
 -- The lines of the first interfaces, and of those behind them, are those of all.
-outs-split : (ifaces : List Iface) (site : SiteId) (number : ℕ) (octets : List ℕ) (joined : List IfaceId) (vrf : VrfId) (i : ℕ) → outs ifaces site number octets joined vrf ≡ outs ifaces site number octets (take i joined) vrf ++ outs ifaces site number octets (drop i joined) vrf
-outs-split ifaces site number octets joined vrf i =
+outs-split : (ifaces : List Iface) (site : SiteId) (number : ℕ) (octets : List ℕ) (asking : List IfaceId) (vrf : VrfId) (i : ℕ) → outs ifaces site number octets asking vrf ≡ outs ifaces site number octets (take i asking) vrf ++ outs ifaces site number octets (drop i asking) vrf
+outs-split ifaces site number octets asking vrf i =
     let out = λ (iface : IfaceId). lines.Out number iface octets in
-    ap (λ (some : List IfaceId). outs ifaces site number octets some vrf) (sym (take-append-drop i joined)) ∙ (ap (map out) (filter-append (is_outside ifaces vrf site) (take i joined) (drop i joined)) ∙ map-append out _ _)
+    ap (λ (some : List IfaceId). outs ifaces site number octets some vrf) (sym (take-append-drop i asking)) ∙ (ap (map out) (filter-append (is_outside ifaces vrf site) (take i asking) (drop i asking)) ∙ map-append out _ _)
 
 -- The lines of the first interfaces stand.
-pub outs_front : (ifaces : List Iface) (site : SiteId) (number : ℕ) (octets : List ℕ) (joined : List IfaceId) (vrf : VrfId) (i : ℕ) (old middle new : List ReportLine) → middle ≡ old ++ outs ifaces site number octets (take i joined) vrf → new ≡ middle → AppendsFront old new (outs ifaces site number octets joined vrf)
-outs_front ifaces site number octets joined vrf i old middle new h e = record {
-  front = outs ifaces site number octets (take i joined) vrf;
-  rest = outs ifaces site number octets (drop i joined) vrf;
-  whole = outs-split ifaces site number octets joined vrf i;
+pub outs_front : (ifaces : List Iface) (site : SiteId) (number : ℕ) (octets : List ℕ) (asking : List IfaceId) (vrf : VrfId) (i : ℕ) (old middle new : List ReportLine) → middle ≡ old ++ outs ifaces site number octets (take i asking) vrf → new ≡ middle → AppendsFront old new (outs ifaces site number octets asking vrf)
+outs_front ifaces site number octets asking vrf i old middle new h e = record {
+  front = outs ifaces site number octets (take i asking) vrf;
+  rest = outs ifaces site number octets (drop i asking) vrf;
+  whole = outs-split ifaces site number octets asking vrf i;
   appended = e ∙ h;
 }
 

@@ -26,8 +26,8 @@ is_outside ifaces vrf site number = elim (slice_get ifaces number.0) [ None ↦ 
 
 -- a line for each of the interfaces that are of the VRF and belong to another site
 abbrev pub outs : List Iface → SiteId → ℕ → List ℕ → List IfaceId → VrfId → List ReportLine
-outs ifaces site number octets joined vrf = map (λ iface. lines.Out number iface octets) (filter (is_outside ifaces vrf site) joined)
+outs ifaces site number octets asking vrf = map (λ iface. lines.Out number iface octets) (filter (is_outside ifaces vrf site) asking)
 
 -- the same for each of the VRFs
 abbrev pub outs_of_each : List Iface → SiteId → ℕ → List ℕ → List IfaceId → List VrfId → List ReportLine
-outs_of_each ifaces site number octets joined vrfs = flat_map (outs ifaces site number octets joined) vrfs
+outs_of_each ifaces site number octets asking vrfs = flat_map (outs ifaces site number octets asking) vrfs

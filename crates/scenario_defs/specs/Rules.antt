@@ -1,14 +1,17 @@
 -- What every scenario and script that is read meets.
-use Rattle.std.specs.Prelude.{◌≡◌, ◌≢◌, ◌⊎◌, ℕ, ◌<◌, ◌≤◌, true, false, List, [], ◌∷◌, length, slice_get, slice_index, Some, All, AllPairs, count_by}
+use Rattle.std.specs.Prelude.{◌≡◌, ◌≢◌, ◌⊎◌, ℕ, ◌<◌, ◌≤◌, true, false, List, [], ◌∷◌, length, take, slice_get, slice_index, Some, All, AllPairs, count_by}
 use Rattle.std.specs.List.{AllByRecursion}
 use Rattle.mv_base.specs.declared.ids.NodeId.{NodeId}
 use Rattle.mv_base.specs.declared.addr.Addr.{Addr}
 use Rattle.mv_base.specs.declared.addr.Addr.TheVariants.{V4, V6}
 use Rattle.mv_base.specs.declared.prefix.Prefix.{Prefix}
+use Rattle.mv_base.specs.declared.rd.Rd.{Rd}
 use Rattle.mv_base.specs.declared.rd.Rule.TheVariants.{Highest, Nearest}
 use Rattle.mv_base.specs.Address.{same_addr}
 use Rattle.mv_base.specs.Prefix.{IsPrefixOf}
 use Rattle.core_walks.specs.Topology.{IsTopology, IsConnected}
+use Rattle.route_targets.specs.declared.communities.Target.{Target}
+use Rattle.route_targets.specs.Communities.{kind}
 use Rattle.route_targets.specs.Targets.{same_target, same, shares}
 use Rattle.scenario_defs.specs.declared.scenario.Node.{Node}
 use Rattle.scenario_defs.specs.declared.scenario.Vrf.{Vrf}
@@ -66,12 +69,22 @@ pub record IsEdge (scenario : Scenario) (number : NodeId) : Type 0 where
   pub at : slice_get scenario.nodes number.0 ≡ Some node
   pub edge : node.edge ≡ true
 
--- A VRF is of an edge, has a number of 1 to 4095, and 1 to 8 targets, no two of them the same.
+-- a route distinguisher of type 0 or 1 (RFC 4364 section 4.2)
+abbrev pub IsRd : Rd → Type 0
+IsRd rd = (length rd.0 ≡ 8) × ((take 2 rd.0 ≡ 0 ∷ 0 ∷ []) ⊎ (take 2 rd.0 ≡ 0 ∷ 1 ∷ []))
+
+-- a Route Target of a two-octet AS or of an IPv4 address (RFC 4360 section 4)
+abbrev pub IsTarget : Target → Type 0
+IsTarget target = (length target.0.0 ≡ 8) × ((kind target.0 ≡ 0 ∷ 2 ∷ []) ⊎ (kind target.0 ≡ 1 ∷ 2 ∷ []))
+
+-- A VRF is of an edge, has a number of 1 to 4095, a route distinguisher, and 1 to 8 targets, no two of them the same.
 pub record IsVrf (scenario : Scenario) (vrf : Vrf) : Type 0 where
   pub edge : IsEdge scenario vrf.edge
   pub number : (1 ≤ vrf.number) × (vrf.number ≤ 4095)
+  pub rd : IsRd vrf.rd
   pub some : 0 < length vrf.targets
   pub few : length vrf.targets ≤ 8
+  pub each : All IsTarget vrf.targets
   pub distinct : AllPairs (λ target other. same_target target other ≡ false) vrf.targets
   pub rule : (vrf.rule ≡ Highest) ⊎ (vrf.rule ≡ Nearest)
 
@@ -174,4 +187,5 @@ pub record ScriptRules (script : Script) : Type 0 where
   pub scenario : Rules script.scenario
   pub events : AllByRecursion (λ timed. IsEventOf script.scenario timed.event) script.events
   pub lines : Rises 0 script.events
+  pub last : AllByRecursion (λ timed. timed.line < script.end) script.events
   pub few : length script.events ≤ 200000

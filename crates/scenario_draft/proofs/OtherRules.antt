@@ -25,7 +25,7 @@ core_else s t r = record { topology = r.topology; few_edges = r.few_edges; unica
 pub vrf_still : (s t : Scenario) → ((k : ℕ) (node : Node) → slice_get s.nodes k ≡ Some node → slice_get t.nodes k ≡ Some node) → (vrf : Vrf) → IsVrf s vrf → IsVrf t vrf
 vrf_still s t still vrf r =
     let edge : IsEdge t vrf.edge = record { node = r.edge.node; at = still vrf.edge.0 r.edge.node r.edge.at; edge = r.edge.edge } in
-    record { edge = edge; number = r.number; some = r.some; few = r.few; distinct = r.distinct; rule = r.rule }
+    record { edge = edge; number = r.number; rd = r.rd; some = r.some; few = r.few; each = r.each; distinct = r.distinct; rule = r.rule }
 
 pub vrfs_still : (s t : Scenario) → ((k : ℕ) (node : Node) → slice_get s.nodes k ≡ Some node → slice_get t.nodes k ≡ Some node) → VrfRules s → VrfRules (record t { vrfs = s.vrfs })
 vrfs_still s t still r = record { few = r.few; each = All-weaker _ _ (λ vrf h. vrf_still s (record t { vrfs = s.vrfs }) still vrf h) s.vrfs r.each; apart = r.apart }

@@ -1,8 +1,9 @@
 -- What a word that is without fault keeps to.
-use Rattle.std.proofs.Common.{◌≡◌, ℕ, ◌-◌, ◌%◌, ◌^◌, ◌<◌, ◌≤◌, ◌==◌, Bool, true, false, not, ◌&&◌, ◌||◌, List, [], length, refl, sym, ap, subst, cond, arith, nat_eq, nat_le, slice_index, slice_get, Option, Some, None, inl, inr}
+use Rattle.std.proofs.Common.{◌≡◌, ℕ, ◌-◌, ◌%◌, ◌^◌, ◌<◌, ◌≤◌, ◌==◌, Bool, true, false, not, ◌&&◌, ◌||◌, List, [], ◌∷◌, ◌++◌, length, take, length-append, refl, sym, ap, subst, cond, arith, nat_eq, nat_le, slice_index, slice_get, Option, Some, None, inl, inr}
 use Rattle.std.specs.Prelude.{◌≢◌, ◌⊎◌, Result, Ok, Err, option_map, All, AllPairs}
-use Rattle.std.specs.List.{list_any}
-use Rattle.std.specs.Int.{w32, from_be_bytes}
+use Rattle.std.specs.Option.{option_or}
+use Rattle.std.specs.List.{list_any, slice_split}
+use Rattle.std.specs.Int.{w16, w32, to_be_bytes, from_be_bytes}
 use Rattle.std.specs.Map.{lookup}
 use Rattle.std.specs.Cmp.Lexicographic.{pointwise, other_text}
 use Rattle.std.proofs.lemmas.Bool.Decides.{nat_tests}
@@ -23,13 +24,13 @@ use Rattle.core_walks.specs.Topology.{JoinsSamePair}
 use Rattle.route_targets.specs.Targets.{same_target}
 use Rattle.scenario_defs.specs.declared.scenario.Vrf.{Vrf}
 use Rattle.scenario_defs.specs.Prefixes.{same_prefix}
-use Rattle.scenario_defs.specs.Rules.{IsIpv4, IsUnicast, IsGroup, IsEdge, IsSitePrefix}
+use Rattle.scenario_defs.specs.Rules.{IsIpv4, IsUnicast, IsGroup, IsEdge, IsRd, IsTarget, IsSitePrefix}
 use Rattle.line_words.specs.declared.fault.TextFault.{TextFault}
 use Rattle.line_words.specs.declared.fault.Reason.{Reason}
 use Rattle.line_words.specs.declared.fault.Reason.TheVariants as reasons
 use Rattle.line_words.specs.declared.words.Row.{Row}
 use Rattle.line_words.specs.Words.{Placed}
-use Rattle.line_words.specs.Forms.{◌>>=◌, or_fault, addr_of, addr_at, source_at, group_at, payload_at, is_unicast, is_group, vrf_number_of, rd_of, target_of, targets_at, rule_at, is_prefix, prefix_of, prefixes_at}
+use Rattle.line_words.specs.Forms.{◌>>=◌, or_fault, addr_of, addr_at, source_at, group_at, payload_at, is_unicast, is_group, vrf_number_of, numbered_of, addressed_of, rd_of, target_of, targets_at, rule_at, is_prefix, prefix_of, prefixes_at}
 use Rattle.line_words.proofs.ListFacts.{none_any, distinct_pairs, each_holds, list_is}
 use Rattle.scenario_defs.specs.declared.scenario.Thing.{Thing}
 use Rattle.scenario_defs.specs.Names.{is_name}
@@ -231,6 +232,49 @@ second_false x y b h e = grind (arith, nat_tests)
 other_rd : (edge : NodeId) (rd : Rd) (vrf : Vrf) → has_rd edge rd vrf ≡ false → vrf.edge.0 ≡ edge.0 → vrf.rd ≢ rd
 other_rd edge rd vrf h e d = other_text vrf.rd.0 rd.0 (sym (second_false vrf.edge.0 edge.0 _ h e)) (ap (λ (r : Rd). r.0) d)
 
+or_finds : {A : Type 0} (P : A → Type 0) (o p : Option A) → Finds P o → Finds P p → Finds P (option_or o p)
+or_finds P (Some x) p h k = h
+or_finds P None p h k = k
+
+-- Octets of a kind are eight, of which the first two are those of the kind.
+numbered_finds : (first second : ℕ) (text : List ℕ) → Finds (λ octets. (length octets ≡ 8) × (take 2 octets ≡ first ∷ second ∷ [])) (numbered_of first second text)
+unfolding numbered_of
+numbered_finds first second text =
+    bind_finds _ (cut_of 58 text) _ (λ cut _. bind_finds _ (number_of cut.0) _ (λ n _. bind_finds _ (number_of cut.1) _ (λ m _. only_finds _ _ _ (λ _. (refl, refl)))))
+
+with_address : (first second : ℕ) (octets : List ℕ) (m : ℕ) → length octets ≡ 4 → length (first ∷ second ∷ (octets ++ to_be_bytes w16 m)) ≡ 8
+with_address first second octets m h = omega (arith, h, length-append octets (to_be_bytes w16 m))
+
+addressed_finds : (first second : ℕ) (text : List ℕ) → Finds (λ octets. (length octets ≡ 8) × (take 2 octets ≡ first ∷ second ∷ [])) (addressed_of first second text)
+unfolding addressed_of
+addressed_finds first second text =
+    bind_finds _ (cut_of 58 text) _ (λ cut _. bind_finds _ (dotted_of cut.0) _ (λ addr a. bind_finds _ (number_of cut.1) _ (λ m _. only_finds _ _ _ (λ _. (with_address first second addr m ((dotted_finds cut.0).holds addr a), refl)))))
+
+finds_weaker : {A : Type 0} (P Q : A → Type 0) (o : Option A) → ((x : A) → P x → Q x) → Finds P o → Finds Q o
+finds_weaker P Q o weaker h = record { holds = λ x e. weaker x (h.holds x e) }
+
+rd_finds : (text : List ℕ) → Finds IsRd (rd_of text)
+unfolding rd_of
+rd_finds text =
+    map_finds IsRd (λ octets. record { 0 = octets }) (option_or (numbered_of 0 0 text) (addressed_of 0 1 text))
+    (or_finds _ (numbered_of 0 0 text) (addressed_of 0 1 text)
+    (finds_weaker _ _ (numbered_of 0 0 text) (λ octets h. (h.0, inl h.1)) (numbered_finds 0 0 text))
+    (finds_weaker _ _ (addressed_of 0 1 text) (λ octets h. (h.0, inr h.1)) (addressed_finds 0 1 text)))
+
+target_finds : (text : List ℕ) → Finds IsTarget (target_of text)
+unfolding target_of
+target_finds text =
+    map_finds IsTarget (λ octets. record { 0 = record { 0 = octets } }) (option_or (numbered_of 0 2 text) (addressed_of 1 2 text))
+    (or_finds _ (numbered_of 0 2 text) (addressed_of 1 2 text)
+    (finds_weaker _ _ (numbered_of 0 2 text) (λ octets h. (h.0, inl h.1)) (numbered_finds 0 2 text))
+    (finds_weaker _ _ (addressed_of 1 2 text) (λ octets h. (h.0, inr h.1)) (addressed_finds 1 2 text)))
+
+pub rd_formed : (draft : Drafted) (row : Row) (edge : NodeId) (word : Placed) → Meets IsRd (rd_at draft row edge word)
+unfolding rd_at
+rd_formed draft row edge word =
+    bind_meets _ (or_fault (rd_of word.text) row word reasons.Rd) _ (λ rd r. if_meets _ (list_any (has_rd edge rd) draft.scenario.vrfs) _ _ (λ _.
+    ok_meets _ rd ((or_fault_meets IsRd (rd_of word.text) row word reasons.Rd (rd_finds word.text)).holds rd r)))
+
 pub rd_meets : (draft : Drafted) (row : Row) (edge : NodeId) (word : Placed) → Meets (λ rd. All (λ other. other.edge.0 ≡ edge.0 → other.rd ≢ rd) draft.scenario.vrfs) (rd_at draft row edge word)
 unfolding rd_at
 rd_meets draft row edge word =
@@ -257,6 +301,12 @@ other_end_meets draft row a word =
 pub targets_meets : (row : Row) (word : Placed) → Meets (λ targets. (0 < length targets) × (length targets ≤ 8) × AllPairs (λ target other. same_target target other ≡ false) targets) (targets_at row word)
 unfolding targets_at
 targets_meets row word = or_fault_meets _ _ row word _ (record { holds = λ targets h. let list = list_is same_target target_of word.text targets h in (list.some, list.few, distinct_pairs same_target targets list.distinct) })
+
+pub targets_formed : (row : Row) (word : Placed) → Meets (All IsTarget) (targets_at row word)
+unfolding targets_at
+targets_formed row word = or_fault_meets _ _ row word _ (record { holds = λ targets h.
+    let list = list_is same_target target_of word.text targets h in
+    each_holds IsTarget target_of (λ text target e. (target_finds text).holds target e) (slice_split (λ b. b == 44) word.text) targets list.each })
 
 no_rest : (bits rest : ℕ) → (nat_le bits 32 && rest == 0) ≡ true → (bits ≤ 32) × (rest ≡ 0)
 no_rest bits rest h = grind (arith, nat_tests)

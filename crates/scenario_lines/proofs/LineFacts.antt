@@ -20,7 +20,7 @@ use Rattle.scenario_defs.specs.declared.scenario.Iface.{Iface}
 use Rattle.scenario_defs.specs.declared.scenario.Scenario.{Scenario}
 use Rattle.scenario_defs.specs.Prefixes.{prefixes_of, share_prefix}
 use Rattle.scenario_defs.specs.Vpn.{same_vpn}
-use Rattle.scenario_defs.specs.Rules.{IsEdge, IsVrf, AreApart, IsIface, AreOfVpns}
+use Rattle.scenario_defs.specs.Rules.{IsEdge, IsRd, IsTarget, IsVrf, AreApart, IsIface, AreOfVpns}
 use Rattle.line_words.specs.declared.fault.Reason.TheVariants as reasons
 use Rattle.line_words.specs.declared.words.Row.{Row}
 use Rattle.line_words.specs.Words.{Placed}
@@ -31,7 +31,7 @@ use Rattle.scenario_draft.specs.Drafted.{Drafted}
 use Rattle.scenario_draft.specs.Settings.{highest, is_given}
 use Rattle.scenario_draft.specs.Naming.{new_name, node_addr_at, node_at, other_end_at, vrf_number_at, rd_at, edge_at, vrf_at, site_at}
 use Rattle.scenario_draft.specs.Declaring.{IsNewName, MayBeNode, MayBeLink, MayBeVrf, MayBeSite, MayBeIface, IsDeclared}
-use Rattle.scenario_draft.proofs.WordFacts.{Meets, Finds, ok_meets, err_meets, bind_meets, if_meets, then_meets, bind_finds, only_finds, or_fault_meets, within, node_meets, vrf_meets, site_meets, addr_meets, name_meets, edge_meets, node_addr_meets, vrf_number_meets, rd_meets, other_end_meets, targets_meets, prefixes_meets, rule_meets, below}
+use Rattle.scenario_draft.proofs.WordFacts.{Meets, Finds, ok_meets, err_meets, bind_meets, if_meets, then_meets, bind_finds, only_finds, or_fault_meets, within, node_meets, vrf_meets, site_meets, addr_meets, name_meets, edge_meets, node_addr_meets, vrf_number_meets, rd_meets, rd_formed, targets_formed, other_end_meets, targets_meets, prefixes_meets, rule_meets, below}
 use Rattle.scenario_lines.specs.declared.vrf_lines.VrfHead.{VrfHead}
 use Rattle.scenario_lines.specs.declared.vrf_lines.VrfTail.{VrfTail}
 use Rattle.scenario_lines.specs.declared.scenario_lines.ScenarioWord.{ScenarioWord}
@@ -154,6 +154,8 @@ record HeadFacts (draft : Drafted) (head : VrfHead) : Type 0 where
 
 -- What the last words of a VRF of that edge keep to.
 record TailFacts (draft : Drafted) (edge : NodeId) (tail : VrfTail) : Type 0 where
+  rd : IsRd tail.rd
+  each : All IsTarget tail.targets
   rds : All (λ other. other.edge.0 ≡ edge.0 → other.rd ≢ tail.rd) draft.scenario.vrfs
   some : 0 < length tail.targets
   few : length tail.targets ≤ 8
@@ -172,7 +174,7 @@ unfolding vrf_tail
 vrf_tail_meets draft row edge d e f =
     bind_meets _ (rd_at draft row edge d) _ (λ rd r. bind_meets _ (targets_at row e) _ (λ targets t. bind_meets _ (rule_at row f) _ (λ rule u.
     let own = (targets_meets row e).holds targets t in
-    let facts : TailFacts draft edge (record { rd = rd; targets = targets; rule = rule }) = record { rds = (rd_meets draft row edge d).holds rd r; some = own.0; few = own.1; distinct = own.2; rule = (rule_meets row f).holds rule u } in ok_meets _ _ facts)))
+    let facts : TailFacts draft edge (record { rd = rd; targets = targets; rule = rule }) = record { rd = (rd_formed draft row edge d).holds rd r; each = (targets_formed row e).holds targets t; rds = (rd_meets draft row edge d).holds rd r; some = own.0; few = own.1; distinct = own.2; rule = (rule_meets row f).holds rule u } in ok_meets _ _ facts)))
 
 -- the sets share no member, unless they are equal
 equal_or_apart : (common equal : Bool) → (common && not equal) ≡ false → (equal ≡ true) ⊎ (common ≡ false)
@@ -193,7 +195,7 @@ unfolding vrf_rules
 vrf_rules_meets draft row id e head tail next few h t =
     if_meets _ (list_any (overlaps tail.targets) draft.scenario.vrfs) _ _ (λ sets. if_meets _ (list_any (is_vpn_at head.edge tail.targets) draft.scenario.vrfs) _ _ (λ vpns.
     let vrf : Vrf = record { name = head.name; edge = head.edge; number = head.number; rd = tail.rd; targets = tail.targets; rule = tail.rule } in
-    let own : IsVrf draft.scenario vrf = record { edge = h.edge; number = h.number; some = t.some; few = t.few; distinct = t.distinct; rule = t.rule } in
+    let own : IsVrf draft.scenario vrf = record { edge = h.edge; number = h.number; rd = t.rd; some = t.some; few = t.few; each = t.each; distinct = t.distinct; rule = t.rule } in
     let no_overlap = none_any (overlaps tail.targets) draft.scenario.vrfs sets in
     let no_vpn = none_any (is_vpn_at head.edge tail.targets) draft.scenario.vrfs vpns in
     let apart : All (λ other. AreApart other vrf) draft.scenario.vrfs = λ k d l. apart_from (slice_index_or draft.scenario.vrfs k d) vrf (no_overlap k d l) (no_vpn k d l) (h.numbers k d l) (t.rds k d l) in

@@ -127,4 +127,4 @@ line_holds draft number octets said h e = said_holds draft number said h ((line_
 
 -- The script meets the rules once the scenario has ended.
 pub script_rules : (draft : Drafted) (number : ℕ) → Holds draft number → draft.begun ≡ true → ScriptRules (script_at draft number)
-script_rules draft number h b = record { scenario = rules_of_kept draft h.kept (h.connected b); events = h.events; lines = h.lines; few = h.few }
+script_rules draft number h b = record { scenario = rules_of_kept draft h.kept (h.connected b); events = h.events; lines = h.lines; last = h.before; few = h.few }

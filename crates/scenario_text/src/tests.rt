@@ -1,7 +1,7 @@
 //! Texts with their faults, texts at their limits, and a text that is read and written of.
 use crate::{ReadFault, Reason, TextFault, read};
 use line_words::fault_at;
-use mv_base::{Addr, Bytes, IfaceId, NoMemory, NodeId};
+use mv_base::{Addr, Bytes, IfaceId, NoMemory, NodeId, Rd};
 use report_text::{put_number, write_line};
 use scenario_defs::{Event, JoinEntry, Refusal, ReportLine};
 use std::alloc::Global;
@@ -117,11 +117,23 @@ fn faults_of_nodes_and_links_stand_at_their_places(rt: HostRuntime) -> Result<()
 #[test]
 fn faults_of_vrfs_stand_at_their_places(rt: HostRuntime) -> Result<(), Fail> {
     for (line, column, reason) in [
+        (b"vrf E2 E1 1 1:1 x x".as_slice(), 5, Reason::Again),
         (b"vrf V2 E1 1 1:1 x x".as_slice(), 11, Reason::Again),
         (b"vrf V2 E1 4096 1:1 x x".as_slice(), 11, Reason::Number),
         (b"vrf V2 E1 2 1:1 x x".as_slice(), 13, Reason::Again),
         (b"vrf V2 E1 2 1.2.3:4 x x".as_slice(), 13, Reason::Rd),
         (b"vrf V2 E1 2 1.2.3.4:65536 x x".as_slice(), 13, Reason::Rd),
+        (b"vrf V2 E1 2 1:2 1:1 x".as_slice(), 21, Reason::Choice),
+    ] {
+        let wanted = fault_at(4, column, reason);
+        assert_eq!(rt; fault_behind(rt.alloc(), VRF, line)?, Some(wanted));
+    }
+    Ok(())
+}
+
+#[test]
+fn faults_of_targets_stand_at_their_places(rt: HostRuntime) -> Result<(), Fail> {
+    for (line, column, reason) in [
         (
             b"vrf V2 E1 2 1.2.3.4:5 1.2.3:4 x".as_slice(),
             23,
@@ -134,7 +146,6 @@ fn faults_of_vrfs_stand_at_their_places(rt: HostRuntime) -> Result<(), Fail> {
             17,
             Reason::Targets,
         ),
-        (b"vrf V2 E1 2 1:2 1:1 x".as_slice(), 21, Reason::Choice),
         (
             b"vrf V2 E1 2 1:2 1:1 highest".as_slice(),
             17,
@@ -166,6 +177,8 @@ fn faults_of_sites_and_interfaces_stand_at_their_places(rt: HostRuntime) -> Resu
             9,
             Reason::Prefix,
         ),
+        (b"site V1 1.0.0.0/8".as_slice(), 6, Reason::Again),
+        (b"iface S1 V1 S1 x".as_slice(), 7, Reason::Again),
         (b"iface I2 S1 S1 x".as_slice(), 10, Reason::Unknown),
         (b"iface I2 V2 S1 10.0.0.2".as_slice(), 13, Reason::Mixed),
         (b"iface I2 V1 S2 10.0.0.2".as_slice(), 13, Reason::Taken),
@@ -184,9 +197,19 @@ fn a_core_with_lists_is_read(rt: HostRuntime) -> Result<(), Fail> {
     let Ok(script) = read(rt.alloc(), text.as_slice()) else {
         return Err(Fail::new("refused"));
     };
-    assert_eq!(rt; script.scenario.nodes.len(), 3);
-    assert_eq!(rt; script.scenario.links.len(), 2);
-    assert_eq!(rt; script.scenario.vrfs.len(), 2);
+    let [_, link] = script.scenario.links.as_slice() else {
+        return Err(Fail::new("other links"));
+    };
+    assert_eq!(rt; (link.a, link.b, link.cost), (NodeId(2), NodeId(1), 65535));
+    let [vrf, _] = script.scenario.vrfs.as_slice() else {
+        return Err(Fail::new("other VRFs"));
+    };
+    assert_eq!(rt; vrf.rd, Rd([0, 1, 9, 0, 0, 1, 0, 1]));
+    assert_eq!(rt; vrf.targets.as_slice().len(), 8);
+    let [site] = script.scenario.sites.as_slice() else {
+        return Err(Fail::new("other sites"));
+    };
+    assert_eq!(rt; site.prefixes.len(), 8);
     assert_eq!(rt; script.scenario.ifaces.len(), 2);
     Ok(())
 }

@@ -1,6 +1,7 @@
 -- Each mapping of a step takes the least label that is free then, and goes to a session that is ready.
 use Rattle.std.proofs.Common.{◌≡◌, ℕ, ◌<◌, ◌==◌, Bool, true, false, cond, ◌&&◌, ◌||◌, ◌++◌, ◌⊎◌, inl, inr, List, [], ◌∷◌, Option, Some, None, refl, sym, ap, subst, ◌∙◌}
 use Rattle.std.specs.List.{list_any}
+use Rattle.std.specs.FinMap as maps
 use Rattle.std.proofs.lemmas.Bool.{cases_eq, eq-eqb, or_left, or_right}
 use Rattle.std.proofs.lemmas.List.{append-nil}
 use Rattle.std.proofs.lemmas.List.Folds.{list_any-append}
@@ -9,6 +10,7 @@ use Rattle.mv_base.specs.declared.ids.NodeId.{NodeId}
 use Rattle.mldp_fec.specs.declared.fec.Fec.{Fec}
 use Rattle.mldp_msgs.specs.declared.message.LabelMessage.{LabelMessage}
 use Rattle.mldp_msgs.specs.declared.message.LabelMessage.TheVariants as messages
+use Rattle.label_defs.specs.declared.end.End.{End}
 use Rattle.label_defs.specs.declared.label_use.LabelUse.{LabelUse}
 use Rattle.label_defs.specs.declared.label_use.LabelUse.TheVariants as uses
 use Rattle.label_defs.specs.declared.put.Put.{Put}
@@ -19,6 +21,7 @@ use Rattle.label_defs.specs.Settled.{Maps}
 use Rattle.label_defs.specs.Laws.{FreeIn, takes, MappingIs}
 use Rattle.label_defs.proofs.UseLemmas.{used, set_here, set_there}
 use Rattle.label_defs.proofs.TreeLemmas.{not_both, one_tree}
+use Rattle.label_defs.proofs.EffectLemmas.{held}
 use Rattle.label_defs.proofs.TurnLemmas.{Turn, Quiet, Takes, Gives}
 use Rattle.label_defs.proofs.OwnLemmas.{step_keeps, rest_tree, rest_ready, free_then, then_free}
 
@@ -171,6 +174,10 @@ module _ (place : Place) (start old : LabelData) (fec : Fec) (next : LabelData) 
 
 -- ---- whole steps
 
+is_held : (o : Option End) → held o ≡ true → (end : End) × (o ≡ Some end) × (end.held ≡ true)
+is_held None e = absurd cc
+is_held (Some end) e = (end, refl, e)
+
 none_first : (before behind : List Put) (put : Put) → [] ≡ before ++ put ∷ behind → ⊥
 none_first [] behind put e = absurd cc
 none_first (first ∷ before) behind put e = absurd cc
@@ -204,7 +211,7 @@ mapping_is place now part call new before behind to fec label e is =
     let f = traced.found before behind to fec label is in
     record {
       toward = f.toward;
-      ready = f.ready;
+      ready = is_held (maps.get new.part.ends to) f.ready;
       free = free_then place now part call label f.free;
       least = λ lower lt x. f.least lower lt (then_free place now part call lower x);
       holds = f.holds;

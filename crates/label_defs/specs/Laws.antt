@@ -1,17 +1,19 @@
 -- What the laws of the label steps speak of.
 use Rattle.std.specs.Prelude.{◌≡◌, ℕ, ◌<◌, ◌==◌, ◌&&◌, nat_le, Bool, true, false, not, List, [], ◌∷◌, Some, is_some, count_by, ◌⊎◌}
 use Rattle.std.specs.List.{list_any, filter}
+use Rattle.std.specs.FinMap as maps
 use Rattle.std.specs.FinSet as sets
 use Rattle.std.specs.FinSet.{FinSet}
 use Rattle.mv_base.specs.declared.ids.NodeId.{NodeId}
 use Rattle.mldp_fec.specs.declared.fec.Fec.{Fec}
 use Rattle.mldp_msgs.specs.declared.message.LabelMessage.{LabelMessage}
 use Rattle.mldp_msgs.specs.declared.message.LabelMessage.TheVariants as messages
+use Rattle.label_defs.specs.declared.end.End.{End}
 use Rattle.label_defs.specs.declared.label_use.LabelUse.{LabelUse}
 use Rattle.label_defs.specs.declared.label_use.LabelUse.TheVariants as uses
 use Rattle.label_defs.specs.declared.put.Put.{Put}
 use Rattle.label_defs.specs.Keys.{fec_cmp}
-use Rattle.label_defs.specs.LabelData.{Place, LabelData, use_of, mapped_label, has_tree, is_ready}
+use Rattle.label_defs.specs.LabelData.{Place, LabelData, use_of, mapped_label, has_tree}
 use Rattle.label_defs.specs.Settling.{is_ready_to}
 use Rattle.label_defs.specs.Steps.{Call, Taken, Noticed, Timers, effect}
 use Rattle.label_defs.specs.Settled.{Maps}
@@ -60,12 +62,16 @@ abbrev pub takes : ℕ → LabelMessage → Bool
 takes label (messages.Mapping fec own) = own == label
 takes label other = false
 
--- A mapping that a step puts, behind others. It goes to the neighbour towards the root of the tree, and the session with it is
--- ready. It takes a label that is free in the step, and each lower one that is so was taken by a mapping before. Behind the step
+-- the end of the session is up, and its hold was run
+abbrev pub IsHeld : LabelData → NodeId → Type 0
+IsHeld part node = (end : End) × (maps.get part.ends node ≡ Some end) × (end.held ≡ true)
+
+-- A mapping that a step puts, behind others. It goes to the neighbour towards the root of the tree, and the hold of its
+-- session was run. It takes a label that is free in the step, and each lower one that is so was taken by a mapping before. Behind the step
 -- the label is mapped so.
 pub record MappingIs (place : Place) (now : ℕ) (part : LabelData) (call : Call) (new : LabelData) (before : List Put) (to : NodeId) (fec : Fec) (label : ℕ) : Type 0 where
   pub toward : place.upstream fec ≡ Some to
-  pub ready : is_ready new to ≡ true
+  pub ready : IsHeld new to
   pub free : FreeIn now part call label
   pub least : (lower : ℕ) → lower < label → FreeIn now part call lower → list_any (λ (put : Put). takes lower put.message) before ≡ true
   pub holds : Maps new fec label to

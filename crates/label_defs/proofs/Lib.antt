@@ -15,3 +15,4 @@ pub mod MappingLemmas
 pub mod CountLemmas
 pub mod LackLemmas
 pub mod NoLabelLemmas
+pub mod Row

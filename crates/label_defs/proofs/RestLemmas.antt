@@ -1,8 +1,8 @@
 -- Withdraws are answered; labels that leave or rest stay so until their moment.
-use Rattle.std.proofs.Common.{◌≡◌, ℕ, ◌+◌, ◌<◌, ◌==◌, nat_le, Bool, true, false, cond, ◌&&◌, ◌++◌, ◌⊎◌, inl, inr, List, [], ◌∷◌, filter, Option, Some, None, option_map, refl, sym, ap, subst, ◌∙◌}
-use Rattle.std.proofs.lemmas.Bool.{cases_Bool, cases_eq, cond-true, cond-false, eq-eqb, ne_eqb, eqb-true, and_parts, and_from, lt-leb}
+use Rattle.std.proofs.Common.{◌≡◌, ℕ, ◌+◌, ◌<◌, ◌==◌, nat_le, Bool, true, false, cond, ◌&&◌, ◌++◌, ◌⊎◌, inl, inr, List, [], ◌∷◌, filter, Some, option_map, refl, sym, ap, ◌∙◌}
+use Rattle.std.proofs.lemmas.Bool.{cases_Bool, cond-true, cond-false, eq-eqb, eqb-true, and_parts, and_from, lt-leb}
 use Rattle.std.proofs.lemmas.List.{append-nil}
-use Rattle.std.proofs.lemmas.Option.{same_Some, none-some}
+use Rattle.std.proofs.lemmas.Option.{same_Some}
 use Rattle.mv_base.specs.declared.ids.NodeId.{NodeId}
 use Rattle.mldp_fec.specs.declared.fec.Fec.{Fec}
 use Rattle.mldp_msgs.specs.declared.message.LabelMessage.TheVariants as messages
@@ -10,12 +10,12 @@ use Rattle.label_defs.specs.declared.label_use.LabelUse.{LabelUse}
 use Rattle.label_defs.specs.declared.label_use.LabelUse.TheVariants as uses
 use Rattle.label_defs.specs.declared.put.Put.{Put}
 use Rattle.label_defs.specs.LabelData.{Place, LabelData, same_fec, use_of}
-use Rattle.label_defs.specs.Settling.{Stepped, with_use}
-use Rattle.label_defs.specs.Steps.{Call, Taken, Want, Unwant, Raised, Noticed, Timers, released, freed, effect, counted, label_step}
+use Rattle.label_defs.specs.Settling.{Stepped}
+use Rattle.label_defs.specs.Steps.{Call, Taken, Want, Unwant, Raised, Noticed, Timers, released, effect, label_step}
 use Rattle.label_defs.specs.Laws.{releases, owed_releases, StopsLeaving}
 use Rattle.label_defs.proofs.KeyLemmas.{same_fec_equal, same_fec_itself, node_equal, node_itself}
 use Rattle.label_defs.proofs.UseLemmas.{used, set_there}
-use Rattle.label_defs.proofs.TurnLemmas.{Turn, Quiet, Takes, Gives}
+use Rattle.label_defs.proofs.TurnLemmas.{Turn}
 use Rattle.label_defs.proofs.OwnLemmas.{step_keeps, own_use, effect_use}
 
 -- ---- releases

@@ -15,6 +15,7 @@ ghost use Rattle.label_defs.specs.LabelData.{Place, LabelData, fresh, use_of, is
 ghost use Rattle.label_defs.specs.Settling.{Stepped, settle_all};
 ghost use Rattle.label_defs.specs.Steps.{Call, Taken, Raised, Noticed, Timers, label_step};
 ghost use Rattle.label_defs.specs.Settled.{Settled, AllSettled, MayBe};
+ghost use Rattle.label_defs.specs.Row.{LeafToRoot};
 ghost use Rattle.label_defs.specs.Laws.{releases, owed_releases, StopsLeaving, is_towards, MappingIs, LacksLabels};
 
 /// In a node in which nothing has happened each tree is settled.
@@ -92,4 +93,9 @@ pub fn no_label()
 pub fn losses_need_no_label()
     ensures noticed { (place : Place) (now : ℕ) (part : LabelData) (peer : NodeId) → AllSettled place part → label_step place now part (Noticed peer) ≢ None }
     ensures raised { (place : Place) (now : ℕ) (part : LabelData) (peer : NodeId) → label_step place now part (Raised peer) ≢ None }
+{}
+
+/// In a row of three nodes a tree that the leaf wants is mapped hop by hop, and stands then up to the root.
+pub fn leaf_to_root()
+    ensures { (life now raised count : ℕ) (fec : Fec) → 1 ≤ count → LeafToRoot life now raised count fec }
 {}

@@ -14,8 +14,8 @@ pub use change::Change;
 pub use end::End;
 pub use label_use::LabelUse;
 pub use laws::{
-    fresh_is_settled, holds_wait, labels_rest, losses_end_a_session, losses_need_no_label,
-    mappings_wait, messages_are_passed_over, no_label, settled_needs_nothing, steps_keep_settled,
-    withdraws_are_answered,
+    fresh_is_settled, holds_wait, labels_rest, leaf_to_root, losses_end_a_session,
+    losses_need_no_label, mappings_wait, messages_are_passed_over, no_label, settled_needs_nothing,
+    steps_keep_settled, withdraws_are_answered,
 };
 pub use put::Put;

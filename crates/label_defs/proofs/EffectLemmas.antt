@@ -107,7 +107,7 @@ raised place part peer now down all =
 -- ---- a release
 
 -- a release maps nothing, and unmaps nothing
-released_maps : (from : NodeId) (fec own : Fec) (until : ℕ) (usage : LabelUse) (u : NodeId) → released from fec until usage ≡ uses.Mapped own u → usage ≡ uses.Mapped own u
+pub released_maps : (from : NodeId) (fec own : Fec) (until : ℕ) (usage : LabelUse) (u : NodeId) → released from fec until usage ≡ uses.Mapped own u → usage ≡ uses.Mapped own u
 released_maps from fec own until uses.Free u e = e
 released_maps from fec own until (uses.Mapped f v) u e = e
 released_maps from fec own until (uses.Resting moment) u e = e

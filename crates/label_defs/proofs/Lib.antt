@@ -16,3 +16,4 @@ pub mod CountLemmas
 pub mod LackLemmas
 pub mod NoLabelLemmas
 pub mod Row
+pub mod WithdrawLemmas

@@ -23,7 +23,7 @@ use Rattle.label_defs.proofs.SettleLemmas.{Good}
 use Rattle.label_defs.proofs.EffectLemmas.{held}
 
 -- what is mapped behind a loss was so before, and not towards that neighbour
-freed_maps : (node : NodeId) (usage : LabelUse) (fec : Fec) (u : NodeId) → freed node usage ≡ uses.Mapped fec u → (usage ≡ uses.Mapped fec u) × (u ≡ node → ⊥)
+pub freed_maps : (node : NodeId) (usage : LabelUse) (fec : Fec) (u : NodeId) → freed node usage ≡ uses.Mapped fec u → (usage ≡ uses.Mapped fec u) × (u ≡ node → ⊥)
 freed_maps node uses.Free fec u e = absurd cc
 freed_maps node (uses.Resting until) fec u e = absurd cc
 freed_maps node (uses.Leaving own v) fec u e = by (v.0 == node.0) e

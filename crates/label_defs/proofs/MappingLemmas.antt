@@ -25,7 +25,7 @@ use Rattle.label_defs.proofs.TurnLemmas.{Turn, Quiet, Takes, Gives}
 use Rattle.label_defs.proofs.OwnLemmas.{step_keeps, rest_tree, rest_ready, free_then, then_free}
 
 -- a part of a list with one more element behind it
-snoc_split : {A : Type 0} (xs front : List A) (x put : A) (behind : List A) → xs ++ x ∷ [] ≡ front ++ put ∷ behind → ((rest : List A) × (xs ≡ front ++ put ∷ rest)) ⊎ ((xs ≡ front) × (x ≡ put))
+pub snoc_split : {A : Type 0} (xs front : List A) (x put : A) (behind : List A) → xs ++ x ∷ [] ≡ front ++ put ∷ behind → ((rest : List A) × (xs ≡ front ++ put ∷ rest)) ⊎ ((xs ≡ front) × (x ≡ put))
 snoc_split [] [] x put behind e = inr (refl, cc)
 snoc_split [] (y ∷ []) x put behind e = absurd cc
 snoc_split [] (y ∷ (z ∷ front)) x put behind e = absurd cc
@@ -63,7 +63,7 @@ same_found : (place : Place) (start part : LabelData) (a b : List Put) (u v : No
 same_found place start part a b u v f g l k ea eu ef el x =
     subst (λ (n : ℕ). Found place start part b v g n) el (subst (λ (n : Fec). Found place start part b v n l) ef (subst (λ (n : NodeId). Found place start part b n f l) eu (subst (λ (n : List Put). Found place start part n u f l) ea x)))
 
-same_uses : (old next : LabelData) (labels : List LabelUse) → next.labels ≡ labels → (k : ℕ) → use_of next k ≡ used labels k
+pub same_uses : (old next : LabelData) (labels : List LabelUse) → next.labels ≡ labels → (k : ℕ) → use_of next k ≡ used labels k
 same_uses old next labels e k = ap (λ (ls : List LabelUse). used ls k) e
 
 module _ (place : Place) (start old : LabelData) (fec : Fec) (next : LabelData) (puts more : List Put) where
@@ -177,7 +177,7 @@ is_held : (o : Option End) → held o ≡ true → (end : End) × (o ≡ Some en
 is_held None e = absurd cc
 is_held (Some end) e = (end, refl, e)
 
-none_first : (before behind : List Put) (put : Put) → [] ≡ before ++ put ∷ behind → ⊥
+pub none_first : (before behind : List Put) (put : Put) → [] ≡ before ++ put ∷ behind → ⊥
 none_first [] behind put e = absurd cc
 none_first (first ∷ before) behind put e = absurd cc
 

@@ -65,7 +65,7 @@ only_answers place now part call new e =
 -- ---- labels that leave or rest
 
 -- in a turn a label that is neither free nor mapped stays
-turn_stays : (place : Place) (old : LabelData) (fec : Fec) (next : LabelData) (more : List Put) → Turn place old fec next more → (label : ℕ) (usage : LabelUse)
+pub turn_stays : (place : Place) (old : LabelData) (fec : Fec) (next : LabelData) (more : List Put) → Turn place old fec next more → (label : ℕ) (usage : LabelUse)
     → (usage ≡ uses.Free → ⊥) → ((own : Fec) (u : NodeId) → usage ≡ uses.Mapped own u → ⊥) → use_of old label ≡ Some usage → use_of next label ≡ Some usage
 turn_stays place old fec next more t label usage not_free not_mapped is = elim t.how [
   | inl q ↦ ap (λ (labels : List LabelUse). used labels label) q.labels ∙ is

@@ -20,7 +20,7 @@ use Rattle.label_defs.proofs.TreeLemmas.{Tied, tied, waits}
 use Rattle.label_defs.proofs.SettleLemmas.{Good}
 use Rattle.label_defs.proofs.EffectLemmas.{held}
 
-woken_maps : (now : ℕ) (usage : LabelUse) (fec : Fec) (u : NodeId) → woken now usage ≡ uses.Mapped fec u → usage ≡ uses.Mapped fec u
+pub woken_maps : (now : ℕ) (usage : LabelUse) (fec : Fec) (u : NodeId) → woken now usage ≡ uses.Mapped fec u → usage ≡ uses.Mapped fec u
 woken_maps now uses.Free fec u e = e
 woken_maps now (uses.Mapped own v) fec u e = e
 woken_maps now (uses.Leaving own v) fec u e = e

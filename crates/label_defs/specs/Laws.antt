@@ -1,5 +1,5 @@
 -- What the laws of the label steps speak of.
-use Rattle.std.specs.Prelude.{◌≡◌, ℕ, ◌<◌, ◌==◌, ◌&&◌, nat_le, Bool, true, false, not, List, [], ◌∷◌, Some, is_some, count_by, ◌⊎◌}
+use Rattle.std.specs.Prelude.{◌≡◌, ℕ, ◌<◌, ◌==◌, ◌&&◌, nat_le, Bool, true, false, not, List, [], ◌∷◌, ◌++◌, Some, is_some, count_by, ◌⊎◌}
 use Rattle.std.specs.List.{list_any, filter}
 use Rattle.std.specs.FinMap as maps
 use Rattle.std.specs.FinSet as sets
@@ -42,6 +42,21 @@ is_towards node (uses.Mapped fec upstream) = upstream.0 == node.0
 is_towards node (uses.Leaving fec upstream) = upstream.0 == node.0
 is_towards node other = false
 
+-- a withdraw to that neighbour
+abbrev pub withdraw_to : NodeId → Fec → ℕ → Put
+withdraw_to to fec label = record { to = to; message = messages.Withdraw fec label }
+
+-- A withdraw that a step puts is of a label that was mapped so. Behind the step the label is leaving, and the node is not on the
+-- tree.
+pub record WithdrawIs (part new : LabelData) (to : NodeId) (fec : Fec) (label : ℕ) : Type 0 where
+  pub mapped : Maps part fec label to
+  pub leaves : use_of new label ≡ Some (uses.Leaving fec to)
+  pub off : has_tree new fec ≡ false
+
+-- what becomes of a mapped label: it stays so, or it is leaving and its withdraw was put
+abbrev pub MappedThen : LabelData → List Put → Fec → NodeId → ℕ → Type 0
+MappedThen new puts fec to label = Maps new fec label to ⊎ ((use_of new label ≡ Some (uses.Leaving fec to)) × ((before : List Put) × (behind : List Put) × (puts ≡ before ++ withdraw_to to fec label ∷ behind)))
+
 -- ---- labels that are taken
 
 -- whether a label that is used so is free in a step: it was free, or rested until a moment that the timers find past, or was of
@@ -66,9 +81,9 @@ takes label other = false
 abbrev pub IsHeld : LabelData → NodeId → Type 0
 IsHeld part node = (end : End) × (maps.get part.ends node ≡ Some end) × (end.held ≡ true)
 
--- A mapping that a step puts, behind others. It goes to the neighbour towards the root of the tree, and the hold of its
--- session was run. It takes a label that is free in the step, and each lower one that is so was taken by a mapping before. Behind the step
--- the label is mapped so.
+-- A mapping that a step puts, behind others. It goes to the neighbour towards the root of the tree, and the hold of its session
+-- was run. It takes a label that is free in the step, and each lower one that is so was taken by a mapping before. Behind the
+-- step the label is mapped so.
 pub record MappingIs (place : Place) (now : ℕ) (part : LabelData) (call : Call) (new : LabelData) (before : List Put) (to : NodeId) (fec : Fec) (label : ℕ) : Type 0 where
   pub toward : place.upstream fec ≡ Some to
   pub ready : IsHeld new to

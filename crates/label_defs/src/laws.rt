@@ -13,10 +13,10 @@ ghost use Rattle.label_defs.specs.declared.label_use.LabelUse.TheVariants as use
 ghost use Rattle.label_defs.specs.declared.put.Put.{Put};
 ghost use Rattle.label_defs.specs.LabelData.{Place, LabelData, fresh, use_of, is_up};
 ghost use Rattle.label_defs.specs.Settling.{Stepped, settle_all};
-ghost use Rattle.label_defs.specs.Steps.{Call, Taken, Raised, Noticed, Timers, label_step};
-ghost use Rattle.label_defs.specs.Settled.{Settled, AllSettled, MayBe};
+ghost use Rattle.label_defs.specs.Steps.{Call, Taken, Raised, Noticed, Timers, effect, label_step};
+ghost use Rattle.label_defs.specs.Settled.{Maps, Settled, AllSettled, MayBe};
 ghost use Rattle.label_defs.specs.Row.{LeafToRoot};
-ghost use Rattle.label_defs.specs.Laws.{releases, owed_releases, StopsLeaving, is_towards, MappingIs, LacksLabels};
+ghost use Rattle.label_defs.specs.Laws.{releases, owed_releases, StopsLeaving, is_towards, withdraw_to, WithdrawIs, MappedThen, MappingIs, LacksLabels};
 
 /// In a node in which nothing has happened each tree is settled.
 pub fn fresh_is_settled()
@@ -82,6 +82,22 @@ pub fn messages_are_passed_over()
         label_step place now part (Taken from (messages.Mapping fec label)) ≡ Some (record { part = part; puts = [] }) }
     ensures release { (place : Place) (now : ℕ) (part : LabelData) (from : NodeId) (fec : Fec) (label : ℕ) → use_of part label ≢ Some (uses.Leaving fec from) →
         label_step place now part (Taken from (messages.Release fec label)) ≡ Some (record { part = part; puts = [] }) }
+{}
+
+/// A label that was mapped stays so, unless its withdraw is put and it leaves, or the loss of its session is noticed. A withdraw
+/// is put for no other label.
+pub fn withdraws_leave()
+    ensures mapped { (place : Place) (now : ℕ) (part : LabelData) (call : Call) (new : Stepped) (label : ℕ) (fec : Fec) (to : NodeId) → label_step place now part call ≡ Some new → Maps part fec label to →
+        MappedThen new.part new.puts fec to label ⊎ (call ≡ Noticed to) }
+    ensures put { (place : Place) (now : ℕ) (part : LabelData) (call : Call) (new : Stepped) (before behind : List Put) (to : NodeId) (fec : Fec) (label : ℕ) → label_step place now part call ≡ Some new →
+        new.puts ≡ before ++ withdraw_to to fec label ∷ behind → WithdrawIs part new.part to fec label }
+{}
+
+/// Behind the own effect of a call, trees that settle change no branch, no leaf and no end.
+pub fn settling_keeps()
+    ensures branches { (place : Place) (now : ℕ) (part : LabelData) (call : Call) (new : Stepped) → label_step place now part call ≡ Some new → new.part.branches ≡ (effect place now part call).0.part.branches }
+    ensures leaves { (place : Place) (now : ℕ) (part : LabelData) (call : Call) (new : Stepped) → label_step place now part call ≡ Some new → new.part.leaves ≡ (effect place now part call).0.part.leaves }
+    ensures ends { (place : Place) (now : ℕ) (part : LabelData) (call : Call) (new : Stepped) → label_step place now part call ≡ Some new → new.part.ends ≡ (effect place now part call).0.part.ends }
 {}
 
 /// There is no step exactly where more of its trees need a label than are free in it.

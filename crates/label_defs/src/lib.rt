@@ -16,6 +16,6 @@ pub use label_use::LabelUse;
 pub use laws::{
     fresh_is_settled, holds_wait, labels_rest, leaf_to_root, losses_end_a_session,
     losses_need_no_label, mappings_wait, messages_are_passed_over, no_label, settled_needs_nothing,
-    steps_keep_settled, withdraws_are_answered,
+    settling_keeps, steps_keep_settled, withdraws_are_answered, withdraws_leave,
 };
 pub use put::Put;

@@ -17,3 +17,4 @@ pub mod LackLemmas
 pub mod NoLabelLemmas
 pub mod Row
 pub mod WithdrawLemmas
+pub mod TakenLemmas

@@ -94,7 +94,7 @@ either_way : {A : Type 0} (t : Bool) (x : A) → cond t x x ≡ x
 either_way true x = refl
 either_way false x = refl
 
-own_rests : (place : Place) (now : ℕ) (call : Call) (label until : ℕ) → now < until → own_use place now call label (uses.Resting until) ≡ uses.Resting until
+own_rests : (place : Place) (now : ℕ) (call : Call) (label until : ℕ) → (call ≡ Timers → now < until) → own_use place now call label (uses.Resting until) ≡ uses.Resting until
 own_rests place now (Taken from (messages.Release fec own)) label until later = either_way (label == own) (uses.Resting until)
 own_rests place now (Taken from (messages.Mapping fec own)) label until later = refl
 own_rests place now (Taken from (messages.Withdraw fec own)) label until later = refl
@@ -103,9 +103,9 @@ own_rests place now (Want fec) label until later = refl
 own_rests place now (Unwant fec) label until later = refl
 own_rests place now (Raised peer) label until later = refl
 own_rests place now (Noticed peer) label until later = refl
-own_rests place now Timers label until later = cond-false (nat_le until now) uses.Free (uses.Resting until) (lt-leb until now later)
+own_rests place now Timers label until later = cond-false (nat_le until now) uses.Free (uses.Resting until) (lt-leb until now (later refl))
 
-pub rests_on : (place : Place) (now : ℕ) (part : LabelData) (call : Call) (new : Stepped) (label until : ℕ) → now < until → use_of part label ≡ Some (uses.Resting until)
+pub rests_on : (place : Place) (now : ℕ) (part : LabelData) (call : Call) (new : Stepped) (label until : ℕ) → (call ≡ Timers → now < until) → use_of part label ≡ Some (uses.Resting until)
     → label_step place now part call ≡ Some new → use_of new.part label ≡ Some (uses.Resting until)
 rests_on place now part call new label until later is e =
     stays place now part call new label (uses.Resting until) (uses.Resting until) (λ h. absurd cc) (λ own u h. absurd cc) is (own_rests place now call label until later) e

@@ -72,6 +72,10 @@ is_free_in now call other = false
 abbrev pub FreeIn : ℕ → LabelData → Call → ℕ → Type 0
 FreeIn now part call label = (usage : LabelUse) × (use_of part label ≡ Some usage) × (is_free_in now call usage ≡ true)
 
+-- what becomes of a label that is free in a step: it is free behind it, or it is mapped and its mapping was put
+abbrev pub FreeThen : LabelData → List Put → ℕ → Type 0
+FreeThen new puts label = (use_of new label ≡ Some uses.Free) ⊎ ((fec : Fec) × (to : NodeId) × (before : List Put) × (behind : List Put) × Maps new fec label to × (puts ≡ before ++ record { to = to; message = messages.Mapping fec label } ∷ behind))
+
 -- whether the message maps the label
 abbrev pub takes : ℕ → LabelMessage → Bool
 takes label (messages.Mapping fec own) = own == label

@@ -16,7 +16,7 @@ ghost use Rattle.label_defs.specs.Settling.{Stepped, settle_all};
 ghost use Rattle.label_defs.specs.Steps.{Call, Taken, Raised, Noticed, Timers, effect, label_step};
 ghost use Rattle.label_defs.specs.Settled.{Maps, Settled, AllSettled, MayBe};
 ghost use Rattle.label_defs.specs.Row.{LeafToRoot};
-ghost use Rattle.label_defs.specs.Laws.{releases, owed_releases, StopsLeaving, is_towards, withdraw_to, WithdrawIs, MappedThen, MappingIs, LacksLabels};
+ghost use Rattle.label_defs.specs.Laws.{releases, owed_releases, StopsLeaving, is_towards, withdraw_to, WithdrawIs, MappedThen, FreeIn, FreeThen, MappingIs, LacksLabels};
 
 /// In a node in which nothing has happened each tree is settled.
 pub fn fresh_is_settled()
@@ -42,13 +42,13 @@ pub fn withdraws_are_answered()
 {}
 
 /// A label that was withdrawn leaves until its neighbour releases it or the loss of that session is noticed. From its release
-/// on it rests for more than the life of a copy, whatever is done meanwhile.
+/// on it rests for more than the life of a copy, and the timers alone end that, when it is due.
 pub fn labels_rest()
     ensures leaves { (place : Place) (now : ℕ) (part : LabelData) (call : Call) (new : Stepped) (label : ℕ) (fec : Fec) (to : NodeId) → use_of part label ≡ Some (uses.Leaving fec to) → label_step place now part call ≡ Some new →
         (use_of new.part label ≡ Some (uses.Leaving fec to)) ⊎ StopsLeaving call fec to label }
     ensures released { (place : Place) (now : ℕ) (part : LabelData) (from : NodeId) (fec : Fec) (label : ℕ) (new : Stepped) → use_of part label ≡ Some (uses.Leaving fec from) → label_step place now part (Taken from (messages.Release fec label)) ≡ Some new →
         use_of new.part label ≡ Some (uses.Resting (now + place.life + 1)) }
-    ensures rests { (place : Place) (now : ℕ) (part : LabelData) (call : Call) (new : Stepped) (label until : ℕ) → now < until → use_of part label ≡ Some (uses.Resting until) → label_step place now part call ≡ Some new →
+    ensures rests { (place : Place) (now : ℕ) (part : LabelData) (call : Call) (new : Stepped) (label until : ℕ) → (call ≡ Timers → now < until) → use_of part label ≡ Some (uses.Resting until) → label_step place now part call ≡ Some new →
         use_of new.part label ≡ Some (uses.Resting until) }
 {}
 
@@ -82,6 +82,11 @@ pub fn messages_are_passed_over()
         label_step place now part (Taken from (messages.Mapping fec label)) ≡ Some (record { part = part; puts = [] }) }
     ensures release { (place : Place) (now : ℕ) (part : LabelData) (from : NodeId) (fec : Fec) (label : ℕ) → use_of part label ≢ Some (uses.Leaving fec from) →
         label_step place now part (Taken from (messages.Release fec label)) ≡ Some (record { part = part; puts = [] }) }
+{}
+
+/// A label that is free in a step stays so, unless a mapping that the step puts takes it.
+pub fn free_labels_stay()
+    ensures { (place : Place) (now : ℕ) (part : LabelData) (call : Call) (new : Stepped) (label : ℕ) → label_step place now part call ≡ Some new → FreeIn now part call label → FreeThen new.part new.puts label }
 {}
 
 /// A label that was mapped stays so, unless its withdraw is put and it leaves, or the loss of its session is noticed. A withdraw

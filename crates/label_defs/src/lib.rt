@@ -1,5 +1,6 @@
 //! The label part of a node, as plain data: what its labels are used for, the branches and leaves of its trees, and the
-//! ends of its LDP sessions; and the steps that change it (RFC 6388 section 2, RFC 5036 section 3.5).
+//! ends of its LDP sessions; the steps that change it, and the laws of these steps (RFC 6388 section 2, RFC 5036 section
+//! 3.5).
 #![tactic(auto)]
 
 mod branch;

@@ -1,26 +1,26 @@
 -- Messages, leaves and a raise leave all trees settled but those that settle then.
-use Rattle.std.proofs.Common.{◌≡◌, ℕ, ◌+◌, ◌==◌, Bool, true, false, not, cond, ◌&&◌, ◌||◌, inl, inr, List, [], ◌∷◌, Option, Some, None, is_some, refl, sym, ap, subst, ◌∙◌}
+use Rattle.std.proofs.Common.{◌≡◌, ℕ, ◌==◌, Bool, true, false, cond, ◌&&◌, ◌||◌, inl, inr, List, [], ◌∷◌, Option, Some, None, is_some, refl, sym, ap, ◌∙◌}
 use Rattle.std.specs.List.{list_any}
 use Rattle.std.specs.FinMap as maps
 use Rattle.std.specs.FinSet as sets
 use Rattle.std.specs.FinSet.{FinSet}
-use Rattle.std.proofs.lemmas.Bool.{cases_Bool, cases_eq, cond-true, cond-false, or_parts}
-use Rattle.std.proofs.lemmas.Option.{same_Some, none-some}
+use Rattle.std.proofs.lemmas.Bool.{cases_eq, or_parts}
+use Rattle.std.proofs.lemmas.Option.{same_Some}
 use Rattle.mv_base.specs.declared.ids.NodeId.{NodeId}
 use Rattle.mldp_fec.specs.declared.fec.Fec.{Fec}
 use Rattle.label_defs.specs.declared.branch.Branch.{Branch}
 use Rattle.label_defs.specs.declared.end.End.{End}
 use Rattle.label_defs.specs.declared.label_use.LabelUse.{LabelUse}
 use Rattle.label_defs.specs.declared.label_use.LabelUse.TheVariants as uses
-use Rattle.label_defs.specs.Keys.{fec_cmp, branch_cmp}
-use Rattle.label_defs.specs.LabelData.{Place, LabelData, same_fec, use_of, has_branch, has_tree, is_up, is_ready}
+use Rattle.label_defs.specs.Keys.{branch_cmp}
+use Rattle.label_defs.specs.LabelData.{Place, LabelData, same_fec, use_of, has_branch, has_tree, is_up}
 use Rattle.label_defs.specs.Settling.{with_use}
 use Rattle.label_defs.specs.Steps.{branch_to, released, with_release}
-use Rattle.label_defs.specs.Settled.{Maps, Settled, AllSettled}
+use Rattle.label_defs.specs.Settled.{Maps, AllSettled}
 use Rattle.label_defs.proofs.KeyLemmas.{fec_cmp_total, fec_cmp_exact, branch_cmp_total, branch_cmp_exact, node_cmp_total, node_cmp_exact, same_fec_equal, same_fec_from, node_cases}
 use Rattle.label_defs.proofs.UseLemmas.{set_here, set_there}
 use Rattle.label_defs.proofs.SetLemmas.{any_as, inserted_other, removed_other, put_here, put_other}
-use Rattle.label_defs.proofs.TreeLemmas.{Tied, tied, Like, like_tied, like_settled, not_both}
+use Rattle.label_defs.proofs.TreeLemmas.{tied, Like, like_tied, like_settled, not_both}
 use Rattle.label_defs.proofs.SettleLemmas.{Good}
 
 -- what maps and what is ready stays
@@ -107,7 +107,7 @@ raised place part peer now down all =
 -- ---- a release
 
 -- a release maps nothing, and unmaps nothing
-released_maps : (from : NodeId) (fec own : Fec) (until : ℕ) (usage : LabelUse) (u : NodeId) → released from fec until usage ≡ uses.Mapped own u → usage ≡ uses.Mapped own u
+pub released_maps : (from : NodeId) (fec own : Fec) (until : ℕ) (usage : LabelUse) (u : NodeId) → released from fec until usage ≡ uses.Mapped own u → usage ≡ uses.Mapped own u
 released_maps from fec own until uses.Free u e = e
 released_maps from fec own until (uses.Mapped f v) u e = e
 released_maps from fec own until (uses.Resting moment) u e = e

@@ -1,9 +1,9 @@
 -- A hold is run by the timers alone, and when it is due; a noticed loss ends what the session had.
-use Rattle.std.proofs.Common.{◌≡◌, ℕ, ◌+◌, ◌≤◌, ◌==◌, nat_le, Bool, true, false, not, cond, ◌&&◌, ◌||◌, ◌++◌, ◌⊎◌, inl, inr, List, [], ◌∷◌, Option, Some, None, option_map, is_some, refl, sym, ap, subst, ◌∙◌}
+use Rattle.std.proofs.Common.{◌≡◌, ℕ, ◌+◌, ◌≤◌, ◌==◌, nat_le, Bool, true, false, not, cond, ◌&&◌, ◌||◌, ◌⊎◌, inl, inr, List, Option, Some, None, option_map, is_some, refl, sym, ap, subst, ◌∙◌}
 use Rattle.std.specs.FinMap as maps
 use Rattle.std.specs.FinMap.{FinMap}
 use Rattle.std.specs.FinSet as sets
-use Rattle.std.proofs.lemmas.Bool.{cases_Bool, cases_eq, cond-true, cond-false, and_parts, or_cases, leb-true, le-leb, not_from_false}
+use Rattle.std.proofs.lemmas.Bool.{cases_Bool, cases_eq, cond-true, cond-false, and_parts, or_cases, leb-true, le-leb}
 use Rattle.std.proofs.lemmas.Option.{same_Some, none-some}
 use Rattle.mv_base.specs.declared.ids.NodeId.{NodeId}
 use Rattle.mldp_fec.specs.declared.fec.Fec.{Fec}
@@ -16,9 +16,9 @@ use Rattle.label_defs.specs.declared.put.Put.{Put}
 use Rattle.label_defs.specs.Keys.{node_cmp}
 use Rattle.label_defs.specs.LabelData.{Place, LabelData, use_of, is_up, is_ready, is_hold_due}
 use Rattle.label_defs.specs.Settling.{Stepped, with_use}
-use Rattle.label_defs.specs.Steps.{Call, Taken, Want, Unwant, Raised, Noticed, Timers, branch_to, released, with_release, freed, hold_run, without_session, effect, counted, label_step}
+use Rattle.label_defs.specs.Steps.{Call, Taken, Want, Unwant, Raised, Noticed, Timers, released, with_release, freed, hold_run, without_session, effect, label_step}
 use Rattle.label_defs.specs.Laws.{is_towards}
-use Rattle.label_defs.proofs.KeyLemmas.{branch_cmp_total, branch_cmp_exact, node_cmp_total, node_cmp_exact, node_cases, node_itself, node_apart}
+use Rattle.label_defs.proofs.KeyLemmas.{branch_cmp_total, branch_cmp_exact, node_cmp_total, node_cmp_exact, node_cases, node_apart}
 use Rattle.label_defs.proofs.UseLemmas.{used, set_here, set_there, used-map, map_some}
 use Rattle.label_defs.proofs.SetLemmas.{retained, put_here, put_other, cut_here, cut_other}
 use Rattle.label_defs.proofs.TreeLemmas.{not_both}

@@ -1,9 +1,9 @@
 -- There is no step exactly where more of its trees need a label than are free.
-use Rattle.std.proofs.Common.{◌≡◌, ◌↔◌, ℕ, ◌+◌, ◌-◌, ◌<◌, ◌==◌, nat_le, Bool, true, false, not, cond, ◌&&◌, ◌||◌, ◌++◌, List, [], ◌∷◌, map, filter, count_by, position, slice_set, Option, Some, None, option_map, is_some, inl, inr, refl, sym, ap, subst, ◌∙◌, arith}
+use Rattle.std.proofs.Common.{◌≡◌, ◌↔◌, ℕ, ◌+◌, ◌-◌, ◌<◌, Bool, true, false, not, cond, ◌&&◌, ◌++◌, List, [], ◌∷◌, count_by, position, slice_set, Option, Some, None, is_some, inl, inr, refl, sym, ap, ◌∙◌, arith}
 use Rattle.std.specs.Cmp.{both_ways}
 use Rattle.std.specs.List.{list_any}
 use Rattle.std.specs.FinSet as sets
-use Rattle.std.proofs.lemmas.Bool.{cases_Bool, cases_eq, and_left, and_from, or_left}
+use Rattle.std.proofs.lemmas.Bool.{cases_eq, and_left, and_from, or_left}
 use Rattle.std.proofs.lemmas.Option.{same_Some, none-some}
 use Rattle.mv_base.specs.Number.{◌>>?◌}
 use Rattle.mv_base.specs.declared.ids.NodeId.{NodeId}
@@ -12,14 +12,14 @@ use Rattle.label_defs.specs.declared.label_use.LabelUse.{LabelUse}
 use Rattle.label_defs.specs.declared.label_use.LabelUse.TheVariants as uses
 use Rattle.label_defs.specs.declared.put.Put.{Put}
 use Rattle.label_defs.specs.Keys.{fec_cmp}
-use Rattle.label_defs.specs.LabelData.{Place, LabelData, first_label, same_fec, use_of, is_free, free_label, mapped_label, has_tree, is_ready}
+use Rattle.label_defs.specs.LabelData.{Place, LabelData, first_label, same_fec, use_of, is_free, free_label, mapped_label, has_tree}
 use Rattle.label_defs.specs.Settling.{Stepped, with_use, upstream_of, is_ready_to, change_by, change_of, changed, put_by, settle_all}
 use Rattle.label_defs.specs.Settled.{Maps}
 use Rattle.label_defs.specs.Laws.{needs_label, needing}
 use Rattle.label_defs.proofs.KeyLemmas.{same_fec_itself}
 use Rattle.label_defs.proofs.UseLemmas.{used, used_some, set_here, set_there, mapped_none, mapped_some, map_none, none_passes}
-use Rattle.label_defs.proofs.TreeLemmas.{not_both, one_tree, same_ready}
-use Rattle.label_defs.proofs.TurnLemmas.{Turn, Quiet, Takes, Gives, SameRest, turn}
+use Rattle.label_defs.proofs.TreeLemmas.{one_tree, same_ready}
+use Rattle.label_defs.proofs.TurnLemmas.{Turn, SameRest, turn}
 use Rattle.label_defs.proofs.OwnLemmas.{rest_tree, rest_ready}
 use Rattle.label_defs.proofs.CountLemmas.{count_none, count_set, contains-passing, has_member, fewer}
 

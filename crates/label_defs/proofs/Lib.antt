@@ -15,3 +15,6 @@ pub mod MappingLemmas
 pub mod CountLemmas
 pub mod LackLemmas
 pub mod NoLabelLemmas
+pub mod Row
+pub mod WithdrawLemmas
+pub mod TakenLemmas

@@ -1,10 +1,8 @@
 -- A noticed loss leaves all trees settled but those that the node has.
-use Rattle.std.proofs.Common.{◌≡◌, ℕ, ◌==◌, zero, suc, Bool, true, false, not, cond, ◌&&◌, ◌||◌, inl, inr, List, [], ◌∷◌, ◌++◌, map, slice_get, Option, Some, None, option_map, refl, sym, ap, subst, ◌∙◌}
+use Rattle.std.proofs.Common.{◌≡◌, ℕ, ◌==◌, zero, suc, Bool, true, false, not, cond, ◌||◌, inl, inr, List, [], ◌∷◌, ◌++◌, map, slice_get, Some, option_map, refl, sym, ap, subst, ◌∙◌}
 use Rattle.std.specs.List.{list_any}
 use Rattle.std.specs.Cmp.{eq_by_cmp_equiv}
-use Rattle.std.specs.FinMap as maps
 use Rattle.std.specs.FinSet as sets
-use Rattle.std.specs.FinSet.{FinSet}
 use Rattle.std.proofs.lemmas.Bool.{cond-true, cond-false, or_parts, or_from, or_right, and_parts, and_left, false_from_ne_true}
 use Rattle.std.proofs.lemmas.List.Folds.{list_any-append}
 use Rattle.std.proofs.lemmas.Option.{none-some, same_Some}
@@ -15,18 +13,17 @@ use Rattle.label_defs.specs.declared.label_use.LabelUse.{LabelUse}
 use Rattle.label_defs.specs.declared.label_use.LabelUse.TheVariants as uses
 use Rattle.label_defs.specs.Keys.{fec_cmp}
 use Rattle.label_defs.specs.LabelData.{Place, LabelData, same_fec, use_of, has_branch, has_tree, is_ready, mapped_trees, trees}
-use Rattle.label_defs.specs.Settling.{is_ready_to}
 use Rattle.label_defs.specs.Steps.{freed, without_session}
 use Rattle.label_defs.specs.Settled.{Maps, Settled, AllSettled}
 use Rattle.label_defs.proofs.KeyLemmas.{fec_cmp_total, branch_cmp_total, branch_cmp_exact, node_cmp_total, node_cmp_exact, same_fec_itself, node_itself, node_cases, node_apart}
-use Rattle.label_defs.proofs.UseLemmas.{used, used_some, used-map, map_some}
+use Rattle.label_defs.proofs.UseLemmas.{used_some, used-map, map_some}
 use Rattle.label_defs.proofs.SetLemmas.{member_passes, passing_member, retained, cut_other}
 use Rattle.label_defs.proofs.TreeLemmas.{Tied, tied, not_both}
 use Rattle.label_defs.proofs.SettleLemmas.{Good}
 use Rattle.label_defs.proofs.EffectLemmas.{held}
 
 -- what is mapped behind a loss was so before, and not towards that neighbour
-freed_maps : (node : NodeId) (usage : LabelUse) (fec : Fec) (u : NodeId) → freed node usage ≡ uses.Mapped fec u → (usage ≡ uses.Mapped fec u) × (u ≡ node → ⊥)
+pub freed_maps : (node : NodeId) (usage : LabelUse) (fec : Fec) (u : NodeId) → freed node usage ≡ uses.Mapped fec u → (usage ≡ uses.Mapped fec u) × (u ≡ node → ⊥)
 freed_maps node uses.Free fec u e = absurd cc
 freed_maps node (uses.Resting until) fec u e = absurd cc
 freed_maps node (uses.Leaving own v) fec u e = by (v.0 == node.0) e

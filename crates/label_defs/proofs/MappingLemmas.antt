@@ -1,29 +1,31 @@
 -- Each mapping of a step takes the least label that is free then, and goes to a session that is ready.
-use Rattle.std.proofs.Common.{◌≡◌, ℕ, ◌<◌, ◌==◌, Bool, true, false, cond, ◌&&◌, ◌||◌, ◌++◌, ◌⊎◌, inl, inr, List, [], ◌∷◌, Option, Some, None, refl, sym, ap, subst, ◌∙◌}
+use Rattle.std.proofs.Common.{◌≡◌, ℕ, ◌<◌, ◌==◌, Bool, true, false, ◌++◌, ◌⊎◌, inl, inr, List, [], ◌∷◌, Option, Some, None, refl, sym, ap, subst, ◌∙◌}
 use Rattle.std.specs.List.{list_any}
+use Rattle.std.specs.FinMap as maps
 use Rattle.std.proofs.lemmas.Bool.{cases_eq, eq-eqb, or_left, or_right}
 use Rattle.std.proofs.lemmas.List.{append-nil}
 use Rattle.std.proofs.lemmas.List.Folds.{list_any-append}
-use Rattle.std.proofs.lemmas.Option.{same_Some, none-some}
+use Rattle.std.proofs.lemmas.Option.{same_Some}
 use Rattle.mv_base.specs.declared.ids.NodeId.{NodeId}
 use Rattle.mldp_fec.specs.declared.fec.Fec.{Fec}
-use Rattle.mldp_msgs.specs.declared.message.LabelMessage.{LabelMessage}
 use Rattle.mldp_msgs.specs.declared.message.LabelMessage.TheVariants as messages
+use Rattle.label_defs.specs.declared.end.End.{End}
 use Rattle.label_defs.specs.declared.label_use.LabelUse.{LabelUse}
 use Rattle.label_defs.specs.declared.label_use.LabelUse.TheVariants as uses
 use Rattle.label_defs.specs.declared.put.Put.{Put}
 use Rattle.label_defs.specs.LabelData.{Place, LabelData, use_of, has_tree, is_ready}
 use Rattle.label_defs.specs.Settling.{Stepped, with_use}
-use Rattle.label_defs.specs.Steps.{Call, Taken, Want, Unwant, Raised, Noticed, Timers, effect, counted, label_step}
+use Rattle.label_defs.specs.Steps.{Call, Taken, Want, Unwant, Raised, Noticed, Timers, effect, label_step}
 use Rattle.label_defs.specs.Settled.{Maps}
-use Rattle.label_defs.specs.Laws.{FreeIn, takes, MappingIs}
+use Rattle.label_defs.specs.Laws.{takes, MappingIs}
 use Rattle.label_defs.proofs.UseLemmas.{used, set_here, set_there}
 use Rattle.label_defs.proofs.TreeLemmas.{not_both, one_tree}
+use Rattle.label_defs.proofs.EffectLemmas.{held}
 use Rattle.label_defs.proofs.TurnLemmas.{Turn, Quiet, Takes, Gives}
 use Rattle.label_defs.proofs.OwnLemmas.{step_keeps, rest_tree, rest_ready, free_then, then_free}
 
 -- a part of a list with one more element behind it
-snoc_split : {A : Type 0} (xs front : List A) (x put : A) (behind : List A) → xs ++ x ∷ [] ≡ front ++ put ∷ behind → ((rest : List A) × (xs ≡ front ++ put ∷ rest)) ⊎ ((xs ≡ front) × (x ≡ put))
+pub snoc_split : {A : Type 0} (xs front : List A) (x put : A) (behind : List A) → xs ++ x ∷ [] ≡ front ++ put ∷ behind → ((rest : List A) × (xs ≡ front ++ put ∷ rest)) ⊎ ((xs ≡ front) × (x ≡ put))
 snoc_split [] [] x put behind e = inr (refl, cc)
 snoc_split [] (y ∷ []) x put behind e = absurd cc
 snoc_split [] (y ∷ (z ∷ front)) x put behind e = absurd cc
@@ -61,7 +63,7 @@ same_found : (place : Place) (start part : LabelData) (a b : List Put) (u v : No
 same_found place start part a b u v f g l k ea eu ef el x =
     subst (λ (n : ℕ). Found place start part b v g n) el (subst (λ (n : Fec). Found place start part b v n l) ef (subst (λ (n : NodeId). Found place start part b n f l) eu (subst (λ (n : List Put). Found place start part n u f l) ea x)))
 
-same_uses : (old next : LabelData) (labels : List LabelUse) → next.labels ≡ labels → (k : ℕ) → use_of next k ≡ used labels k
+pub same_uses : (old next : LabelData) (labels : List LabelUse) → next.labels ≡ labels → (k : ℕ) → use_of next k ≡ used labels k
 same_uses old next labels e k = ap (λ (ls : List LabelUse). used ls k) e
 
 module _ (place : Place) (start old : LabelData) (fec : Fec) (next : LabelData) (puts more : List Put) where
@@ -171,7 +173,11 @@ module _ (place : Place) (start old : LabelData) (fec : Fec) (next : LabelData) 
 
 -- ---- whole steps
 
-none_first : (before behind : List Put) (put : Put) → [] ≡ before ++ put ∷ behind → ⊥
+is_held : (o : Option End) → held o ≡ true → (end : End) × (o ≡ Some end) × (end.held ≡ true)
+is_held None e = absurd cc
+is_held (Some end) e = (end, refl, e)
+
+pub none_first : (before behind : List Put) (put : Put) → [] ≡ before ++ put ∷ behind → ⊥
 none_first [] behind put e = absurd cc
 none_first (first ∷ before) behind put e = absurd cc
 
@@ -204,7 +210,7 @@ mapping_is place now part call new before behind to fec label e is =
     let f = traced.found before behind to fec label is in
     record {
       toward = f.toward;
-      ready = f.ready;
+      ready = is_held (maps.get new.part.ends to) f.ready;
       free = free_then place now part call label f.free;
       least = λ lower lt x. f.least lower lt (then_free place now part call lower x);
       holds = f.holds;

@@ -1,10 +1,9 @@
 -- Which steps there are: where labels are lacking, at losses and raises, and at messages that are passed over.
-use Rattle.std.proofs.Common.{◌≡◌, ◌≢◌, ◌↔◌, ℕ, ◌+◌, ◌-◌, ◌<◌, ◌==◌, nat_le, zero, suc, Bool, true, false, not, cond, ◌&&◌, ◌||◌, List, [], ◌∷◌, map, filter, count_by, slice_get, slice_set, Option, Some, None, option_map, is_some, inl, inr, refl, sym, ap, subst, ◌∙◌, arith}
-use Rattle.std.specs.List.{list_any}
+use Rattle.std.proofs.Common.{◌≡◌, ◌≢◌, ◌↔◌, ℕ, ◌+◌, ◌-◌, ◌<◌, ◌==◌, nat_le, zero, suc, Bool, true, false, not, cond, ◌&&◌, List, [], ◌∷◌, filter, count_by, slice_get, slice_set, Option, Some, None, option_map, is_some, inl, inr, refl, sym, ap, subst, ◌∙◌, arith}
 use Rattle.std.specs.FinMap as maps
 use Rattle.std.specs.FinSet as sets
-use Rattle.std.proofs.lemmas.Bool.{cases_Bool, cases_eq, cond-false, and_parts, or_cases, or_left, or_right, false_from_ne_true}
-use Rattle.std.proofs.lemmas.Option.{same_Some, none-some}
+use Rattle.std.proofs.lemmas.Bool.{cases_Bool, cond-false, and_parts, or_cases, or_left, or_right, false_from_ne_true}
+use Rattle.std.proofs.lemmas.Option.{same_Some}
 use Rattle.mv_base.specs.declared.ids.NodeId.{NodeId}
 use Rattle.mldp_fec.specs.declared.fec.Fec.{Fec}
 use Rattle.mldp_msgs.specs.declared.message.LabelMessage.TheVariants as messages
@@ -16,14 +15,14 @@ use Rattle.label_defs.specs.Settling.{Stepped, with_use, is_ready_to, settle_all
 use Rattle.label_defs.specs.Steps.{Call, Taken, Want, Unwant, Raised, Noticed, Timers, released, with_release, freed, woken, without_session, effect, counted, label_step}
 use Rattle.label_defs.specs.Settled.{Settled, AllSettled}
 use Rattle.label_defs.specs.Laws.{is_free_in, needs_label, needing, LacksLabels}
-use Rattle.label_defs.proofs.KeyLemmas.{same_fec_equal, node_equal, node_cmp_total, node_cmp_exact, node_cases}
+use Rattle.label_defs.proofs.KeyLemmas.{same_fec_equal, node_equal, node_cmp_total, node_cmp_exact}
 use Rattle.label_defs.proofs.UseLemmas.{used_some, map_none}
 use Rattle.label_defs.proofs.SetLemmas.{cut_here}
 use Rattle.label_defs.proofs.TreeLemmas.{not_both}
 use Rattle.label_defs.proofs.EffectLemmas.{held}
 use Rattle.label_defs.proofs.LossLemmas.{freed_stays, ready_stays, loss_adds_no_branch}
 use Rattle.label_defs.proofs.CountLemmas.{count_as, count-map, count_set}
-use Rattle.label_defs.proofs.LackLemmas.{is_mapped_by, lacks, none_where}
+use Rattle.label_defs.proofs.LackLemmas.{is_mapped_by, none_where}
 use Rattle.label_defs.proofs.StepLemmas.{needs_nothing}
 
 -- ---- how many labels are free in a step

@@ -1,8 +1,8 @@
 -- Withdraws are answered; labels that leave or rest stay so until their moment.
-use Rattle.std.proofs.Common.{◌≡◌, ℕ, ◌+◌, ◌<◌, ◌==◌, nat_le, Bool, true, false, cond, ◌&&◌, ◌++◌, ◌⊎◌, inl, inr, List, [], ◌∷◌, filter, Option, Some, None, option_map, refl, sym, ap, subst, ◌∙◌}
-use Rattle.std.proofs.lemmas.Bool.{cases_Bool, cases_eq, cond-true, cond-false, eq-eqb, ne_eqb, eqb-true, and_parts, and_from, lt-leb}
+use Rattle.std.proofs.Common.{◌≡◌, ℕ, ◌+◌, ◌<◌, ◌==◌, nat_le, Bool, true, false, cond, ◌&&◌, ◌++◌, ◌⊎◌, inl, inr, List, [], ◌∷◌, filter, Some, option_map, refl, sym, ap, ◌∙◌}
+use Rattle.std.proofs.lemmas.Bool.{cases_Bool, cond-true, cond-false, eq-eqb, eqb-true, and_parts, and_from, lt-leb}
 use Rattle.std.proofs.lemmas.List.{append-nil}
-use Rattle.std.proofs.lemmas.Option.{same_Some, none-some}
+use Rattle.std.proofs.lemmas.Option.{same_Some}
 use Rattle.mv_base.specs.declared.ids.NodeId.{NodeId}
 use Rattle.mldp_fec.specs.declared.fec.Fec.{Fec}
 use Rattle.mldp_msgs.specs.declared.message.LabelMessage.TheVariants as messages
@@ -10,12 +10,12 @@ use Rattle.label_defs.specs.declared.label_use.LabelUse.{LabelUse}
 use Rattle.label_defs.specs.declared.label_use.LabelUse.TheVariants as uses
 use Rattle.label_defs.specs.declared.put.Put.{Put}
 use Rattle.label_defs.specs.LabelData.{Place, LabelData, same_fec, use_of}
-use Rattle.label_defs.specs.Settling.{Stepped, with_use}
-use Rattle.label_defs.specs.Steps.{Call, Taken, Want, Unwant, Raised, Noticed, Timers, released, freed, effect, counted, label_step}
+use Rattle.label_defs.specs.Settling.{Stepped}
+use Rattle.label_defs.specs.Steps.{Call, Taken, Want, Unwant, Raised, Noticed, Timers, released, effect, label_step}
 use Rattle.label_defs.specs.Laws.{releases, owed_releases, StopsLeaving}
 use Rattle.label_defs.proofs.KeyLemmas.{same_fec_equal, same_fec_itself, node_equal, node_itself}
 use Rattle.label_defs.proofs.UseLemmas.{used, set_there}
-use Rattle.label_defs.proofs.TurnLemmas.{Turn, Quiet, Takes, Gives}
+use Rattle.label_defs.proofs.TurnLemmas.{Turn}
 use Rattle.label_defs.proofs.OwnLemmas.{step_keeps, own_use, effect_use}
 
 -- ---- releases
@@ -65,7 +65,7 @@ only_answers place now part call new e =
 -- ---- labels that leave or rest
 
 -- in a turn a label that is neither free nor mapped stays
-turn_stays : (place : Place) (old : LabelData) (fec : Fec) (next : LabelData) (more : List Put) → Turn place old fec next more → (label : ℕ) (usage : LabelUse)
+pub turn_stays : (place : Place) (old : LabelData) (fec : Fec) (next : LabelData) (more : List Put) → Turn place old fec next more → (label : ℕ) (usage : LabelUse)
     → (usage ≡ uses.Free → ⊥) → ((own : Fec) (u : NodeId) → usage ≡ uses.Mapped own u → ⊥) → use_of old label ≡ Some usage → use_of next label ≡ Some usage
 turn_stays place old fec next more t label usage not_free not_mapped is = elim t.how [
   | inl q ↦ ap (λ (labels : List LabelUse). used labels label) q.labels ∙ is
@@ -94,7 +94,7 @@ either_way : {A : Type 0} (t : Bool) (x : A) → cond t x x ≡ x
 either_way true x = refl
 either_way false x = refl
 
-own_rests : (place : Place) (now : ℕ) (call : Call) (label until : ℕ) → now < until → own_use place now call label (uses.Resting until) ≡ uses.Resting until
+own_rests : (place : Place) (now : ℕ) (call : Call) (label until : ℕ) → (call ≡ Timers → now < until) → own_use place now call label (uses.Resting until) ≡ uses.Resting until
 own_rests place now (Taken from (messages.Release fec own)) label until later = either_way (label == own) (uses.Resting until)
 own_rests place now (Taken from (messages.Mapping fec own)) label until later = refl
 own_rests place now (Taken from (messages.Withdraw fec own)) label until later = refl
@@ -103,9 +103,9 @@ own_rests place now (Want fec) label until later = refl
 own_rests place now (Unwant fec) label until later = refl
 own_rests place now (Raised peer) label until later = refl
 own_rests place now (Noticed peer) label until later = refl
-own_rests place now Timers label until later = cond-false (nat_le until now) uses.Free (uses.Resting until) (lt-leb until now later)
+own_rests place now Timers label until later = cond-false (nat_le until now) uses.Free (uses.Resting until) (lt-leb until now (later refl))
 
-pub rests_on : (place : Place) (now : ℕ) (part : LabelData) (call : Call) (new : Stepped) (label until : ℕ) → now < until → use_of part label ≡ Some (uses.Resting until)
+pub rests_on : (place : Place) (now : ℕ) (part : LabelData) (call : Call) (new : Stepped) (label until : ℕ) → (call ≡ Timers → now < until) → use_of part label ≡ Some (uses.Resting until)
     → label_step place now part call ≡ Some new → use_of new.part label ≡ Some (uses.Resting until)
 rests_on place now part call new label until later is e =
     stays place now part call new label (uses.Resting until) (uses.Resting until) (λ h. absurd cc) (λ own u h. absurd cc) is (own_rests place now call label until later) e

@@ -1,9 +1,8 @@
 -- Each label step keeps all trees settled, and a settled tree needs nothing.
-use Rattle.std.proofs.Common.{◌≡◌, ℕ, ◌+◌, Bool, true, false, not, ◌&&◌, ◌||◌, List, [], ◌∷◌, ◌++◌, replicate, slice_get, zero, suc, Option, Some, None, is_some, option_map, refl, sym, ap, subst, ◌∙◌}
+use Rattle.std.proofs.Common.{◌≡◌, ℕ, ◌+◌, Bool, true, false, not, ◌&&◌, List, [], ◌∷◌, ◌++◌, replicate, slice_get, zero, suc, Option, Some, None, is_some, refl, sym, ap, subst, ◌∙◌}
 use Rattle.std.proofs.lemmas.Bool.{and_left, or_from, false_from_ne_true}
 use Rattle.std.proofs.lemmas.List.{append-nil}
 use Rattle.std.proofs.lemmas.Option.{none-some, same_Some}
-use Rattle.std.specs.FinMap as maps
 use Rattle.std.specs.FinSet as sets
 use Rattle.std.specs.FinSet.{FinSet}
 use Rattle.mv_base.specs.Number.{◌>>?◌}
@@ -15,14 +14,14 @@ use Rattle.label_defs.specs.declared.put.Put.{Put}
 use Rattle.label_defs.specs.declared.label_use.LabelUse.{LabelUse}
 use Rattle.label_defs.specs.declared.label_use.LabelUse.TheVariants as uses
 use Rattle.label_defs.specs.Keys.{fec_cmp, branch_cmp}
-use Rattle.label_defs.specs.LabelData.{Place, LabelData, fresh, same_fec, use_of, free_label, mapped_label, has_branch, has_tree, is_ready}
+use Rattle.label_defs.specs.LabelData.{Place, LabelData, fresh, same_fec, use_of, free_label, mapped_label, has_branch, has_tree}
 use Rattle.label_defs.specs.Settling.{Stepped, upstream_of, is_ready_to, change_by, change_of, changed, put_by, settle_all}
 use Rattle.label_defs.specs.Steps.{Call, Taken, Want, Unwant, Raised, Noticed, Timers, branch_to, effect, counted, label_step}
 use Rattle.label_defs.specs.Settled.{Settled, AllSettled, MayBe}
 use Rattle.label_defs.proofs.KeyLemmas.{fec_cmp_total, fec_cmp_exact, branch_cmp_total, branch_cmp_exact}
 use Rattle.label_defs.proofs.UseLemmas.{used_some, map_some, mapped_none, mapped_some}
 use Rattle.label_defs.proofs.SetLemmas.{passing_member, inserted_again, removed_again}
-use Rattle.label_defs.proofs.TreeLemmas.{like_settled, not_both, is_ready_at, ready_ends, at_root, needs_end, holder}
+use Rattle.label_defs.proofs.TreeLemmas.{like_settled, not_both, is_ready_at, needs_end}
 use Rattle.label_defs.proofs.SettleLemmas.{Good, settle_all_good}
 use Rattle.label_defs.proofs.EffectLemmas.{branch_dropped, nothing_changed, mapping_taken, leaf_added, leaf_dropped, raised, release_taken}
 use Rattle.label_defs.proofs.LossLemmas.{loss_good}
@@ -30,7 +29,7 @@ use Rattle.label_defs.proofs.TimerLemmas.{timed_good}
 
 -- ---- a fresh node
 
-all_free : (count k : ℕ) (usage : LabelUse) → slice_get (replicate count uses.Free) k ≡ Some usage → usage ≡ uses.Free
+pub all_free : (count k : ℕ) (usage : LabelUse) → slice_get (replicate count uses.Free) k ≡ Some usage → usage ≡ uses.Free
 all_free zero k usage e = absurd (none-some usage e)
 all_free (suc count) zero usage e = sym (same_Some uses.Free usage e)
 all_free (suc count) (suc k) usage e = all_free count k usage e

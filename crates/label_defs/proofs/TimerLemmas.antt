@@ -1,6 +1,5 @@
 -- The timers leave all trees settled but those that wait.
-use Rattle.std.proofs.Common.{◌≡◌, ℕ, nat_le, Bool, true, false, not, cond, ◌&&◌, ◌||◌, List, Option, Some, None, option_map, is_some, refl, sym, ap, subst, ◌∙◌}
-use Rattle.std.specs.List.{list_any}
+use Rattle.std.proofs.Common.{◌≡◌, ℕ, nat_le, Bool, true, false, not, cond, ◌&&◌, Option, Some, None, option_map, is_some, refl, sym, ap, subst, ◌∙◌}
 use Rattle.std.specs.FinMap as maps
 use Rattle.std.specs.FinSet as sets
 use Rattle.std.proofs.lemmas.Bool.{or_left}
@@ -10,18 +9,18 @@ use Rattle.mldp_fec.specs.declared.fec.Fec.{Fec}
 use Rattle.label_defs.specs.declared.end.End.{End}
 use Rattle.label_defs.specs.declared.label_use.LabelUse.{LabelUse}
 use Rattle.label_defs.specs.declared.label_use.LabelUse.TheVariants as uses
-use Rattle.label_defs.specs.LabelData.{Place, LabelData, same_fec, use_of, has_tree, is_ready, is_hold_due}
+use Rattle.label_defs.specs.LabelData.{Place, LabelData, use_of, has_tree, is_ready, is_hold_due}
 use Rattle.label_defs.specs.Settling.{is_ready_to}
 use Rattle.label_defs.specs.Steps.{woken, hold_run, holds_run, timed}
 use Rattle.label_defs.specs.Settled.{Maps, Settled, AllSettled}
 use Rattle.label_defs.proofs.KeyLemmas.{node_cmp_total, node_cmp_exact}
 use Rattle.label_defs.proofs.UseLemmas.{used-map, map_some}
 use Rattle.label_defs.proofs.SetLemmas.{get-changed}
-use Rattle.label_defs.proofs.TreeLemmas.{Tied, tied, not_both, waits}
+use Rattle.label_defs.proofs.TreeLemmas.{Tied, tied, waits}
 use Rattle.label_defs.proofs.SettleLemmas.{Good}
 use Rattle.label_defs.proofs.EffectLemmas.{held}
 
-woken_maps : (now : ℕ) (usage : LabelUse) (fec : Fec) (u : NodeId) → woken now usage ≡ uses.Mapped fec u → usage ≡ uses.Mapped fec u
+pub woken_maps : (now : ℕ) (usage : LabelUse) (fec : Fec) (u : NodeId) → woken now usage ≡ uses.Mapped fec u → usage ≡ uses.Mapped fec u
 woken_maps now uses.Free fec u e = e
 woken_maps now (uses.Mapped own v) fec u e = e
 woken_maps now (uses.Leaving own v) fec u e = e

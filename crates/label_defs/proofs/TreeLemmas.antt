@@ -1,5 +1,5 @@
 -- What a tree needs settles it, and leaves all others as they were.
-use Rattle.std.proofs.Common.{◌≡◌, ℕ, Bool, true, false, not, ◌&&◌, ◌||◌, ◌⊎◌, inl, inr, List, [], ◌∷◌, Option, Some, None, is_some, refl, sym, ap, subst, ◌∙◌}
+use Rattle.std.proofs.Common.{◌≡◌, ℕ, Bool, true, false, not, ◌&&◌, inl, inr, Option, Some, None, is_some, refl, sym, ap, subst, ◌∙◌}
 use Rattle.std.proofs.lemmas.Bool.{cases_eq}
 use Rattle.std.proofs.lemmas.Option.{same_Some, none-some}
 use Rattle.std.specs.FinSet as sets
@@ -9,13 +9,11 @@ use Rattle.mv_base.specs.declared.ids.NodeId.{NodeId}
 use Rattle.mldp_fec.specs.declared.fec.Fec.{Fec}
 use Rattle.label_defs.specs.declared.label_use.LabelUse.{LabelUse}
 use Rattle.label_defs.specs.declared.label_use.LabelUse.TheVariants as uses
-use Rattle.label_defs.specs.declared.change.Change.{Change}
-use Rattle.label_defs.specs.declared.change.Change.TheVariants as changes
 use Rattle.label_defs.specs.Keys.{fec_cmp}
 use Rattle.label_defs.specs.LabelData.{Place, LabelData, use_of, free_label, mapped_label, has_tree, is_ready}
 use Rattle.label_defs.specs.Settling.{with_use, upstream_of, change_by, change_of, changed, is_ready_to}
 use Rattle.label_defs.specs.Settled.{Maps, Settled}
-use Rattle.label_defs.proofs.KeyLemmas.{fec_cmp_total, fec_cmp_exact, fec_cases}
+use Rattle.label_defs.proofs.KeyLemmas.{fec_cmp_total, fec_cmp_exact}
 use Rattle.label_defs.proofs.UseLemmas.{set_here, set_there, mapped_none, mapped_some, free_some}
 use Rattle.label_defs.proofs.SetLemmas.{inserted_here, inserted_other, removed_here, removed_other}
 

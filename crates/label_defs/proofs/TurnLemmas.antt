@@ -1,22 +1,18 @@
 -- What the settling of one tree does to the labels and puts, and what holds behind a row of them.
 use Rattle.std.proofs.Common.{◌≡◌, ℕ, ◌-◌, Bool, true, false, not, ◌&&◌, is_some, ◌++◌, List, [], ◌∷◌, slice_set, Option, Some, None, refl, sym, ap, subst, ◌∙◌, inl, inr, ◌⊎◌}
 use Rattle.std.proofs.lemmas.Bool.{and_left}
-use Rattle.std.proofs.lemmas.List.{append-nil}
 use Rattle.std.proofs.lemmas.Option.{same_Some, none-some}
 use Rattle.mv_base.specs.Number.{◌>>?◌}
 use Rattle.mv_base.specs.declared.ids.NodeId.{NodeId}
 use Rattle.mldp_fec.specs.declared.fec.Fec.{Fec}
 use Rattle.mldp_msgs.specs.declared.message.LabelMessage.TheVariants as messages
-use Rattle.label_defs.specs.declared.change.Change.{Change}
-use Rattle.label_defs.specs.declared.change.Change.TheVariants as changes
-use Rattle.label_defs.specs.declared.label_use.LabelUse.{LabelUse}
 use Rattle.label_defs.specs.declared.label_use.LabelUse.TheVariants as uses
 use Rattle.label_defs.specs.declared.put.Put.{Put}
 use Rattle.label_defs.specs.LabelData.{Place, LabelData, use_of, free_label, mapped_label, has_tree, is_ready}
-use Rattle.label_defs.specs.Settling.{Stepped, with_use, upstream_of, is_ready_to, change_by, change_of, changed, put_by, settle_all}
+use Rattle.label_defs.specs.Settling.{Stepped, upstream_of, is_ready_to, change_by, change_of, changed, put_by, settle_all}
 use Rattle.label_defs.specs.Settled.{Maps}
 use Rattle.label_defs.specs.Laws.{needs_label}
-use Rattle.label_defs.proofs.UseLemmas.{Least, mapped_none, mapped_some, free_some}
+use Rattle.label_defs.proofs.UseLemmas.{Least, mapped_some, free_some}
 use Rattle.label_defs.proofs.TreeLemmas.{holder}
 use Rattle.label_defs.proofs.SettleLemmas.{bind_some}
 

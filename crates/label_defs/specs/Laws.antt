@@ -1,17 +1,19 @@
 -- What the laws of the label steps speak of.
-use Rattle.std.specs.Prelude.{◌≡◌, ℕ, ◌<◌, ◌==◌, ◌&&◌, nat_le, Bool, true, false, not, List, [], ◌∷◌, Some, is_some, count_by, ◌⊎◌}
+use Rattle.std.specs.Prelude.{◌≡◌, ℕ, ◌<◌, ◌==◌, ◌&&◌, nat_le, Bool, true, false, not, List, [], ◌∷◌, ◌++◌, Some, is_some, count_by, ◌⊎◌}
 use Rattle.std.specs.List.{list_any, filter}
+use Rattle.std.specs.FinMap as maps
 use Rattle.std.specs.FinSet as sets
 use Rattle.std.specs.FinSet.{FinSet}
 use Rattle.mv_base.specs.declared.ids.NodeId.{NodeId}
 use Rattle.mldp_fec.specs.declared.fec.Fec.{Fec}
 use Rattle.mldp_msgs.specs.declared.message.LabelMessage.{LabelMessage}
 use Rattle.mldp_msgs.specs.declared.message.LabelMessage.TheVariants as messages
+use Rattle.label_defs.specs.declared.end.End.{End}
 use Rattle.label_defs.specs.declared.label_use.LabelUse.{LabelUse}
 use Rattle.label_defs.specs.declared.label_use.LabelUse.TheVariants as uses
 use Rattle.label_defs.specs.declared.put.Put.{Put}
 use Rattle.label_defs.specs.Keys.{fec_cmp}
-use Rattle.label_defs.specs.LabelData.{Place, LabelData, use_of, mapped_label, has_tree, is_ready}
+use Rattle.label_defs.specs.LabelData.{Place, LabelData, use_of, mapped_label, has_tree}
 use Rattle.label_defs.specs.Settling.{is_ready_to}
 use Rattle.label_defs.specs.Steps.{Call, Taken, Noticed, Timers, effect}
 use Rattle.label_defs.specs.Settled.{Maps}
@@ -40,6 +42,21 @@ is_towards node (uses.Mapped fec upstream) = upstream.0 == node.0
 is_towards node (uses.Leaving fec upstream) = upstream.0 == node.0
 is_towards node other = false
 
+-- a withdraw to that neighbour
+abbrev pub withdraw_to : NodeId → Fec → ℕ → Put
+withdraw_to to fec label = record { to = to; message = messages.Withdraw fec label }
+
+-- A withdraw that a step puts is of a label that was mapped so. Behind the step the label is leaving, and the node is not on the
+-- tree.
+pub record WithdrawIs (part new : LabelData) (to : NodeId) (fec : Fec) (label : ℕ) : Type 0 where
+  pub mapped : Maps part fec label to
+  pub leaves : use_of new label ≡ Some (uses.Leaving fec to)
+  pub off : has_tree new fec ≡ false
+
+-- what becomes of a mapped label: it stays so, or it is leaving and its withdraw was put
+abbrev pub MappedThen : LabelData → List Put → Fec → NodeId → ℕ → Type 0
+MappedThen new puts fec to label = Maps new fec label to ⊎ ((use_of new label ≡ Some (uses.Leaving fec to)) × ((before : List Put) × (behind : List Put) × (puts ≡ before ++ withdraw_to to fec label ∷ behind)))
+
 -- ---- labels that are taken
 
 -- whether a label that is used so is free in a step: it was free, or rested until a moment that the timers find past, or was of
@@ -55,17 +72,25 @@ is_free_in now call other = false
 abbrev pub FreeIn : ℕ → LabelData → Call → ℕ → Type 0
 FreeIn now part call label = (usage : LabelUse) × (use_of part label ≡ Some usage) × (is_free_in now call usage ≡ true)
 
+-- what becomes of a label that is free in a step: it is free behind it, or it is mapped and its mapping was put
+abbrev pub FreeThen : LabelData → List Put → ℕ → Type 0
+FreeThen new puts label = (use_of new label ≡ Some uses.Free) ⊎ ((fec : Fec) × (to : NodeId) × (before : List Put) × (behind : List Put) × Maps new fec label to × (puts ≡ before ++ record { to = to; message = messages.Mapping fec label } ∷ behind))
+
 -- whether the message maps the label
 abbrev pub takes : ℕ → LabelMessage → Bool
 takes label (messages.Mapping fec own) = own == label
 takes label other = false
 
--- A mapping that a step puts, behind others. It goes to the neighbour towards the root of the tree, and the session with it is
--- ready. It takes a label that is free in the step, and each lower one that is so was taken by a mapping before. Behind the step
--- the label is mapped so.
+-- the end of the session is up, and its hold was run
+abbrev pub IsHeld : LabelData → NodeId → Type 0
+IsHeld part node = (end : End) × (maps.get part.ends node ≡ Some end) × (end.held ≡ true)
+
+-- A mapping that a step puts, behind others. It goes to the neighbour towards the root of the tree, and the hold of its session
+-- was run. It takes a label that is free in the step, and each lower one that is so was taken by a mapping before. Behind the
+-- step the label is mapped so.
 pub record MappingIs (place : Place) (now : ℕ) (part : LabelData) (call : Call) (new : LabelData) (before : List Put) (to : NodeId) (fec : Fec) (label : ℕ) : Type 0 where
   pub toward : place.upstream fec ≡ Some to
-  pub ready : is_ready new to ≡ true
+  pub ready : IsHeld new to
   pub free : FreeIn now part call label
   pub least : (lower : ℕ) → lower < label → FreeIn now part call lower → list_any (λ (put : Put). takes lower put.message) before ≡ true
   pub holds : Maps new fec label to

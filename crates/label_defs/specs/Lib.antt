@@ -4,3 +4,4 @@ pub mod Settling
 pub mod Steps
 pub mod Settled
 pub mod Laws
+pub mod Row

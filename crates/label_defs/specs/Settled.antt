@@ -1,5 +1,5 @@
 -- What holds of each tree of a node after every label step.
-use Rattle.std.specs.Prelude.{◌≡◌, ℕ, ◌&&◌, true, false, not, is_some, Some, Option, ⊤}
+use Rattle.std.specs.Prelude.{◌≡◌, ℕ, ◌&&◌, true, false, not, is_some, Some, ⊤}
 use Rattle.std.specs.FinSet as sets
 use Rattle.mv_base.specs.declared.ids.NodeId.{NodeId}
 use Rattle.mldp_fec.specs.declared.fec.Fec.{Fec}

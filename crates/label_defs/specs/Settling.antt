@@ -1,5 +1,5 @@
 -- What a tree of a node needs, and what becomes of the node when it gets it (RFC 6388 sections 2.4.1.1, 2.4.2.1).
-use Rattle.std.specs.Prelude.{ℕ, ◌-◌, ◌==◌, Bool, true, false, List, [], ◌∷◌, ◌++◌, slice_set, Option, None, Some}
+use Rattle.std.specs.Prelude.{ℕ, ◌-◌, Bool, true, false, List, [], ◌∷◌, ◌++◌, slice_set, Option, None, Some}
 use Rattle.std.specs.FinSet as sets
 use Rattle.mv_base.specs.declared.ids.NodeId.{NodeId}
 use Rattle.mv_base.specs.Number.{◌>>?◌}

@@ -13,9 +13,10 @@ ghost use Rattle.label_defs.specs.declared.label_use.LabelUse.TheVariants as use
 ghost use Rattle.label_defs.specs.declared.put.Put.{Put};
 ghost use Rattle.label_defs.specs.LabelData.{Place, LabelData, fresh, use_of, is_up};
 ghost use Rattle.label_defs.specs.Settling.{Stepped, settle_all};
-ghost use Rattle.label_defs.specs.Steps.{Call, Taken, Raised, Noticed, Timers, label_step};
-ghost use Rattle.label_defs.specs.Settled.{Settled, AllSettled, MayBe};
-ghost use Rattle.label_defs.specs.Laws.{releases, owed_releases, StopsLeaving, is_towards, MappingIs, LacksLabels};
+ghost use Rattle.label_defs.specs.Steps.{Call, Taken, Raised, Noticed, Timers, effect, label_step};
+ghost use Rattle.label_defs.specs.Settled.{Maps, Settled, AllSettled, MayBe};
+ghost use Rattle.label_defs.specs.Row.{LeafToRoot};
+ghost use Rattle.label_defs.specs.Laws.{releases, owed_releases, StopsLeaving, is_towards, withdraw_to, WithdrawIs, MappedThen, FreeIn, FreeThen, MappingIs, LacksLabels};
 
 /// In a node in which nothing has happened each tree is settled.
 pub fn fresh_is_settled()
@@ -41,13 +42,13 @@ pub fn withdraws_are_answered()
 {}
 
 /// A label that was withdrawn leaves until its neighbour releases it or the loss of that session is noticed. From its release
-/// on it rests for more than the life of a copy, whatever is done meanwhile.
+/// on it rests for more than the life of a copy, and the timers alone end that, when it is due.
 pub fn labels_rest()
     ensures leaves { (place : Place) (now : ℕ) (part : LabelData) (call : Call) (new : Stepped) (label : ℕ) (fec : Fec) (to : NodeId) → use_of part label ≡ Some (uses.Leaving fec to) → label_step place now part call ≡ Some new →
         (use_of new.part label ≡ Some (uses.Leaving fec to)) ⊎ StopsLeaving call fec to label }
     ensures released { (place : Place) (now : ℕ) (part : LabelData) (from : NodeId) (fec : Fec) (label : ℕ) (new : Stepped) → use_of part label ≡ Some (uses.Leaving fec from) → label_step place now part (Taken from (messages.Release fec label)) ≡ Some new →
         use_of new.part label ≡ Some (uses.Resting (now + place.life + 1)) }
-    ensures rests { (place : Place) (now : ℕ) (part : LabelData) (call : Call) (new : Stepped) (label until : ℕ) → now < until → use_of part label ≡ Some (uses.Resting until) → label_step place now part call ≡ Some new →
+    ensures rests { (place : Place) (now : ℕ) (part : LabelData) (call : Call) (new : Stepped) (label until : ℕ) → (call ≡ Timers → now < until) → use_of part label ≡ Some (uses.Resting until) → label_step place now part call ≡ Some new →
         use_of new.part label ≡ Some (uses.Resting until) }
 {}
 
@@ -83,6 +84,27 @@ pub fn messages_are_passed_over()
         label_step place now part (Taken from (messages.Release fec label)) ≡ Some (record { part = part; puts = [] }) }
 {}
 
+/// A label that is free in a step stays so, unless a mapping that the step puts takes it.
+pub fn free_labels_stay()
+    ensures { (place : Place) (now : ℕ) (part : LabelData) (call : Call) (new : Stepped) (label : ℕ) → label_step place now part call ≡ Some new → FreeIn now part call label → FreeThen new.part new.puts label }
+{}
+
+/// A label that was mapped stays so, unless its withdraw is put and it leaves, or the loss of its session is noticed. A withdraw
+/// is put for no other label.
+pub fn withdraws_leave()
+    ensures mapped { (place : Place) (now : ℕ) (part : LabelData) (call : Call) (new : Stepped) (label : ℕ) (fec : Fec) (to : NodeId) → label_step place now part call ≡ Some new → Maps part fec label to →
+        MappedThen new.part new.puts fec to label ⊎ (call ≡ Noticed to) }
+    ensures put { (place : Place) (now : ℕ) (part : LabelData) (call : Call) (new : Stepped) (before behind : List Put) (to : NodeId) (fec : Fec) (label : ℕ) → label_step place now part call ≡ Some new →
+        new.puts ≡ before ++ withdraw_to to fec label ∷ behind → WithdrawIs part new.part to fec label }
+{}
+
+/// Behind the own effect of a call, trees that settle change no branch, no leaf and no end.
+pub fn settling_keeps()
+    ensures branches { (place : Place) (now : ℕ) (part : LabelData) (call : Call) (new : Stepped) → label_step place now part call ≡ Some new → new.part.branches ≡ (effect place now part call).0.part.branches }
+    ensures leaves { (place : Place) (now : ℕ) (part : LabelData) (call : Call) (new : Stepped) → label_step place now part call ≡ Some new → new.part.leaves ≡ (effect place now part call).0.part.leaves }
+    ensures ends { (place : Place) (now : ℕ) (part : LabelData) (call : Call) (new : Stepped) → label_step place now part call ≡ Some new → new.part.ends ≡ (effect place now part call).0.part.ends }
+{}
+
 /// There is no step exactly where more of its trees need a label than are free in it.
 pub fn no_label()
     ensures { (place : Place) (now : ℕ) (part : LabelData) (call : Call) → (label_step place now part call ≡ None) ↔ LacksLabels place now part call }
@@ -92,4 +114,9 @@ pub fn no_label()
 pub fn losses_need_no_label()
     ensures noticed { (place : Place) (now : ℕ) (part : LabelData) (peer : NodeId) → AllSettled place part → label_step place now part (Noticed peer) ≢ None }
     ensures raised { (place : Place) (now : ℕ) (part : LabelData) (peer : NodeId) → label_step place now part (Raised peer) ≢ None }
+{}
+
+/// In a row of three nodes a tree that the leaf wants is mapped hop by hop, and stands then up to the root.
+pub fn leaf_to_root()
+    ensures { (life now raised count : ℕ) (fec : Fec) → 1 ≤ count → LeafToRoot life now raised count fec }
 {}

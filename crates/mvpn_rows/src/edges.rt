@@ -8,8 +8,7 @@ const TWO_EDGES: &str =
     "edge E1 192.0.2.1\nedge E2 192.0.2.2\ncore C 192.0.2.9\nlink E1 C 1\nlink E2 C 1\nvrf V1 E1 1 65000:1 65000:1 highest\nvrf V2 E2 1 65000:1 65000:1 highest\nsite X 10.1.0.0/24\nsite Y 10.2.0.0/24\niface X1 V1 X 10.1.0.1\niface Y1 V2 Y 10.2.0.1\n";
 
 /// The first site is attached at the second edge as well, and another site at the first edge.
-const DUAL_HOMED: &str =
-    "site W 10.4.0.0/24\niface X2 V2 X 10.1.0.2\niface W1 V1 W 10.4.0.1\n";
+const DUAL_HOMED: &str = "site W 10.4.0.0/24\niface X2 V2 X 10.1.0.2\niface W1 V1 W 10.4.0.1\n";
 
 /// A third site at the first edge, and at the second one a site with a longer prefix of the first site's addresses.
 const LONGER_ELSEWHERE: &str =

@@ -304,9 +304,11 @@ targets_meets row word = or_fault_meets _ _ row word _ (record { holds = λ targ
 
 pub targets_formed : (row : Row) (word : Placed) → Meets (All IsTarget) (targets_at row word)
 unfolding targets_at
-targets_formed row word = or_fault_meets _ _ row word _ (record { holds = λ targets h.
-    let list = list_is same_target target_of word.text targets h in
-    each_holds IsTarget target_of (λ text target e. (target_finds text).holds target e) (slice_split (λ b. b == 44) word.text) targets list.each })
+targets_formed row word = or_fault_meets _ _ row word _ (record {
+  holds = λ targets h.
+      let list = list_is same_target target_of word.text targets h in
+      each_holds IsTarget target_of (λ text target e. (target_finds text).holds target e) (slice_split (λ b. b == 44) word.text) targets list.each;
+})
 
 no_rest : (bits rest : ℕ) → (nat_le bits 32 && rest == 0) ≡ true → (bits ≤ 32) × (rest ≡ 0)
 no_rest bits rest h = grind (arith, nat_tests)

@@ -1,0 +1,2 @@
+//! A network of label nodes at the level of messages.
+#![tactic(auto)]

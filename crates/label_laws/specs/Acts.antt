@@ -50,8 +50,8 @@ abbrev pub copied : LabelNetwork → NodeId → Fec → ℕ → LabelNetwork
 copied network n fec number =
     with_copies network (λ from to.
     if from.0 == n.0
-      then (network.direction from to).copies ++ map (λ label. record { label = label; put_at = network.clock; number = number }) (labels_to to fec (sets.items (network.node n).branches))
-      else (network.direction from to).copies)
+    then (network.direction from to).copies ++ map (λ label. record { label = label; put_at = network.clock; number = number }) (labels_to to fec (sets.items (network.node n).branches))
+    else (network.direction from to).copies)
 
 -- a copy leaves its link
 abbrev pub without_copy : LabelNetwork → NodeId → NodeId → ℕ → LabelNetwork

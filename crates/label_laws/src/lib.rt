@@ -1,2 +1,6 @@
-//! A network of label nodes at the level of messages.
+//! A network of label nodes at the level of messages, and the label rule that every run of it keeps.
 #![tactic(auto)]
+
+mod laws;
+
+pub use laws::{runs_keep_the_rule, start_keeps_the_rule, the_rule_in_full};

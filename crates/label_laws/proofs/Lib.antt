@@ -1,0 +1,17 @@
+pub mod Frames
+pub mod Phases
+pub mod Views
+pub mod NodeRule
+pub mod Uses
+pub mod Trees
+pub mod Turns
+pub mod Pops
+pub mod Withdraws
+pub mod Releases
+pub mod Sessions
+pub mod Ends
+pub mod Times
+pub mod Copies
+pub mod Steps
+pub mod Runs
+pub mod Full

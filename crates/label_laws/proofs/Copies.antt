@@ -1,12 +1,11 @@
 -- Copies are put, land and are dropped.
-use Rattle.std.proofs.Common.{◌≡◌, ◌≢◌, ℕ, ◌+◌, ◌≤◌, ◌==◌, ◌&&◌, Bool, true, false, cond, ◌⊎◌, inl, inr, refl, sym, ap, subst, ◌∙◌, List, [], ◌∷◌, ◌++◌, map, filter, take, drop, zero, suc, slice_get, Option, Some, None, is_some, arith}
-use Rattle.std.proofs.lemmas.Bool.{cases_Bool, and_parts, or_left, or_right, eqb-true}
+use Rattle.std.proofs.Common.{◌≡◌, ◌≢◌, ℕ, ◌==◌, ◌&&◌, Bool, true, false, cond, inl, inr, refl, sym, ap, subst, ◌∙◌, List, [], ◌∷◌, ◌++◌, map, take, drop, zero, suc, slice_get, Option, Some, None, arith}
+use Rattle.std.proofs.lemmas.Bool.{cases_Bool, and_parts, or_left, or_right}
 use Rattle.std.proofs.lemmas.Option.{same_Some, none-some}
 use Rattle.std.specs.List.{AllByRecursion, list_any, remove}
 use Rattle.std.specs.Cmp.{tied_itself}
 use Rattle.std.specs.Ordering.{eq_by_cmp, is_eq}
 use Rattle.std.specs.FinSet as sets
-use Rattle.std.specs.FinSet.{FinSet}
 use Rattle.mv_base.specs.declared.ids.NodeId.{NodeId}
 use Rattle.mldp_fec.specs.declared.fec.Fec.{Fec}
 use Rattle.label_defs.specs.declared.branch.Branch.{Branch}
@@ -16,10 +15,10 @@ use Rattle.label_defs.specs.declared.label_use.LabelUse.TheVariants as uses
 use Rattle.label_defs.specs.Keys.{branch_cmp}
 use Rattle.label_defs.specs.LabelData.{LabelData, same_fec, use_of}
 use Rattle.label_defs.specs.Steps.{branch_to}
-use Rattle.label_defs.proofs.KeyLemmas.{branch_cmp_total, node_equal, node_apart, node_cases, node_itself, same_fec_equal}
-use Rattle.label_laws.specs.Network.{PacketCopy, Direction, LabelNetwork}
+use Rattle.label_defs.proofs.KeyLemmas.{branch_cmp_total, node_equal, node_itself, same_fec_equal}
+use Rattle.label_laws.specs.Network.{PacketCopy, LabelNetwork}
 use Rattle.label_laws.specs.Acts.{with_copies, labels_to, copied, without_copy, forwarded, landed}
-use Rattle.label_laws.specs.Rule.{Holds, View, ViewAt, Stand, mapped, leaving, resting, Unheld, Covered, CopyOk, Rule, Kept, end_of, branch_trees, is_held}
+use Rattle.label_laws.specs.Rule.{Holds, LabelCovers, mapped, leaving, resting, Unheld, Covered, CopyOk, Rule, Kept, end_of, branch_trees, is_held}
 use Rattle.label_laws.proofs.Phases.{branch_held}
 use Rattle.label_laws.proofs.Times.{each_filtered}
 
@@ -94,7 +93,7 @@ each_label d to fec =
 
 -- ---- copies are put
 
-held_stands : (life : ℕ) (vpn_of : Fec → ℕ) (u : NodeId) (f : Fec) (vpn t : ℕ) (s : Option LabelUse) → vpn_of f ≡ vpn → Holds f u s → Stand life vpn_of u s vpn t
+held_stands : (life : ℕ) (vpn_of : Fec → ℕ) (u : NodeId) (f : Fec) (vpn t : ℕ) (s : Option LabelUse) → vpn_of f ≡ vpn → Holds f u s → LabelCovers life vpn_of u s vpn t
 held_stands life vpn_of u f vpn t s fits h = elim h [ inl e ↦ mapped f e fits | inr e ↦ leaving f e ]
 
 -- a copy that is put on a branch
@@ -146,7 +145,7 @@ not_unheld : (near : Option End) (t : ℕ) → is_held near ≡ true → Unheld 
 not_unheld near t h y = (let x : y.end.held ≡ true = sym (ap is_held y.up) ∙ h in let z = y.unheld in absurd cc)
 
 -- a copy under a mapped label is of the tree's VPN
-fits_by : (life : ℕ) (vpn_of : Fec → ℕ) (u : NodeId) (f : Fec) (vpn t : ℕ) (s : Option LabelUse) → s ≡ Some (uses.Mapped f u) → Stand life vpn_of u s vpn t → vpn_of f ≡ vpn
+fits_by : (life : ℕ) (vpn_of : Fec → ℕ) (u : NodeId) (f : Fec) (vpn t : ℕ) (s : Option LabelUse) → s ≡ Some (uses.Mapped f u) → LabelCovers life vpn_of u s vpn t → vpn_of f ≡ vpn
 fits_by life vpn_of u f vpn t s e (mapped g h p) = let same : f ≡ g = cc in ap vpn_of same ∙ p
 fits_by life vpn_of u f vpn t s e (leaving g h) = absurd cc
 fits_by life vpn_of u f vpn t s e (resting until h p) = absurd cc

@@ -1,5 +1,5 @@
 -- The loss of a session is noticed, a node begins anew, and an end comes up.
-use Rattle.std.proofs.Common.{◌≡◌, ◌≢◌, ℕ, ◌+◌, ◌≤◌, ◌-◌, ◌==◌, ◌&&◌, Bool, true, false, cond, not, ◌⊎◌, inl, inr, refl, sym, ap, subst, ◌∙◌, List, [], ◌∷◌, filter, replicate, slice_get, zero, suc, Option, Some, None, is_some, option_map}
+use Rattle.std.proofs.Common.{◌≡◌, ◌≢◌, ℕ, ◌-◌, ◌==◌, ◌&&◌, Bool, true, false, not, inl, inr, refl, sym, ap, subst, ◌∙◌, List, filter, replicate, slice_get, zero, suc, Some, None, is_some, option_map}
 use Rattle.std.proofs.lemmas.Bool.{cases_Bool, and_parts, and_right}
 use Rattle.std.proofs.lemmas.Option.{same_Some, none-some}
 use Rattle.std.specs.FinMap as maps
@@ -7,7 +7,6 @@ use Rattle.std.specs.FinSet as sets
 use Rattle.mv_base.specs.declared.ids.NodeId.{NodeId}
 use Rattle.mldp_fec.specs.declared.fec.Fec.{Fec}
 use Rattle.mldp_msgs.specs.declared.message.LabelMessage.{LabelMessage}
-use Rattle.label_defs.specs.declared.branch.Branch.{Branch}
 use Rattle.label_defs.specs.declared.end.End.{End}
 use Rattle.label_defs.specs.declared.label_use.LabelUse.{LabelUse}
 use Rattle.label_defs.specs.declared.label_use.LabelUse.TheVariants as uses
@@ -17,13 +16,12 @@ use Rattle.label_defs.specs.Steps.{branch_to, freed, without_session}
 use Rattle.label_defs.proofs.KeyLemmas.{branch_cmp_total, branch_cmp_exact, node_cmp_total, node_cmp_exact, node_cases, node_itself, node_apart}
 use Rattle.label_defs.proofs.SetLemmas.{retained, put_here, put_other, cut_here, cut_other}
 use Rattle.label_defs.proofs.UseLemmas.{used_some, used-map}
-use Rattle.label_laws.specs.Network.{Direction, LabelNetwork, at_node}
-use Rattle.label_laws.specs.Rule.{Holds, IsOther, View, ViewAt, Unheld, Stand, Covered, OfTrees, Rule, none, end_of, branch_trees, is_of_owner, is_release_of}
+use Rattle.label_laws.specs.Network.{LabelNetwork, at_node}
+use Rattle.label_laws.specs.Rule.{IsOther, ViewAt, OfTrees, Rule, none, end_of, branch_trees, is_of_owner, is_release_of}
 use Rattle.label_laws.proofs.Frames.{along_view, stand_along, covered_along, covered_if}
-use Rattle.label_laws.proofs.Phases.{not_none}
 use Rattle.label_laws.proofs.Views.{same_view, down_view, bare_view, risen_view, far_view}
 use Rattle.label_laws.proofs.NodeRule.{OwnerView, BranchView, node_rule}
-use Rattle.label_laws.proofs.Uses.{holds_along, other_along, free_is_other, map_same_or_other, map_held, freed_ends, freed_other, ends_stands}
+use Rattle.label_laws.proofs.Uses.{holds_along, map_same_or_other, map_held, freed_ends, freed_other, ends_stands}
 use Rattle.label_laws.proofs.Trees.{fewer_trees}
 
 -- one node becomes another, and nothing else changes

@@ -1,6 +1,6 @@
 -- What stays where one node or what is in transit changes. F is what is read of it.
-use Rattle.std.proofs.Common.{◌≡◌, ◌≢◌, ℕ, ◌+◌, ◌≤◌, ◌==◌, Bool, true, false, cond, ◌&&◌, ◌⊎◌, inl, inr, refl, sym, ap, subst, ◌∙◌, List, [], ◌∷◌, ◌++◌, filter, Option, Some, None}
-use Rattle.std.proofs.lemmas.Bool.{cases_Bool, cond-true, cond-false, and_parts, and_from, and_left, and_right}
+use Rattle.std.proofs.Common.{◌≡◌, ◌≢◌, ℕ, ◌+◌, ◌≤◌, ◌==◌, Bool, true, false, cond, ◌&&◌, inl, inr, refl, sym, ap, subst, ◌∙◌, List, [], ◌∷◌, ◌++◌, filter, Option}
+use Rattle.std.proofs.lemmas.Bool.{cond-true, cond-false, and_from, and_left, and_right}
 use Rattle.std.proofs.lemmas.List.{append-nil, append_assoc}
 use Rattle.std.proofs.lemmas.List.Elements.{filter-append}
 use Rattle.std.specs.List.{AllByRecursion}
@@ -11,9 +11,9 @@ use Rattle.label_defs.specs.declared.end.End.{End}
 use Rattle.label_defs.specs.declared.label_use.LabelUse.{LabelUse}
 use Rattle.label_defs.specs.declared.put.Put.{Put}
 use Rattle.label_defs.specs.LabelData.{LabelData, use_of}
-use Rattle.label_defs.proofs.KeyLemmas.{node_equal, node_itself, node_apart, node_cases}
+use Rattle.label_defs.proofs.KeyLemmas.{node_equal, node_itself, node_apart}
 use Rattle.label_laws.specs.Network.{PacketCopy, Direction, LabelNetwork, at_node, messages_to, sent, behind}
-use Rattle.label_laws.specs.Rule.{View, Covered, Stand, CopyOk, end_of}
+use Rattle.label_laws.specs.Rule.{View, Covered, LabelCovers, CopyOk, end_of}
 
 -- a choice, read by F
 pub read_cond : {A X : Type 0} (F : A → X) (b : Bool) (x y : A) → (b ≡ true → F x ≡ F y) → F (cond b x y) ≡ F y
@@ -130,8 +130,8 @@ behind_silent w n next = λ i. record w { node = at_node n next w.node; directio
 
 -- ---- copies
 
-pub stand_along : (life : ℕ) (vpn_of : Fec → ℕ) (u : NodeId) (vpn t : ℕ) (r s : Option LabelUse) → s ≡ r → Stand life vpn_of u r vpn t → Stand life vpn_of u s vpn t
-stand_along life vpn_of u vpn t r s e h = let P : Option LabelUse → Type 0 = λ x. Stand life vpn_of u x vpn t in subst P (sym e) h
+pub stand_along : (life : ℕ) (vpn_of : Fec → ℕ) (u : NodeId) (vpn t : ℕ) (r s : Option LabelUse) → s ≡ r → LabelCovers life vpn_of u r vpn t → LabelCovers life vpn_of u s vpn t
+stand_along life vpn_of u vpn t r s e h = let P : Option LabelUse → Type 0 = λ x. LabelCovers life vpn_of u x vpn t in subst P (sym e) h
 
 pub covered_along : (life : ℕ) (vpn_of : Fec → ℕ) (u : NodeId) (vpn t : ℕ) (c d : Option End) (r s : Option LabelUse) → d ≡ c → s ≡ r → Covered life vpn_of u c r vpn t → Covered life vpn_of u d s vpn t
 covered_along life vpn_of u vpn t c d r s p e h =
@@ -139,7 +139,7 @@ covered_along life vpn_of u vpn t c d r s p e h =
     subst (λ x. Covered life vpn_of u d x vpn t) (sym e) h1
 
 -- where what stands still does, and the end is the same
-pub covered_if : (life : ℕ) (vpn_of : Fec → ℕ) (u : NodeId) (vpn t : ℕ) (c d : Option End) (r s : Option LabelUse) → d ≡ c → (Stand life vpn_of u r vpn t → Stand life vpn_of u s vpn t) → Covered life vpn_of u c r vpn t → Covered life vpn_of u d s vpn t
+pub covered_if : (life : ℕ) (vpn_of : Fec → ℕ) (u : NodeId) (vpn t : ℕ) (c d : Option End) (r s : Option LabelUse) → d ≡ c → (LabelCovers life vpn_of u r vpn t → LabelCovers life vpn_of u s vpn t) → Covered life vpn_of u c r vpn t → Covered life vpn_of u d s vpn t
 covered_if life vpn_of u vpn t c d r s p h x =
     covered_along life vpn_of u vpn t c d s s p refl (elim x [ inl off ↦ inl off | inr y ↦ elim y [ inl young ↦ inr (inl young) | inr st ↦ inr (inr (h st)) ] ])
 

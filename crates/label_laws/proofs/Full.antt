@@ -1,13 +1,13 @@
 -- The rule gives the label rule in full, and a network in which nothing has happened meets it.
-use Rattle.std.proofs.Common.{◌≡◌, ◌≢◌, ℕ, ◌+◌, ◌≤◌, Bool, true, false, inl, inr, refl, sym, ap, ◌∙◌, List, [], filter, Option, Some, None, is_some}
+use Rattle.std.proofs.Common.{◌≡◌, ℕ, ◌+◌, ◌≤◌, Bool, true, false, inl, inr, refl, [], filter, Option, Some, None, is_some}
 use Rattle.std.proofs.lemmas.Bool.{cases_Bool}
 use Rattle.mv_base.specs.declared.ids.NodeId.{NodeId}
 use Rattle.mldp_fec.specs.declared.fec.Fec.{Fec}
 use Rattle.label_defs.specs.declared.end.End.{End}
-use Rattle.label_defs.specs.LabelData.{Place, fresh, use_of}
+use Rattle.label_defs.specs.LabelData.{fresh, use_of}
 use Rattle.label_defs.proofs.StepLemmas.{fresh_settled}
-use Rattle.label_laws.specs.Network.{PacketCopy, LabelNetwork, place_of}
-use Rattle.label_laws.specs.Rule.{CopyCase, is_mapped, is_leaving, is_resting, is_down, is_unheld, Stand, mapped, leaving, resting, Unheld, Covered, CopyOk, LabelRule, Rule, Kept, end_of, branch_trees, is_of_owner, is_release_of}
+use Rattle.label_laws.specs.Network.{PacketCopy, LabelNetwork}
+use Rattle.label_laws.specs.Rule.{CopyCase, is_mapped, is_leaving, is_resting, is_down, is_unheld, LabelCovers, mapped, leaving, resting, CopyOk, LabelRule, Rule, Kept, end_of, branch_trees, is_of_owner, is_release_of}
 use Rattle.label_laws.proofs.Frames.{along_view, each_kept}
 use Rattle.label_laws.proofs.Phases.{branch_stands}
 use Rattle.label_laws.proofs.Views.{idle_view}
@@ -17,7 +17,7 @@ none_where : (o : Option End) → is_some o ≡ false → o ≡ None
 none_where None e = refl
 none_where (Some end) e = absurd cc
 
-case_by : (w : LabelNetwork) (u n : NodeId) (c : PacketCopy) → is_some (end_of (w.node n) u) ≡ true → Stand w.life w.vpn_of u (use_of (w.node n) c.label) (w.origin c.number) c.put_at → CopyCase w u n c
+case_by : (w : LabelNetwork) (u n : NodeId) (c : PacketCopy) → is_some (end_of (w.node n) u) ≡ true → LabelCovers w.life w.vpn_of u (use_of (w.node n) c.label) (w.origin c.number) c.put_at → CopyCase w u n c
 case_by w u n c up (mapped f e h) = is_mapped f up e h
 case_by w u n c up (leaving f e) = is_leaving f up e
 case_by w u n c up (resting until e h) = is_resting until e h

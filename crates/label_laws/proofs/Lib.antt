@@ -15,3 +15,4 @@ pub mod Copies
 pub mod Steps
 pub mod Runs
 pub mod Full
+pub mod CalmTrees

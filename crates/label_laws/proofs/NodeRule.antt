@@ -1,14 +1,13 @@
 -- One node's data and what is in transit to and from it change, and nothing else does.
-use Rattle.std.proofs.Common.{◌≡◌, ◌≢◌, ℕ, ◌+◌, ◌≤◌, Bool, true, false, ◌⊎◌, inl, inr, refl, sym, ap, subst, ◌∙◌, filter, List, [], Option, Some, is_some}
+use Rattle.std.proofs.Common.{◌≡◌, ◌≢◌, ℕ, ◌+◌, ◌≤◌, true, false, inl, inr, refl, sym, ap, subst, ◌∙◌, filter, List, [], is_some}
 use Rattle.std.specs.List.{AllByRecursion}
 use Rattle.mv_base.specs.declared.ids.NodeId.{NodeId}
-use Rattle.mldp_fec.specs.declared.fec.Fec.{Fec}
 use Rattle.mldp_msgs.specs.declared.message.LabelMessage.{LabelMessage}
 use Rattle.label_defs.specs.LabelData.{LabelData, use_of}
 use Rattle.label_defs.proofs.KeyLemmas.{node_cases}
-use Rattle.label_laws.specs.Network.{PacketCopy, Direction, LabelNetwork, at_node}
-use Rattle.label_laws.specs.Rule.{View, ViewAt, SessionAt, OfTrees, Covered, CopyOk, Rule, end_of, branch_trees, is_of_owner, is_release_of}
-use Rattle.label_laws.proofs.Frames.{kept_node, node_here, node_there, along_view, copies_along}
+use Rattle.label_laws.specs.Network.{LabelNetwork, at_node}
+use Rattle.label_laws.specs.Rule.{View, ViewAt, OfTrees, Covered, CopyOk, Rule, end_of, branch_trees, is_of_owner, is_release_of}
+use Rattle.label_laws.proofs.Frames.{node_here, node_there, along_view, copies_along}
 
 -- the network in which b has the data d, and this is in transit
 abbrev pub moved : LabelNetwork → NodeId → LabelData → (NodeId → NodeId → List LabelMessage) → LabelNetwork

@@ -1,5 +1,5 @@
 -- The first message in transit is taken: a mapping, or one that says nothing of a label.
-use Rattle.std.proofs.Common.{◌≡◌, ◌≢◌, ℕ, ◌+◌, ◌==◌, ◌&&◌, ◌||◌, Bool, true, false, cond, ◌⊎◌, inl, inr, refl, sym, ap, subst, ◌∙◌, List, [], ◌∷◌, ◌++◌, filter, Option, Some, None, is_some}
+use Rattle.std.proofs.Common.{◌≡◌, ◌≢◌, ℕ, ◌==◌, ◌&&◌, Bool, true, false, cond, ◌⊎◌, inl, inr, refl, sym, ap, subst, ◌∙◌, List, [], ◌∷◌, filter}
 use Rattle.std.proofs.lemmas.Bool.{cases_eq, cases_Bool, ne_eqb, eq-eqb, cond-true, cond-false, and_from, and_parts, and_left, and_right, or_cases}
 use Rattle.std.specs.Cmp.{Equal-is}
 use Rattle.std.specs.Ordering.{eq_by_cmp}
@@ -9,18 +9,17 @@ use Rattle.mldp_fec.specs.declared.fec.Fec.{Fec}
 use Rattle.mldp_msgs.specs.declared.message.LabelMessage.{LabelMessage}
 use Rattle.mldp_msgs.specs.declared.message.LabelMessage.TheVariants as messages
 use Rattle.label_defs.specs.declared.branch.Branch.{Branch}
-use Rattle.label_defs.specs.declared.label_use.LabelUse.{LabelUse}
-use Rattle.label_defs.specs.Keys.{fec_cmp, branch_cmp}
+use Rattle.label_defs.specs.Keys.{branch_cmp}
 use Rattle.label_defs.specs.LabelData.{LabelData, same_fec, use_of}
 use Rattle.label_defs.specs.Steps.{branch_to}
 use Rattle.label_defs.proofs.KeyLemmas.{branch_cmp_total, branch_cmp_exact, node_equal, node_itself, node_apart, node_cases, fec_cases, fec_apart, same_fec_from}
 use Rattle.label_defs.proofs.SetLemmas.{inserted_here, inserted_other}
-use Rattle.label_laws.specs.Network.{Direction, LabelNetwork}
-use Rattle.label_laws.specs.Rule.{View, ViewAt, Phase, OfTrees, Rule, none, only, end_of, branch_trees, is_of_owner, is_release_of}
+use Rattle.label_laws.specs.Network.{LabelNetwork}
+use Rattle.label_laws.specs.Rule.{ViewAt, Phase, OfTrees, Rule, none, only, end_of, branch_trees, is_of_owner, is_release_of}
 use Rattle.label_laws.proofs.Frames.{read_cond, along_view, skipped, passed}
 use Rattle.label_laws.proofs.Phases.{Comes, mapping_comes}
 use Rattle.label_laws.proofs.Views.{mapping_view}
-use Rattle.label_laws.proofs.NodeRule.{moved, OwnerView, BranchView, Changes, node_rule}
+use Rattle.label_laws.proofs.NodeRule.{moved, BranchView, node_rule}
 
 -- what is in transit once the rest is left from a to b
 abbrev pub popped : LabelNetwork → NodeId → NodeId → List LabelMessage → NodeId → NodeId → List LabelMessage

@@ -1,5 +1,5 @@
 -- A release is taken.
-use Rattle.std.proofs.Common.{◌≡◌, ◌≢◌, ℕ, ◌+◌, ◌≤◌, ◌==◌, ◌&&◌, Bool, true, false, cond, ◌⊎◌, inl, inr, refl, sym, ap, subst, ◌∙◌, List, [], ◌∷◌, ◌++◌, filter, Option, Some, None, option_map, is_some, arith}
+use Rattle.std.proofs.Common.{◌≡◌, ◌≢◌, ℕ, ◌+◌, ◌==◌, ◌&&◌, Bool, true, false, cond, inl, inr, refl, sym, ap, subst, ◌∙◌, List, ◌∷◌, filter, Option, Some, None, option_map, is_some, arith}
 use Rattle.std.proofs.lemmas.Bool.{cases_eq, ne_eqb, eq-eqb, cond-true, cond-false, and_from}
 use Rattle.std.specs.FinSet as sets
 use Rattle.std.specs.FinSet.{FinSet}
@@ -17,12 +17,12 @@ use Rattle.label_defs.specs.Steps.{released, with_release}
 use Rattle.label_defs.proofs.KeyLemmas.{node_cases, node_itself, same_fec_itself}
 use Rattle.label_defs.proofs.TurnLemmas.{SameRest}
 use Rattle.label_defs.proofs.OwnLemmas.{effect_use}
-use Rattle.label_laws.specs.Network.{Direction, LabelNetwork, place_of}
-use Rattle.label_laws.specs.Rule.{Holds, View, ViewAt, Phase, Rule, Stand, none, end_of, branch_trees, is_of_owner, is_release_of}
+use Rattle.label_laws.specs.Network.{LabelNetwork, place_of}
+use Rattle.label_laws.specs.Rule.{ViewAt, Phase, Rule, end_of, branch_trees, is_of_owner, is_release_of}
 use Rattle.label_laws.proofs.Frames.{along_view, passed, stand_along, covered_if}
 use Rattle.label_laws.proofs.Phases.{Released, release_comes}
-use Rattle.label_laws.proofs.Views.{SameOrOther, same_view, idle_view}
-use Rattle.label_laws.proofs.NodeRule.{moved, OwnerView, BranchView, node_rule}
+use Rattle.label_laws.proofs.Views.{same_view, idle_view}
+use Rattle.label_laws.proofs.NodeRule.{moved, OwnerView, node_rule}
 use Rattle.label_laws.proofs.Uses.{holds_along, resting_other, map_same_or_other, map_held, release_ends, release_stands}
 use Rattle.label_laws.proofs.Trees.{fewer_trees}
 use Rattle.label_laws.proofs.Turns.{same_ends, same_branches}

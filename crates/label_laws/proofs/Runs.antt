@@ -1,9 +1,8 @@
 -- Each act keeps the rule and leaves all trees settled, and so does each run.
-use Rattle.std.proofs.Common.{◌≡◌, ◌≢◌, ℕ, ◌==◌, ◌&&◌, ◌||◌, Bool, true, false, cond, not, ◌⊎◌, inl, inr, refl, sym, ap, subst, ◌∙◌, List, [], ◌∷◌, Option, Some, None, is_some, length}
+use Rattle.std.proofs.Common.{◌≡◌, ◌≢◌, ℕ, ◌==◌, ◌&&◌, Bool, true, false, not, inl, inr, refl, sym, ap, subst, ◌∙◌, List, [], ◌∷◌, Option, Some, None, is_some, length}
 use Rattle.std.proofs.lemmas.Bool.{cases_Bool, and_right, or_right, or_cases, and_parts, eqb-true}
 use Rattle.std.specs.Cmp.{Equal-is}
 use Rattle.std.specs.Ordering.{eq_by_cmp}
-use Rattle.std.specs.FinMap as maps
 use Rattle.std.specs.FinSet as sets
 use Rattle.std.specs.FinSet.{FinSet}
 use Rattle.mv_base.specs.Number.{◌>>?◌}
@@ -18,10 +17,10 @@ use Rattle.label_defs.specs.Steps as steps
 use Rattle.label_defs.specs.Steps.{Call, without_session, timed, label_step}
 use Rattle.label_defs.proofs.KeyLemmas.{fec_cmp_total, fec_cmp_exact, node_itself, node_equal, node_cases}
 use Rattle.label_defs.proofs.StepLemmas.{fresh_settled}
-use Rattle.label_laws.specs.Network.{Direction, LabelNetwork, place_of, at_node, behind}
-use Rattle.label_laws.specs.Acts.{Act, Deliver, Want, Unwant, Put, Land, Drop, Lose, Notice, Raise, Restart, Tick, Timers, stepped, left_in_transit, delivered, wanted, copied, is_between, is_at, unjoined, noticed, with_joined, raised, act, run}
-use Rattle.label_laws.specs.Rule.{OfTrees, Rule, Kept, OnNetwork, end_of, branch_trees, is_held, none}
-use Rattle.label_laws.proofs.Frames.{kept_node, node_here, node_there, along_view, covered_along, behind_silent}
+use Rattle.label_laws.specs.Network.{LabelNetwork, place_of, at_node, behind}
+use Rattle.label_laws.specs.Acts.{Act, Deliver, Want, Unwant, Put, Land, Drop, Lose, Notice, Raise, Restart, Tick, Timers, stepped, left_in_transit, delivered, wanted, is_between, is_at, unjoined, noticed, with_joined, raised, act, run}
+use Rattle.label_laws.specs.Rule.{Rule, Kept, OnNetwork, end_of, branch_trees, is_held, none}
+use Rattle.label_laws.proofs.Frames.{node_here, node_there, behind_silent}
 use Rattle.label_laws.proofs.NodeRule.{node_rule}
 use Rattle.label_laws.proofs.Sessions.{Begins, between_swap, at_swap, unjoined_rule, joined_rule}
 use Rattle.label_laws.proofs.Ends.{with_node, noticed_rule, fresh_rule, new_end, risen, risen_here, risen_rule, bare_where}

@@ -1,13 +1,11 @@
 -- Sessions are unjoined and joined.
-use Rattle.std.proofs.Common.{◌≡◌, ◌≢◌, ℕ, ◌==◌, ◌&&◌, ◌||◌, Bool, true, false, cond, not, inl, inr, refl, sym, ap, subst, ◌∙◌, List, [], filter, Option, Some, None, is_some}
+use Rattle.std.proofs.Common.{◌≡◌, ℕ, ◌==◌, ◌&&◌, ◌||◌, Bool, true, false, not, inl, inr, refl, sym, ap, ◌∙◌, [], filter, is_some}
 use Rattle.std.proofs.lemmas.Bool.{cases_Bool, cond-true, cond-false, and_right, or_right}
 use Rattle.mv_base.specs.declared.ids.NodeId.{NodeId}
-use Rattle.mldp_fec.specs.declared.fec.Fec.{Fec}
-use Rattle.mldp_msgs.specs.declared.message.LabelMessage.{LabelMessage}
-use Rattle.label_defs.specs.LabelData.{LabelData, use_of}
-use Rattle.label_laws.specs.Network.{Direction, LabelNetwork}
+use Rattle.label_defs.specs.LabelData.{use_of}
+use Rattle.label_laws.specs.Network.{LabelNetwork}
 use Rattle.label_laws.specs.Acts.{is_between, is_at, unjoined, with_joined}
-use Rattle.label_laws.specs.Rule.{View, Rule, none, end_of, branch_trees, is_held, is_of_owner, is_release_of}
+use Rattle.label_laws.specs.Rule.{Rule, none, end_of, branch_trees, is_held, is_of_owner, is_release_of}
 use Rattle.label_laws.proofs.Frames.{along_view}
 use Rattle.label_laws.proofs.Views.{cut_view, begun_view}
 

@@ -1,16 +1,14 @@
 -- A label step of one node keeps the rule where its call's own effect does.
-use Rattle.std.proofs.Common.{◌≡◌, ◌≢◌, ℕ, ◌+◌, ◌==◌, Bool, true, false, cond, ◌⊎◌, inl, inr, refl, sym, ap, subst, ◌∙◌, List, [], ◌∷◌, ◌++◌, option_map, Option, Some, None, is_some}
+use Rattle.std.proofs.Common.{◌≡◌, ◌≢◌, ◌+◌, inl, inr, refl, sym, ap, subst, List, [], ◌∷◌, ◌++◌, option_map, Option, Some, None}
 use Rattle.std.proofs.lemmas.Bool.{cond-true}
 use Rattle.std.proofs.lemmas.List.{append-nil}
 use Rattle.std.specs.FinSet as sets
-use Rattle.std.specs.FinSet.{FinSet}
 use Rattle.mv_base.specs.declared.ids.NodeId.{NodeId}
 use Rattle.mldp_fec.specs.declared.fec.Fec.{Fec}
 use Rattle.mldp_msgs.specs.declared.message.LabelMessage.{LabelMessage}
 use Rattle.mldp_msgs.specs.declared.message.LabelMessage.TheVariants as messages
-use Rattle.label_defs.specs.declared.label_use.LabelUse.{LabelUse}
 use Rattle.label_defs.specs.declared.put.Put.{Put}
-use Rattle.label_defs.specs.LabelData.{Place, LabelData}
+use Rattle.label_defs.specs.LabelData.{LabelData}
 use Rattle.label_defs.specs.Settling.{Stepped}
 use Rattle.label_defs.specs.Steps as steps
 use Rattle.label_defs.specs.Steps.{Call, effect, counted, label_step, branch_to}
@@ -19,7 +17,7 @@ use Rattle.label_defs.proofs.KeyLemmas.{node_cases}
 use Rattle.label_defs.proofs.OwnLemmas.{step_keeps}
 use Rattle.label_defs.proofs.StepLemmas.{step_settled}
 use Rattle.label_defs.proofs.TurnLemmas.{Turn}
-use Rattle.label_laws.specs.Network.{Direction, LabelNetwork, place_of, at_node, behind}
+use Rattle.label_laws.specs.Network.{LabelNetwork, place_of, at_node, behind}
 use Rattle.label_laws.specs.Acts.{stepped, left_in_transit}
 use Rattle.label_laws.specs.Rule.{Rule, Kept, OnNetwork}
 use Rattle.label_laws.proofs.Frames.{node_here, node_there, behind_again, behind_silent}

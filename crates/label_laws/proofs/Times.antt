@@ -1,21 +1,20 @@
 -- Time passes, and timers are run.
-use Rattle.std.proofs.Common.{◌≡◌, ◌≢◌, ℕ, ◌+◌, ◌≤◌, ◌&&◌, ◌||◌, not, nat_le, Bool, true, false, cond, ◌⊎◌, inl, inr, refl, sym, ap, subst, ◌∙◌, List, [], ◌∷◌, filter, Option, Some, None, is_some, option_map, arith}
-use Rattle.std.proofs.lemmas.Bool.{leb-true, or_left, cases_Bool}
+use Rattle.std.proofs.Common.{◌≡◌, ℕ, ◌+◌, ◌≤◌, ◌&&◌, ◌||◌, not, nat_le, Bool, true, false, cond, inl, inr, refl, ap, ◌∙◌, List, [], ◌∷◌, filter, Option, Some, None, is_some, option_map, arith}
+use Rattle.std.proofs.lemmas.Bool.{leb-true, or_left}
 use Rattle.std.specs.List.{AllByRecursion}
-use Rattle.std.specs.FinMap as maps
 use Rattle.mv_base.specs.declared.ids.NodeId.{NodeId}
 use Rattle.mldp_fec.specs.declared.fec.Fec.{Fec}
 use Rattle.mldp_msgs.specs.declared.message.LabelMessage.{LabelMessage}
 use Rattle.label_defs.specs.declared.end.End.{End}
 use Rattle.label_defs.specs.declared.label_use.LabelUse.{LabelUse}
-use Rattle.label_defs.specs.LabelData.{LabelData, use_of, is_hold_due}
+use Rattle.label_defs.specs.LabelData.{use_of, is_hold_due}
 use Rattle.label_defs.specs.Steps.{woken, hold_run, timed}
 use Rattle.label_defs.proofs.UseLemmas.{used-map}
 use Rattle.label_defs.proofs.TimerLemmas.{timed_end}
-use Rattle.label_laws.specs.Network.{PacketCopy, Direction, LabelNetwork, place_of, at_node}
+use Rattle.label_laws.specs.Network.{PacketCopy, LabelNetwork, place_of}
 use Rattle.label_laws.specs.Acts.{with_copies}
-use Rattle.label_laws.specs.Rule.{View, CopyOk, Unheld, Covered, Rule, end_of, branch_trees, is_held, is_of_owner, is_release_of}
-use Rattle.label_laws.proofs.Frames.{along_view, stand_along, covered_along}
+use Rattle.label_laws.specs.Rule.{View, CopyOk, Covered, Rule, end_of, branch_trees, is_held, is_of_owner, is_release_of}
+use Rattle.label_laws.proofs.Frames.{along_view, covered_along}
 use Rattle.label_laws.proofs.Views.{same_view}
 use Rattle.label_laws.proofs.NodeRule.{node_rule}
 use Rattle.label_laws.proofs.Uses.{holds_along, woken_same, woken_stands, same_held}

@@ -1,18 +1,13 @@
 -- The leaves, branches and labels of a node are those of trees, whatever changes.
-use Rattle.std.proofs.Common.{◌≡◌, ℕ, Bool, true, false, ◌&&◌, ◌||◌, ◌⊎◌, inl, inr, refl, sym, ap, subst, ◌∙◌, Option, Some, None}
-use Rattle.std.proofs.lemmas.Bool.{or_cases, and_parts}
-use Rattle.std.specs.Ordering.{eq_by_cmp}
+use Rattle.std.proofs.Common.{◌≡◌, ℕ, Bool, true, ◌⊎◌, inl, inr, sym, ap, subst, ◌∙◌}
+use Rattle.std.proofs.lemmas.Bool.{or_cases}
 use Rattle.std.specs.FinSet as sets
-use Rattle.std.specs.FinSet.{FinSet}
-use Rattle.std.proofs.lemmas.Option.{same_Some}
 use Rattle.mv_base.specs.declared.ids.NodeId.{NodeId}
 use Rattle.mldp_fec.specs.declared.fec.Fec.{Fec}
 use Rattle.label_defs.specs.declared.branch.Branch.{Branch}
-use Rattle.label_defs.specs.declared.label_use.LabelUse.{LabelUse}
-use Rattle.label_defs.specs.Keys.{fec_cmp, branch_cmp}
 use Rattle.label_defs.specs.LabelData.{LabelData, same_fec, has_branch, has_tree, use_of}
-use Rattle.label_defs.proofs.KeyLemmas.{fec_cmp_total, fec_cmp_exact, branch_cmp_total, branch_cmp_exact, same_fec_equal, fec_cases, apart}
-use Rattle.label_defs.proofs.SetLemmas.{passing_member, inserted_other}
+use Rattle.label_defs.proofs.KeyLemmas.{branch_cmp_total, branch_cmp_exact, same_fec_equal}
+use Rattle.label_defs.proofs.SetLemmas.{passing_member}
 use Rattle.label_laws.specs.Rule.{Holds, OfTrees}
 
 -- the tree that a node is on is one

@@ -1,5 +1,5 @@
 -- A tree of a node settles: no label changes, or one does and one message of it is put.
-use Rattle.std.proofs.Common.{◌≡◌, ◌≢◌, ℕ, ◌+◌, ◌==◌, Bool, true, false, ◌⊎◌, inl, inr, refl, sym, ap, subst, ◌∙◌, List, [], ◌∷◌, ◌++◌, filter, Option, Some, None, is_some}
+use Rattle.std.proofs.Common.{◌≡◌, ◌≢◌, ℕ, ◌==◌, Bool, true, false, inl, inr, refl, sym, ap, subst, ◌∙◌, List, [], ◌∷◌, ◌++◌, filter, Option, Some, is_some}
 use Rattle.std.proofs.lemmas.Bool.{cases_eq, ne_eqb, eq-eqb}
 use Rattle.std.specs.FinMap as maps
 use Rattle.std.specs.FinMap.{FinMap}
@@ -18,13 +18,13 @@ use Rattle.label_defs.specs.LabelData.{LabelData, use_of}
 use Rattle.label_defs.specs.Steps.{branch_to}
 use Rattle.label_defs.proofs.KeyLemmas.{node_cases}
 use Rattle.label_defs.proofs.UseLemmas.{used, set_here, set_there}
-use Rattle.label_defs.proofs.TurnLemmas.{Turn, Quiet, Takes, Gives, SameRest}
-use Rattle.label_laws.specs.Network.{Direction, LabelNetwork, place_of, at_node, sent, behind}
-use Rattle.label_laws.specs.Rule.{Holds, View, ViewAt, OfTrees, Stand, Covered, Rule, end_of, branch_trees, is_of_owner, is_release_of}
-use Rattle.label_laws.proofs.Frames.{along_view, one_to, none_to, fails_to, sent_other, sent_quiet, sent_skips, sent_passes, stand_along, covered_along, covered_if, behind_silent}
+use Rattle.label_defs.proofs.TurnLemmas.{Turn, SameRest}
+use Rattle.label_laws.specs.Network.{LabelNetwork, place_of, sent, behind}
+use Rattle.label_laws.specs.Rule.{Holds, View, ViewAt, LabelCovers, Covered, Rule, end_of, branch_trees, is_of_owner, is_release_of}
+use Rattle.label_laws.proofs.Frames.{along_view, none_to, fails_to, sent_other, sent_quiet, sent_skips, sent_passes, stand_along, covered_along, covered_if, behind_silent}
 use Rattle.label_laws.proofs.Phases.{free_other}
 use Rattle.label_laws.proofs.Views.{SameOrOther, same_view, free_view, left_view}
-use Rattle.label_laws.proofs.NodeRule.{moved, OwnerView, BranchView, Changes, node_rule}
+use Rattle.label_laws.proofs.NodeRule.{OwnerView, node_rule}
 use Rattle.label_laws.proofs.Uses.{holds_along, other_along, mapped_other, leaving_other, free_stands, left_stands}
 use Rattle.label_laws.proofs.Trees.{tree_of, fewer_trees}
 
@@ -55,7 +55,7 @@ same_rule w b d labels rest rule =
 module _ (w : LabelNetwork) (b x : NodeId) (d : LabelData) (l : ℕ) (s : Option LabelUse) (m : LabelMessage) (rule : Rule w)
     (here_use : use_of d l ≡ s) (there_use : (k : ℕ) → (k ≡ l → ⊥) → use_of d k ≡ use_of (w.node b) k) (rest : SameRest (w.node b) d)
     (down : (k : ℕ) → is_of_owner k m ≡ (l == k)) (back : (k : ℕ) → is_release_of k m ≡ false)
-    (stands : (u : NodeId) (vpn t : ℕ) → Stand w.life w.vpn_of u (use_of (w.node b) l) vpn t → Stand w.life w.vpn_of u s vpn t)
+    (stands : (u : NodeId) (vpn t : ℕ) → LabelCovers w.life w.vpn_of u (use_of (w.node b) l) vpn t → LabelCovers w.life w.vpn_of u s vpn t)
     (here : (live : Bool) (far : Option End) (ms ns bs : List LabelMessage) (o : Fec → Bool) → (live ≡ true → ns ≡ ms ++ m ∷ []) → View x l live (end_of (w.node b) x) far (use_of (w.node b) l) ms bs o → View x l live (end_of (w.node b) x) far s ns bs o)
     (other : (u : NodeId) → u ≢ x → SameOrOther u (use_of (w.node b) l) s)
     (trees : (f : Fec) (u : NodeId) → Holds f u s → w.is_tree f ≡ true) where

@@ -1,5 +1,5 @@
 -- What becomes of the use of a label that is released, freed or woken, and for whom that matters.
-use Rattle.std.proofs.Common.{◌≡◌, ◌≢◌, ℕ, ◌+◌, ◌≤◌, ◌==◌, ◌&&◌, Bool, true, false, cond, ◌⊎◌, inl, inr, refl, sym, ap, subst, ◌∙◌, nat_le, Option, Some, None, option_map, arith}
+use Rattle.std.proofs.Common.{◌≡◌, ◌≢◌, ℕ, ◌+◌, ◌≤◌, ◌==◌, ◌&&◌, Bool, true, false, cond, ◌⊎◌, inl, inr, refl, sym, ap, subst, nat_le, Option, Some, None, option_map, arith}
 use Rattle.std.proofs.lemmas.Bool.{cases_Bool, cond-true, cond-false, and_parts, leb-true}
 use Rattle.mv_base.specs.declared.ids.NodeId.{NodeId}
 use Rattle.mldp_fec.specs.declared.fec.Fec.{Fec}
@@ -8,7 +8,7 @@ use Rattle.label_defs.specs.declared.label_use.LabelUse.TheVariants as uses
 use Rattle.label_defs.specs.LabelData.{same_fec}
 use Rattle.label_defs.specs.Steps.{released, freed, woken}
 use Rattle.label_defs.proofs.KeyLemmas.{node_equal, node_itself, node_cases, node_apart}
-use Rattle.label_laws.specs.Rule.{Holds, IsOther, Stand, mapped, leaving, resting}
+use Rattle.label_laws.specs.Rule.{Holds, IsOther, LabelCovers, mapped, leaving, resting}
 use Rattle.label_laws.proofs.Views.{SameOrOther}
 use Rattle.label_laws.proofs.Frames.{stand_along}
 
@@ -34,12 +34,12 @@ pub none_other : (u : NodeId) → IsOther u None
 none_other u g h = elim h [ inl x ↦ absurd cc | inr x ↦ absurd cc ]
 
 -- what stands towards u for some copy
-pub free_stands : (life : ℕ) (vpn_of : Fec → ℕ) (u : NodeId) (vpn t : ℕ) (s : Option LabelUse) → s ≡ Some uses.Free → Stand life vpn_of u s vpn t → ⊥
+pub free_stands : (life : ℕ) (vpn_of : Fec → ℕ) (u : NodeId) (vpn t : ℕ) (s : Option LabelUse) → s ≡ Some uses.Free → LabelCovers life vpn_of u s vpn t → ⊥
 free_stands life vpn_of u vpn t s e (mapped f h p) = absurd cc
 free_stands life vpn_of u vpn t s e (leaving f h) = absurd cc
 free_stands life vpn_of u vpn t s e (resting until h p) = absurd cc
 
-pub left_stands : (life : ℕ) (vpn_of : Fec → ℕ) (u : NodeId) (vpn t : ℕ) (f : Fec) (v : NodeId) (s : Option LabelUse) → s ≡ Some (uses.Mapped f v) → Stand life vpn_of u s vpn t → Stand life vpn_of u (Some (uses.Leaving f v)) vpn t
+pub left_stands : (life : ℕ) (vpn_of : Fec → ℕ) (u : NodeId) (vpn t : ℕ) (f : Fec) (v : NodeId) (s : Option LabelUse) → s ≡ Some (uses.Mapped f v) → LabelCovers life vpn_of u s vpn t → LabelCovers life vpn_of u (Some (uses.Leaving f v)) vpn t
 left_stands life vpn_of u vpn t f v s e (mapped g h p) = leaving g cc
 left_stands life vpn_of u vpn t f v s e (leaving g h) = absurd cc
 left_stands life vpn_of u vpn t f v s e (resting until h p) = absurd cc
@@ -104,7 +104,7 @@ pub release_ends : (t : Bool) (from : NodeId) (f : Fec) (until : ℕ) (s : Label
 release_ends t from f until s = elim (release_is t from f until s) [ inl e ↦ inl e | inr x ↦ inr x.0 ]
 
 pub release_stands : (life : ℕ) (vpn_of : Fec → ℕ) (u : NodeId) (vpn at : ℕ) (t : Bool) (from : NodeId) (f : Fec) (until : ℕ) (o : Option LabelUse) → at + life + 1 ≤ until
-    → Stand life vpn_of u o vpn at → Stand life vpn_of u (option_map (λ s. cond t (released from f until s) s) o) vpn at
+    → LabelCovers life vpn_of u o vpn at → LabelCovers life vpn_of u (option_map (λ s. cond t (released from f until s) s) o) vpn at
 release_stands life vpn_of u vpn at t from f until None past h = h
 release_stands life vpn_of u vpn at t from f until (Some s) past h = elim (release_is t from f until s) [
   | inl e ↦ stand_along life vpn_of u vpn at (Some s) _ (ap (λ (x : LabelUse). Some x) e) h
@@ -145,14 +145,14 @@ freed_other node (Some (uses.Leaving g v)) = freed_at node v g (uses.Leaving g v
 
 -- where the use does not change, or was towards another neighbour, what stands towards u still does
 pub ends_stands : (life : ℕ) (vpn_of : Fec → ℕ) (u v : NodeId) (vpn t : ℕ) (change : LabelUse → LabelUse) → u ≢ v → ((s : LabelUse) → (change s ≡ s) ⊎ Ends v s (change s)) → (o : Option LabelUse)
-    → Stand life vpn_of u o vpn t → Stand life vpn_of u (option_map change o) vpn t
+    → LabelCovers life vpn_of u o vpn t → LabelCovers life vpn_of u (option_map change o) vpn t
 ends_stands life vpn_of u v vpn t change ne h None st = st
 ends_stands life vpn_of u v vpn t change ne h (Some s) st = elim (h s) [
   | inl e ↦ stand_along life vpn_of u vpn t (Some s) (Some (change s)) (ap (λ (x : LabelUse). Some x) e) st
   | inr x ↦ absurd (stands_apart life vpn_of u v vpn t x.fec s ne x.was st)
 ]
   where
-    stands_apart : (life : ℕ) (vpn_of : Fec → ℕ) (u v : NodeId) (vpn t : ℕ) (f : Fec) (s : LabelUse) → u ≢ v → (s ≡ uses.Mapped f v) ⊎ (s ≡ uses.Leaving f v) → Stand life vpn_of u (Some s) vpn t → ⊥
+    stands_apart : (life : ℕ) (vpn_of : Fec → ℕ) (u v : NodeId) (vpn t : ℕ) (f : Fec) (s : LabelUse) → u ≢ v → (s ≡ uses.Mapped f v) ⊎ (s ≡ uses.Leaving f v) → LabelCovers life vpn_of u (Some s) vpn t → ⊥
     stands_apart life vpn_of u v vpn t f s ne was (mapped g e p) = was_other u v f s ne was g (inl e)
     stands_apart life vpn_of u v vpn t f s ne was (leaving g e) = was_other u v f s ne was g (inr e)
     stands_apart life vpn_of u v vpn t f s ne was (resting until e p) = elim was [ inl x ↦ absurd cc | inr x ↦ absurd cc ]
@@ -173,11 +173,11 @@ woken_same u now (Some (uses.Resting until)) = woken_by u (nat_le until now) unt
 pub same_held : (u : NodeId) (f : Fec) (r s : Option LabelUse) → SameOrOther u r s → Holds f u s → Holds f u r
 same_held u f r s x h = elim x [ inl e ↦ holds_along f u s r e h | inr y ↦ absurd (y.1 f h) ]
 
-woken_stands_by : (life : ℕ) (vpn_of : Fec → ℕ) (u : NodeId) (vpn at now until : ℕ) (t : Bool) → nat_le until now ≡ t → now ≤ at + life → at + life + 1 ≤ until → Stand life vpn_of u (Some (cond t uses.Free (uses.Resting until))) vpn at
+woken_stands_by : (life : ℕ) (vpn_of : Fec → ℕ) (u : NodeId) (vpn at now until : ℕ) (t : Bool) → nat_le until now ≡ t → now ≤ at + life → at + life + 1 ≤ until → LabelCovers life vpn_of u (Some (cond t uses.Free (uses.Resting until))) vpn at
 woken_stands_by life vpn_of u vpn at now until true e young h = let le = leb-true until now e in absurd (omega (arith, le, young, h))
 woken_stands_by life vpn_of u vpn at now until false e young h = resting until refl h
 
-pub woken_stands : (life : ℕ) (vpn_of : Fec → ℕ) (u : NodeId) (vpn at now : ℕ) (o : Option LabelUse) → now ≤ at + life → Stand life vpn_of u o vpn at → Stand life vpn_of u (option_map (woken now) o) vpn at
+pub woken_stands : (life : ℕ) (vpn_of : Fec → ℕ) (u : NodeId) (vpn at now : ℕ) (o : Option LabelUse) → now ≤ at + life → LabelCovers life vpn_of u o vpn at → LabelCovers life vpn_of u (option_map (woken now) o) vpn at
 woken_stands life vpn_of u vpn at now None young h = h
 woken_stands life vpn_of u vpn at now (Some uses.Free) young h = h
 woken_stands life vpn_of u vpn at now (Some (uses.Mapped g v)) young h = h

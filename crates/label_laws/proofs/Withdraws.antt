@@ -1,6 +1,6 @@
 -- A withdraw is taken, and answered by a release.
-use Rattle.std.proofs.Common.{◌≡◌, ◌≢◌, ℕ, ◌+◌, ◌==◌, ◌&&◌, Bool, true, false, cond, ◌⊎◌, inl, inr, refl, sym, ap, subst, ◌∙◌, List, [], ◌∷◌, ◌++◌, filter, not}
-use Rattle.std.proofs.lemmas.Bool.{cases_eq, cases_Bool, ne_eqb, eq-eqb, and_parts}
+use Rattle.std.proofs.Common.{◌≡◌, ◌≢◌, ℕ, Bool, true, false, inl, inr, refl, sym, ap, subst, ◌∙◌, List, [], ◌∷◌, ◌++◌, filter, not}
+use Rattle.std.proofs.lemmas.Bool.{cases_eq, ne_eqb, eq-eqb, and_parts}
 use Rattle.std.specs.Ordering.{eq_by_cmp}
 use Rattle.std.specs.FinSet as sets
 use Rattle.mv_base.specs.declared.ids.NodeId.{NodeId}
@@ -10,16 +10,16 @@ use Rattle.mldp_msgs.specs.declared.message.LabelMessage.TheVariants as messages
 use Rattle.label_defs.specs.declared.branch.Branch.{Branch}
 use Rattle.label_defs.specs.declared.put.Put.{Put}
 use Rattle.label_defs.specs.Keys.{branch_cmp}
-use Rattle.label_defs.specs.LabelData.{LabelData, same_fec, use_of}
+use Rattle.label_defs.specs.LabelData.{LabelData, use_of}
 use Rattle.label_defs.specs.Steps.{branch_to}
-use Rattle.label_defs.proofs.KeyLemmas.{branch_cmp_total, branch_cmp_exact, node_cases, fec_cases, fec_apart}
+use Rattle.label_defs.proofs.KeyLemmas.{branch_cmp_total, branch_cmp_exact, fec_cases, fec_apart}
 use Rattle.label_defs.proofs.SetLemmas.{removed_here, removed_other}
 use Rattle.label_laws.specs.Network.{Direction, LabelNetwork, sent}
-use Rattle.label_laws.specs.Rule.{View, ViewAt, Phase, Rule, none, only, end_of, branch_trees, is_of_owner, is_release_of}
+use Rattle.label_laws.specs.Rule.{ViewAt, Phase, Rule, none, only, end_of, branch_trees, is_of_owner, is_release_of}
 use Rattle.label_laws.proofs.Frames.{along_view, passed, none_to, fails_to, sent_other, sent_quiet, sent_skips, sent_passes}
 use Rattle.label_laws.proofs.Phases.{withdraw_comes}
 use Rattle.label_laws.proofs.Views.{withdraw_view}
-use Rattle.label_laws.proofs.NodeRule.{moved, OwnerView, BranchView, node_rule}
+use Rattle.label_laws.proofs.NodeRule.{moved, BranchView, node_rule}
 use Rattle.label_laws.proofs.Trees.{fewer_trees}
 use Rattle.label_laws.proofs.Pops.{popped, pop_here, pop_from, pop_to, pop_skips, live_front, pop_quiet, at_branch}
 

@@ -1,5 +1,5 @@
 -- What may happen in a network of label nodes, and its runs (RFC 6388 section 2.4, RFC 5036 section 3.5).
-use Rattle.std.specs.Prelude.{ℕ, ◌+◌, ◌==◌, ◌&&◌, ◌||◌, not, nat_le, Bool, true, false, List, [], ◌∷◌, ◌++◌, map, length, slice_get, option_map, Option, Some, None, if◌then◌else◌}
+use Rattle.std.specs.Prelude.{ℕ, ◌+◌, ◌==◌, ◌&&◌, ◌||◌, not, nat_le, Bool, true, false, List, [], ◌∷◌, ◌++◌, map, length, slice_get, option_map, Option, Some, if◌then◌else◌}
 use Rattle.std.specs.List.{filter, remove}
 use Rattle.std.specs.FinSet as sets
 use Rattle.mv_base.specs.Number.{◌>>?◌}
@@ -9,10 +9,10 @@ use Rattle.mldp_msgs.specs.declared.message.LabelMessage.{LabelMessage}
 use Rattle.label_defs.specs.declared.branch.Branch.{Branch}
 use Rattle.label_defs.specs.declared.label_use.LabelUse.{LabelUse}
 use Rattle.label_defs.specs.declared.label_use.LabelUse.TheVariants as uses
-use Rattle.label_defs.specs.LabelData.{LabelData, fresh, same_fec, use_of, is_up}
+use Rattle.label_defs.specs.LabelData.{fresh, same_fec, use_of, is_up}
 use Rattle.label_defs.specs.Steps as steps
 use Rattle.label_defs.specs.Steps.{Call, label_step}
-use Rattle.label_laws.specs.Network.{PacketCopy, Direction, LabelNetwork, place_of, at_node, behind}
+use Rattle.label_laws.specs.Network.{PacketCopy, LabelNetwork, place_of, at_node, behind}
 
 -- ---- label steps
 

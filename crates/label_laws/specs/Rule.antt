@@ -14,7 +14,7 @@ use Rattle.label_defs.specs.declared.label_use.LabelUse.TheVariants as uses
 use Rattle.label_defs.specs.LabelData.{LabelData, same_fec, use_of}
 use Rattle.label_defs.specs.Steps.{branch_to}
 use Rattle.label_defs.specs.Settled.{AllSettled}
-use Rattle.label_laws.specs.Network.{PacketCopy, Direction, LabelNetwork, place_of}
+use Rattle.label_laws.specs.Network.{PacketCopy, LabelNetwork, place_of}
 
 -- ---- one label of a node, seen from a neighbour
 
@@ -115,11 +115,11 @@ pub record OfTrees (is_tree : Fec → Bool) (part : LabelData) : Type 0 where
 
 -- ---- copies
 
--- what a label stands for towards u covers a copy of that VPN that was put at that moment
-pub data Stand (life : ℕ) (vpn_of : Fec → ℕ) (u : NodeId) (usage : Option LabelUse) (vpn put_at : ℕ) : Type 0 where
-  mapped : (fec : Fec) → usage ≡ Some (uses.Mapped fec u) → vpn_of fec ≡ vpn → Stand life vpn_of u usage vpn put_at
-  leaving : (fec : Fec) → usage ≡ Some (uses.Leaving fec u) → Stand life vpn_of u usage vpn put_at
-  resting : (until : ℕ) → usage ≡ Some (uses.Resting until) → put_at + life + 1 ≤ until → Stand life vpn_of u usage vpn put_at
+-- what a label is used for covers a copy of that VPN that came from u and was put at that moment
+pub data LabelCovers (life : ℕ) (vpn_of : Fec → ℕ) (u : NodeId) (usage : Option LabelUse) (vpn put_at : ℕ) : Type 0 where
+  mapped : (fec : Fec) → usage ≡ Some (uses.Mapped fec u) → vpn_of fec ≡ vpn → LabelCovers life vpn_of u usage vpn put_at
+  leaving : (fec : Fec) → usage ≡ Some (uses.Leaving fec u) → LabelCovers life vpn_of u usage vpn put_at
+  resting : (until : ℕ) → usage ≡ Some (uses.Resting until) → put_at + life + 1 ≤ until → LabelCovers life vpn_of u usage vpn put_at
 
 -- the end is up, came up when the copy was put or later, and its hold was not run
 pub record Unheld (near : Option End) (put_at : ℕ) : Type 0 where
@@ -129,7 +129,7 @@ pub record Unheld (near : Option End) (put_at : ℕ) : Type 0 where
   pub unheld : end.held ≡ false
 
 abbrev pub Covered : ℕ → (Fec → ℕ) → NodeId → Option End → Option LabelUse → ℕ → ℕ → Type 0
-Covered life vpn_of u near usage vpn put_at = (near ≡ None) ⊎ (Unheld near put_at ⊎ Stand life vpn_of u usage vpn put_at)
+Covered life vpn_of u near usage vpn put_at = (near ≡ None) ⊎ (Unheld near put_at ⊎ LabelCovers life vpn_of u usage vpn put_at)
 
 -- a copy on the link from u to a node
 pub record CopyOk (clock life : ℕ) (vpn_of : Fec → ℕ) (origin : ℕ → ℕ) (u : NodeId) (part : LabelData) (copy : PacketCopy) : Type 0 where

@@ -1,10 +1,11 @@
 //! Laws of a network of label nodes.
-ghost use Rattle.std.specs.Prelude.{ℕ, Bool, false, List, [], Option};
+ghost use Rattle.std.specs.Prelude.{◌≡◌, ◌≢◌, ℕ, Bool, true, false, List, [], Option, None};
 ghost use Rattle.mv_base.specs.declared.ids.NodeId.{NodeId};
 ghost use Rattle.mldp_fec.specs.declared.fec.Fec.{Fec};
-ghost use Rattle.label_defs.specs.LabelData.{fresh};
+ghost use Rattle.label_defs.specs.LabelData.{fresh, has_tree};
 ghost use Rattle.label_laws.specs.Network.{LabelNetwork};
-ghost use Rattle.label_laws.specs.Acts.{Act, run};
+ghost use Rattle.label_laws.specs.Acts.{Act, Notice, Raise, act, run};
+ghost use Rattle.label_laws.specs.Calm.{Calm, Reached};
 ghost use Rattle.label_laws.specs.Rule.{Rule, Kept, LabelRule, OnNetwork};
 
 /// A network in which nothing has happened meets the rule, and all its trees are settled.
@@ -21,4 +22,15 @@ pub fn runs_keep_the_rule()
 /// The rule says of each copy and of each branch that the label under it stands.
 pub fn the_rule_in_full()
     ensures { (network : LabelNetwork) → Rule network → LabelRule network }
+{}
+
+/// A loss that is noticed and a raise need no label.
+pub fn losses_need_no_label()
+    ensures noticed { (network : LabelNetwork) (a b : NodeId) → Kept network → act network (Notice a b) ≢ None }
+    ensures raised { (network : LabelNetwork) (a b : NodeId) → act network (Raise a b) ≢ None }
+{}
+
+/// On a calm tree each node is reached from the root, by branches whose labels are mapped to the tree.
+pub fn calm_trees()
+    ensures { (network : LabelNetwork) (depth : NodeId → ℕ) (root n : NodeId) (fec : Fec) → Calm network depth root fec → Kept network → has_tree (network.node n) fec ≡ true → Reached network fec root n }
 {}

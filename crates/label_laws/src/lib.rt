@@ -3,4 +3,6 @@
 
 mod laws;
 
-pub use laws::{runs_keep_the_rule, start_keeps_the_rule, the_rule_in_full};
+pub use laws::{
+    calm_trees, losses_need_no_label, runs_keep_the_rule, start_keeps_the_rule, the_rule_in_full,
+};

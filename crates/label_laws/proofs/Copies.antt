@@ -176,3 +176,7 @@ landed_kept w a b place false (Some c) t e k =
     let ok = each_at (CopyOk w.clock w.life w.vpn_of w.origin a (w.node b)) (w.direction a b).copies place c (k.rule.copies a b ne) e in
     forwarded_kept (without_copy w a b place) a b (use_of (w.node b) c.label) c.number
     (λ f v is same. fits w a b f c ne (is ∙ ap (λ (x : NodeId). Some (uses.Mapped f x)) same) ok k.rule) (record { rule = dropped_rule w a b place k.rule; settled = k.settled })
+
+pub lands_in_vpn : (w : LabelNetwork) (a b : NodeId) (place : ℕ) (c : PacketCopy) (f : Fec) → Rule w → a ≢ b → slice_get (w.direction a b).copies place ≡ Some c → use_of (w.node b) c.label ≡ Some (uses.Mapped f a) → w.vpn_of f ≡ w.origin c.number
+lands_in_vpn w a b place c f rule ne e is =
+    fits w a b f c ne is (each_at (CopyOk w.clock w.life w.vpn_of w.origin a (w.node b)) (w.direction a b).copies place c (rule.copies a b ne) e) rule

@@ -1,9 +1,10 @@
 //! Laws of a network of label nodes.
-ghost use Rattle.std.specs.Prelude.{◌≡◌, ◌≢◌, ℕ, Bool, true, false, List, [], Option, None};
+ghost use Rattle.std.specs.Prelude.{◌≡◌, ◌≢◌, ℕ, Bool, true, false, List, [], slice_get, Option, None, Some};
 ghost use Rattle.mv_base.specs.declared.ids.NodeId.{NodeId};
 ghost use Rattle.mldp_fec.specs.declared.fec.Fec.{Fec};
-ghost use Rattle.label_defs.specs.LabelData.{fresh, has_tree};
-ghost use Rattle.label_laws.specs.Network.{LabelNetwork};
+ghost use Rattle.label_defs.specs.declared.label_use.LabelUse.TheVariants as uses;
+ghost use Rattle.label_defs.specs.LabelData.{fresh, use_of, has_tree};
+ghost use Rattle.label_laws.specs.Network.{PacketCopy, LabelNetwork};
 ghost use Rattle.label_laws.specs.Acts.{Act, Notice, Raise, act, run};
 ghost use Rattle.label_laws.specs.Calm.{Calm, Reached};
 ghost use Rattle.label_laws.specs.Rule.{Rule, Kept, LabelRule, OnNetwork};
@@ -22,6 +23,12 @@ pub fn runs_keep_the_rule()
 /// The rule says of each copy and of each branch that the label under it stands.
 pub fn the_rule_in_full()
     ensures { (network : LabelNetwork) → Rule network → LabelRule network }
+{}
+
+/// A copy that goes on goes on for a tree of the VPN of its datagram.
+pub fn copies_land_in_their_vpn()
+    ensures { (network : LabelNetwork) (a b : NodeId) (place : ℕ) (copy : PacketCopy) (fec : Fec) → Rule network → a ≢ b → slice_get (network.direction a b).copies place ≡ Some copy →
+        use_of (network.node b) copy.label ≡ Some (uses.Mapped fec a) → network.vpn_of fec ≡ network.origin copy.number }
 {}
 
 /// A loss that is noticed and a raise need no label.

@@ -60,27 +60,30 @@ pub record Parts (usage own : Option LabelUse) (down own_down up own_up : List L
   pub back : up ≡ own_up
   pub branch : branches ≡ own_branches
 
+-- the label is in that phase
 abbrev pub PhaseIs : Kind → NodeId → ℕ → Option LabelUse → List LabelMessage → List LabelMessage → (Fec → Bool) → Type 0
-PhaseIs (Mapping f) u l usage down up branches = Parts usage (Some (uses.Mapped f u)) down (messages.Mapping f l ∷ []) up [] branches none
-PhaseIs (Stands f) u l usage down up branches = Parts usage (Some (uses.Mapped f u)) down [] up [] branches (only f)
-PhaseIs (MappingAndWithdraw f) u l usage down up branches = Parts usage (Some (uses.Leaving f u)) down (messages.Mapping f l ∷ messages.Withdraw f l ∷ []) up [] branches none
-PhaseIs (Withdraw f) u l usage down up branches = Parts usage (Some (uses.Leaving f u)) down (messages.Withdraw f l ∷ []) up [] branches (only f)
-PhaseIs (Release f) u l usage down up branches = Parts usage (Some (uses.Leaving f u)) down [] up (messages.Release f l ∷ []) branches none
-PhaseIs Idle u l usage down up branches = IsOther u usage × Parts usage usage down [] up [] branches none
+PhaseIs (Mapping fec) u label usage down up branches = Parts usage (Some (uses.Mapped fec u)) down (messages.Mapping fec label ∷ []) up [] branches none
+PhaseIs (Stands fec) u label usage down up branches = Parts usage (Some (uses.Mapped fec u)) down [] up [] branches (only fec)
+PhaseIs (MappingAndWithdraw fec) u label usage down up branches = Parts usage (Some (uses.Leaving fec u)) down (messages.Mapping fec label ∷ messages.Withdraw fec label ∷ []) up [] branches none
+PhaseIs (Withdraw fec) u label usage down up branches = Parts usage (Some (uses.Leaving fec u)) down (messages.Withdraw fec label ∷ []) up [] branches (only fec)
+PhaseIs (Release fec) u label usage down up branches = Parts usage (Some (uses.Leaving fec u)) down [] up (messages.Release fec label ∷ []) branches none
+PhaseIs Idle u label usage down up branches = IsOther u usage × Parts usage usage down [] up [] branches none
 
 -- a label of a joined session is in one of the phases
-pub record Phase (u : NodeId) (l : ℕ) (usage : Option LabelUse) (down up : List LabelMessage) (branches : Fec → Bool) : Type 0 where
+pub record Phase (u : NodeId) (label : ℕ) (usage : Option LabelUse) (down up : List LabelMessage) (branches : Fec → Bool) : Type 0 where
   pub kind : Kind
-  pub holds : PhaseIs kind u l usage down up branches
+  pub holds : PhaseIs kind u label usage down up branches
 
 -- whether the end is up and its hold was run
 abbrev pub is_held : Option End → Bool
 is_held None = false
 is_held (Some end) = end.held
 
--- What holds of one label of a node, seen from its neighbour u. The near end is the node's, the far one u's.
-pub record View (u : NodeId) (l : ℕ) (joined : Bool) (near far : Option End) (usage : Option LabelUse) (down up : List LabelMessage) (branches : Fec → Bool) : Type 0 where
-  pub phase : joined ≡ true → Phase u l usage down up branches
+-- What holds of one label of a node, seen from its neighbour u. The near end is the node's, the far one u's. The label of a joined
+-- session is in a phase; where the session is not joined, a branch is left only of a label that is held, or of a node whose end is
+-- down; a label is held only towards an end whose hold was run; and a branch is left only where the far end is up.
+pub record View (u : NodeId) (label : ℕ) (joined : Bool) (near far : Option End) (usage : Option LabelUse) (down up : List LabelMessage) (branches : Fec → Bool) : Type 0 where
+  pub phase : joined ≡ true → Phase u label usage down up branches
   pub alone : (fec : Fec) → joined ≡ false → branches fec ≡ true → (near ≡ None) ⊎ Holds fec u usage
   pub owner : (fec : Fec) → Holds fec u usage → is_held near ≡ true
   pub branch : (fec : Fec) → branches fec ≡ true → is_some far ≡ true
@@ -91,27 +94,27 @@ end_of part node = maps.get part.ends node
 
 -- the trees of which a node has a branch to a neighbour under a label
 abbrev pub branch_trees : LabelData → NodeId → ℕ → Fec → Bool
-branch_trees part n l fec = sets.contains part.branches (branch_to n fec l)
+branch_trees part n label fec = sets.contains part.branches (branch_to n fec label)
 
 abbrev pub ViewAt : LabelNetwork → NodeId → NodeId → ℕ → Type 0
-ViewAt w u n l =
-    View u l (w.direction u n).joined (end_of (w.node n) u) (end_of (w.node u) n) (use_of (w.node n) l)
-    (filter (is_of_owner l) (w.direction n u).transit) (filter (is_release_of l) (w.direction u n).transit) (branch_trees (w.node u) n l)
+ViewAt network u n label =
+    View u label (network.direction u n).joined (end_of (network.node n) u) (end_of (network.node u) n) (use_of (network.node n) label)
+    (filter (is_of_owner label) (network.direction n u).transit) (filter (is_release_of label) (network.direction u n).transit) (branch_trees (network.node u) n label)
 
 -- ---- sessions, trees
 
 -- Both directions of a session are joined or neither is; nothing is in transit in one that is not; and both ends of a joined one
 -- are up.
-pub record SessionAt (w : LabelNetwork) (u n : NodeId) : Type 0 where
-  pub alike : (w.direction u n).joined ≡ (w.direction n u).joined
-  pub quiet : (w.direction u n).joined ≡ false → (w.direction u n).transit ≡ []
-  pub ends : (w.direction u n).joined ≡ true → is_some (end_of (w.node u) n) ≡ true
+pub record SessionAt (network : LabelNetwork) (u n : NodeId) : Type 0 where
+  pub alike : (network.direction u n).joined ≡ (network.direction n u).joined
+  pub quiet : (network.direction u n).joined ≡ false → (network.direction u n).transit ≡ []
+  pub ends : (network.direction u n).joined ≡ true → is_some (end_of (network.node u) n) ≡ true
 
 -- the leaves, the branches and the labels of a node are those of trees
 pub record OfTrees (is_tree : Fec → Bool) (part : LabelData) : Type 0 where
   pub leaves : (fec : Fec) → sets.contains part.leaves fec ≡ true → is_tree fec ≡ true
   pub branches : (branch : Branch) → sets.contains part.branches branch ≡ true → is_tree branch.fec ≡ true
-  pub labels : (l : ℕ) (fec : Fec) (u : NodeId) → Holds fec u (use_of part l) → is_tree fec ≡ true
+  pub labels : (label : ℕ) (fec : Fec) (u : NodeId) → Holds fec u (use_of part label) → is_tree fec ≡ true
 
 -- ---- copies
 
@@ -139,43 +142,43 @@ pub record CopyOk (clock life : ℕ) (vpn_of : Fec → ℕ) (origin : ℕ → �
 
 -- ---- the rule
 
-pub record Rule (w : LabelNetwork) : Type 0 where
-  pub view : (u n : NodeId) (l : ℕ) → u ≢ n → ViewAt w u n l
-  pub session : (u n : NodeId) → u ≢ n → SessionAt w u n
-  pub copies : (u n : NodeId) → u ≢ n → AllByRecursion (CopyOk w.clock w.life w.vpn_of w.origin u (w.node n)) (w.direction u n).copies
-  pub trees : (n : NodeId) → OfTrees w.is_tree (w.node n)
+pub record Rule (network : LabelNetwork) : Type 0 where
+  pub view : (u n : NodeId) (label : ℕ) → u ≢ n → ViewAt network u n label
+  pub session : (u n : NodeId) → u ≢ n → SessionAt network u n
+  pub copies : (u n : NodeId) → u ≢ n → AllByRecursion (CopyOk network.clock network.life network.vpn_of network.origin u (network.node n)) (network.direction u n).copies
+  pub trees : (n : NodeId) → OfTrees network.is_tree (network.node n)
 
 -- the rule, and each tree of each node is settled
-pub record Kept (w : LabelNetwork) : Type 0 where
-  pub rule : Rule w
-  pub settled : (n : NodeId) → AllSettled (place_of w n) (w.node n)
+pub record Kept (network : LabelNetwork) : Type 0 where
+  pub rule : Rule network
+  pub settled : (n : NodeId) → AllSettled (place_of network n) (network.node n)
 
 -- what holds of a network, if there is one
 abbrev pub OnNetwork : (LabelNetwork → Type 0) → Option LabelNetwork → Type 0
 OnNetwork P None = ⊤
-OnNetwork P (Some w) = P w
+OnNetwork P (Some network) = P network
 
 -- ---- the label rule in full
 
 -- Of a copy under a label on the link from u to n: the label is mapped towards u for a tree of the VPN of the datagram; or it is
 -- leaving towards u; or it rests until no copy of that moment is on a link; or the end of n towards u is down; or that end came
 -- up when the copy was put or later, and its hold was not run.
-pub data CopyCase (w : LabelNetwork) (u n : NodeId) (copy : PacketCopy) : Type 0 where
-  is_mapped : (fec : Fec) → is_some (end_of (w.node n) u) ≡ true → use_of (w.node n) copy.label ≡ Some (uses.Mapped fec u) → w.vpn_of fec ≡ w.origin copy.number → CopyCase w u n copy
-  is_leaving : (fec : Fec) → is_some (end_of (w.node n) u) ≡ true → use_of (w.node n) copy.label ≡ Some (uses.Leaving fec u) → CopyCase w u n copy
-  is_resting : (until : ℕ) → use_of (w.node n) copy.label ≡ Some (uses.Resting until) → copy.put_at + w.life + 1 ≤ until → CopyCase w u n copy
-  is_down : end_of (w.node n) u ≡ None → CopyCase w u n copy
-  is_unheld : (end : End) → end_of (w.node n) u ≡ Some end → copy.put_at ≤ end.raised → end.held ≡ false → CopyCase w u n copy
+pub data CopyCase (network : LabelNetwork) (u n : NodeId) (copy : PacketCopy) : Type 0 where
+  is_mapped : (fec : Fec) → is_some (end_of (network.node n) u) ≡ true → use_of (network.node n) copy.label ≡ Some (uses.Mapped fec u) → network.vpn_of fec ≡ network.origin copy.number → CopyCase network u n copy
+  is_leaving : (fec : Fec) → is_some (end_of (network.node n) u) ≡ true → use_of (network.node n) copy.label ≡ Some (uses.Leaving fec u) → CopyCase network u n copy
+  is_resting : (until : ℕ) → use_of (network.node n) copy.label ≡ Some (uses.Resting until) → copy.put_at + network.life + 1 ≤ until → CopyCase network u n copy
+  is_down : end_of (network.node n) u ≡ None → CopyCase network u n copy
+  is_unheld : (end : End) → end_of (network.node n) u ≡ Some end → copy.put_at ≤ end.raised → end.held ≡ false → CopyCase network u n copy
 
 -- Each copy is in one of the cases, and has not been on its link for longer than it may. Where u has a branch of a tree to n under a
 -- label, the end of u towards n is up. If the session is joined, n holds the label for that tree towards u: it is mapped, or it is
 -- leaving and its withdraw is in transit. If the session is not joined, the end of n is down, or n holds the label so.
-pub record LabelRule (w : LabelNetwork) : Type 0 where
-  pub copies : (u n : NodeId) → u ≢ n → AllByRecursion (CopyCase w u n) (w.direction u n).copies
-  pub young : (u n : NodeId) → u ≢ n → AllByRecursion (λ (copy : PacketCopy). w.clock ≤ copy.put_at + w.life) (w.direction u n).copies
-  pub branch_up : (u n : NodeId) (l : ℕ) (fec : Fec) → u ≢ n → sets.contains (w.node u).branches (branch_to n fec l) ≡ true → is_some (end_of (w.node u) n) ≡ true
-  pub joined : (u n : NodeId) (l : ℕ) (fec : Fec) → u ≢ n → (w.direction u n).joined ≡ true → sets.contains (w.node u).branches (branch_to n fec l) ≡ true
-      → (use_of (w.node n) l ≡ Some (uses.Mapped fec u))
-      ⊎ ((use_of (w.node n) l ≡ Some (uses.Leaving fec u)) × (filter (is_of_owner l) (w.direction n u).transit ≡ messages.Withdraw fec l ∷ []))
-  pub unjoined : (u n : NodeId) (l : ℕ) (fec : Fec) → u ≢ n → (w.direction u n).joined ≡ false → sets.contains (w.node u).branches (branch_to n fec l) ≡ true
-      → (end_of (w.node n) u ≡ None) ⊎ Holds fec u (use_of (w.node n) l)
+pub record LabelRule (network : LabelNetwork) : Type 0 where
+  pub copies : (u n : NodeId) → u ≢ n → AllByRecursion (CopyCase network u n) (network.direction u n).copies
+  pub young : (u n : NodeId) → u ≢ n → AllByRecursion (λ (copy : PacketCopy). network.clock ≤ copy.put_at + network.life) (network.direction u n).copies
+  pub branch_up : (u n : NodeId) (label : ℕ) (fec : Fec) → u ≢ n → sets.contains (network.node u).branches (branch_to n fec label) ≡ true → is_some (end_of (network.node u) n) ≡ true
+  pub joined : (u n : NodeId) (label : ℕ) (fec : Fec) → u ≢ n → (network.direction u n).joined ≡ true → sets.contains (network.node u).branches (branch_to n fec label) ≡ true
+      → (use_of (network.node n) label ≡ Some (uses.Mapped fec u))
+      ⊎ ((use_of (network.node n) label ≡ Some (uses.Leaving fec u)) × (filter (is_of_owner label) (network.direction n u).transit ≡ messages.Withdraw fec label ∷ []))
+  pub unjoined : (u n : NodeId) (label : ℕ) (fec : Fec) → u ≢ n → (network.direction u n).joined ≡ false → sets.contains (network.node u).branches (branch_to n fec label) ≡ true
+      → (end_of (network.node n) u ≡ None) ⊎ Holds fec u (use_of (network.node n) label)

@@ -1,0 +1,87 @@
+-- A label step of one node keeps the rule where its call's own effect does.
+use Rattle.std.proofs.Common.{◌≡◌, ◌≢◌, ◌+◌, inl, inr, refl, sym, ap, subst, List, [], ◌∷◌, ◌++◌, option_map, Option, Some, None}
+use Rattle.std.proofs.lemmas.Bool.{cond-true}
+use Rattle.std.proofs.lemmas.List.{append-nil}
+use Rattle.std.specs.FinSet as sets
+use Rattle.mv_base.specs.declared.ids.NodeId.{NodeId}
+use Rattle.mldp_fec.specs.declared.fec.Fec.{Fec}
+use Rattle.mldp_msgs.specs.declared.message.LabelMessage.{LabelMessage}
+use Rattle.mldp_msgs.specs.declared.message.LabelMessage.TheVariants as messages
+use Rattle.label_defs.specs.declared.put.Put.{Put}
+use Rattle.label_defs.specs.LabelData.{LabelData}
+use Rattle.label_defs.specs.Settling.{Stepped}
+use Rattle.label_defs.specs.Steps as steps
+use Rattle.label_defs.specs.Steps.{Call, effect, counted, label_step, branch_to}
+use Rattle.label_defs.specs.Settled.{Settled, AllSettled, MayBe}
+use Rattle.label_defs.proofs.KeyLemmas.{node_cases}
+use Rattle.label_defs.proofs.OwnLemmas.{step_keeps}
+use Rattle.label_defs.proofs.StepLemmas.{step_settled}
+use Rattle.label_defs.proofs.TurnLemmas.{Turn}
+use Rattle.label_laws.specs.Network.{LabelNetwork, place_of, at_node, behind}
+use Rattle.label_laws.specs.Acts.{stepped, left_in_transit}
+use Rattle.label_laws.specs.Rule.{Rule, Kept, OnNetwork}
+use Rattle.label_laws.proofs.Frames.{node_here, node_there, behind_again, behind_silent}
+use Rattle.label_laws.proofs.Turns.{same_rule, turn_rule}
+use Rattle.label_laws.proofs.Pops.{mapped_tree, mapping_rule, ignored_rule}
+use Rattle.label_laws.proofs.Withdraws.{withdraw_rule}
+use Rattle.label_laws.proofs.Releases.{release_rule}
+
+-- a turn behind others
+turn_behind : (w : LabelNetwork) (n : NodeId) (old : LabelData) (puts : List Put) (fec : Fec) (next : LabelData) (more : List Put) → Turn (place_of w n) old fec next more
+    → Rule (behind w n (record { part = old; puts = puts })) → Rule (behind w n (record { part = next; puts = puts ++ more }))
+turn_behind w n old puts fec next more t rule =
+    let v = behind w n (record { part = old; puts = puts }) in
+    let P : LabelData → Type 0 = λ d. Turn (place_of w n) d fec next more in
+    subst Rule (behind_again w n old next puts more) (turn_rule v n fec next more (subst P (sym (node_here n old w.node)) t) rule)
+
+-- the ids of messages do not matter
+counted_behind : (w : LabelNetwork) (n : NodeId) (old : Stepped) → Rule (behind w n old) → Rule (behind w n (record { part = (counted old).part; puts = old.puts }))
+counted_behind w n old rule =
+    let v = behind w n old in
+    let next = (counted old).part in
+    let here = node_here n old.part w.node in
+    let same = same_rule v n next (ap (λ (d : LabelData). d.labels) (sym here)) (record { branches = ap (λ (d : LabelData). d.branches) (sym here); leaves = ap (λ (d : LabelData). d.leaves) (sym here); ends = ap (λ (d : LabelData). d.ends) (sym here) }) rule in
+    let P : List Put → Type 0 = λ ps. Rule (behind w n (record { part = next; puts = ps })) in
+    subst P (append-nil old.puts) (subst Rule (behind_again w n old.part next old.puts []) same)
+
+-- the rule behind the effect holds behind the step
+pub step_rule : (w : LabelNetwork) (n : NodeId) (call : Call) (new : Stepped) → Rule (behind w n (effect (place_of w n) w.clock (w.node n) call).0) → label_step (place_of w n) w.clock (w.node n) call ≡ Some new → Rule (behind w n new)
+step_rule w n call new start e =
+    step_keeps (place_of w n) w.clock (w.node n) call new (λ part puts. Rule (behind w n (record { part = part; puts = puts })))
+    (λ old puts fec next more t rule. turn_behind w n old puts fec next more t rule) (λ old rule. counted_behind w n old rule) start e
+
+pub settled_behind : (w : LabelNetwork) (n : NodeId) (call : Call) (new : Stepped) → MayBe (w.node n) call → ((m : NodeId) → AllSettled (place_of w m) (w.node m)) → label_step (place_of w n) w.clock (w.node n) call ≡ Some new
+    → (m : NodeId) → AllSettled (place_of w m) (at_node n new.part w.node m)
+settled_behind w n call new may all e m fec =
+    elim (node_cases m n) [
+      | inr ne ↦ let P : LabelData → Type 0 = λ d. Settled (place_of w m) d fec in subst P (sym (node_there n new.part w.node m ne)) (all m fec)
+      | inl same ↦
+          let Q : NodeId → Type 0 = λ x. Settled (place_of w x) (at_node n new.part w.node x) fec in
+          let P : LabelData → Type 0 = λ d. Settled (place_of w n) d fec in
+          subst Q (sym same) (subst P (sym (node_here n new.part w.node)) (step_settled (place_of w n) w.clock (w.node n) call new may (all n) e fec))
+    ]
+
+pub call_kept : (w : LabelNetwork) (n : NodeId) (call : Call) → MayBe (w.node n) call → Rule (behind w n (effect (place_of w n) w.clock (w.node n) call).0) → ((m : NodeId) → AllSettled (place_of w m) (w.node m)) → OnNetwork Kept (stepped w n call)
+call_kept w n call may start all = by (label_step (place_of w n) w.clock (w.node n) call) refl
+  where
+    by : (o : Option Stepped) → label_step (place_of w n) w.clock (w.node n) call ≡ o → OnNetwork Kept (option_map (behind w n) o)
+    by None e = tt
+    by (Some new) e = record { rule = step_rule w n call new start e; settled = settled_behind w n call new may all e }
+
+-- ---- a message is taken
+
+pub taken_rule : (w : LabelNetwork) (a b : NodeId) (m : LabelMessage) (rest : List LabelMessage) → a ≢ b → (w.direction a b).transit ≡ m ∷ rest → Rule w
+    → Rule (behind (left_in_transit w a b rest) b (effect (place_of w b) w.clock (w.node b) (steps.Taken a m)).0)
+taken_rule w a b (messages.Mapping f l) rest ne e rule =
+    let v = left_in_transit w a b rest in
+    let part = w.node b in
+    let more : LabelData = record part { branches = sets.insert part.branches (branch_to a f l) } in
+    let P : LabelData → Type 0 = λ d. Rule (behind v b (record { part = d; puts = [] })) in
+    subst P (sym (cond-true (w.is_tree f) more part (mapped_tree w a b f l rest ne e rule))) (subst Rule (behind_silent v b more) (mapping_rule w a b f l rest ne e rule))
+taken_rule w a b (messages.Withdraw f l) rest ne e rule = withdraw_rule w a b f l rest ne e rule
+taken_rule w a b (messages.Release f l) rest ne e rule =
+    let v = left_in_transit w a b rest in
+    subst Rule (behind_silent v b (steps.with_release (w.node b) a f l (w.clock + w.life + 1))) (release_rule w a b f l rest ne e rule)
+taken_rule w a b (messages.Ignored kind) rest ne e rule =
+    let v = left_in_transit w a b rest in
+    subst Rule (behind_silent v b (w.node b)) (ignored_rule w a b kind rest ne e rule)

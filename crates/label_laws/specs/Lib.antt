@@ -1,0 +1,4 @@
+pub mod Network
+pub mod Acts
+pub mod Rule
+pub mod Calm

@@ -1,0 +1,43 @@
+//! Laws of a network of label nodes.
+ghost use Rattle.std.specs.Prelude.{◌≡◌, ◌≢◌, ℕ, Bool, true, false, List, [], slice_get, Option, None, Some};
+ghost use Rattle.mv_base.specs.declared.ids.NodeId.{NodeId};
+ghost use Rattle.mldp_fec.specs.declared.fec.Fec.{Fec};
+ghost use Rattle.label_defs.specs.declared.label_use.LabelUse.TheVariants as uses;
+ghost use Rattle.label_defs.specs.LabelData.{fresh, use_of, has_tree};
+ghost use Rattle.label_laws.specs.Network.{PacketCopy, LabelNetwork};
+ghost use Rattle.label_laws.specs.Acts.{Act, Notice, Raise, act, run};
+ghost use Rattle.label_laws.specs.Calm.{Calm, Reached};
+ghost use Rattle.label_laws.specs.Rule.{Rule, Kept, LabelRule, OnNetwork};
+
+/// A network in which nothing has happened meets the rule, and all its trees are settled.
+pub fn start_keeps_the_rule()
+    ensures { (life : ℕ) (is_tree : Fec → Bool) (upstream : NodeId → Fec → Option NodeId) (vpn_of : Fec → ℕ) (origin : ℕ → ℕ) (count : NodeId → ℕ) →
+        Kept (record { clock = 0; life = life; is_tree = is_tree; upstream = upstream; vpn_of = vpn_of; origin = origin; node = λ n. fresh (count n); direction = λ u n. record { joined = false; transit = []; copies = [] } }) }
+{}
+
+/// Whatever happens, the rule is kept, and all trees stay settled.
+pub fn runs_keep_the_rule()
+    ensures { (network : LabelNetwork) (acts : List Act) → Kept network → OnNetwork Kept (run network acts) }
+{}
+
+/// The rule says of each copy and of each branch that the label under it stands.
+pub fn the_rule_in_full()
+    ensures { (network : LabelNetwork) → Rule network → LabelRule network }
+{}
+
+/// A copy that goes on goes on for a tree of the VPN of its datagram.
+pub fn copies_land_in_their_vpn()
+    ensures { (network : LabelNetwork) (a b : NodeId) (place : ℕ) (copy : PacketCopy) (fec : Fec) → Rule network → a ≢ b → slice_get (network.direction a b).copies place ≡ Some copy →
+        use_of (network.node b) copy.label ≡ Some (uses.Mapped fec a) → network.vpn_of fec ≡ network.origin copy.number }
+{}
+
+/// A loss that is noticed and a raise need no label.
+pub fn losses_need_no_label()
+    ensures noticed { (network : LabelNetwork) (a b : NodeId) → Kept network → act network (Notice a b) ≢ None }
+    ensures raised { (network : LabelNetwork) (a b : NodeId) → act network (Raise a b) ≢ None }
+{}
+
+/// On a calm tree each node is reached from the root, by branches whose labels are mapped to the tree.
+pub fn calm_trees()
+    ensures { (network : LabelNetwork) (depth : NodeId → ℕ) (root n : NodeId) (fec : Fec) → Calm network depth root fec → Kept network → has_tree (network.node n) fec ≡ true → Reached network fec root n }
+{}

@@ -16,3 +16,6 @@ pub mod Steps
 pub mod Runs
 pub mod Full
 pub mod CalmTrees
+pub mod Answers
+pub mod Moves
+pub mod Rounds

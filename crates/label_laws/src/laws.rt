@@ -1,5 +1,5 @@
 //! Laws of a network of label nodes.
-ghost use Rattle.std.specs.Prelude.{◌≡◌, ◌≢◌, ℕ, Bool, true, false, List, [], slice_get, Option, None, Some};
+ghost use Rattle.std.specs.Prelude.{◌≡◌, ◌≢◌, ◌<◌, ◌≤◌, ℕ, ◌+◌, Bool, true, false, List, [], slice_get, Option, None, Some};
 ghost use Rattle.mv_base.specs.declared.ids.NodeId.{NodeId};
 ghost use Rattle.mldp_fec.specs.declared.fec.Fec.{Fec};
 ghost use Rattle.label_defs.specs.declared.label_use.LabelUse.TheVariants as uses;
@@ -7,6 +7,7 @@ ghost use Rattle.label_defs.specs.LabelData.{fresh, use_of, has_tree};
 ghost use Rattle.label_laws.specs.Network.{PacketCopy, LabelNetwork};
 ghost use Rattle.label_laws.specs.Acts.{Act, Notice, Raise, act, run};
 ghost use Rattle.label_laws.specs.Calm.{Calm, Reached};
+ghost use Rattle.label_laws.specs.Rounds.{rounds, Lists, IsQuiet, IsNearer};
 ghost use Rattle.label_laws.specs.Rule.{Rule, Kept, LabelRule, OnNetwork};
 
 /// A network in which nothing has happened meets the rule, and all its trees are settled.
@@ -40,4 +41,13 @@ pub fn losses_need_no_label()
 /// On a calm tree each node is reached from the root, by branches whose labels are mapped to the tree.
 pub fn calm_trees()
     ensures { (network : LabelNetwork) (depth : NodeId → ℕ) (root n : NodeId) (fec : Fec) → Calm network depth root fec → Kept network → has_tree (network.node n) fec ≡ true → Reached network fec root n }
+{}
+
+/// Where each neighbour towards the root of a tree is less deep in it, all depths are below a number, and each direction of a
+/// joined session has its turn in each round, that number of rounds and one more, or any number beyond, leave nothing in transit.
+/// The rule is kept, and all trees stay settled.
+pub fn rounds_empty_sessions()
+    ensures quiet { (network new : LabelNetwork) (depth : NodeId → Fec → ℕ) (nodes count : ℕ) (order : List (NodeId × NodeId)) → Kept network → IsNearer network depth → ((n : NodeId) (fec : Fec) → depth n fec < nodes) → Lists order network →
+        nodes + 1 ≤ count → rounds order count network ≡ Some new → IsQuiet new }
+    ensures kept { (network new : LabelNetwork) (order : List (NodeId × NodeId)) (count : ℕ) → Kept network → rounds order count network ≡ Some new → Kept new }
 {}

@@ -1,9 +1,11 @@
 //! Laws of selective tunnels.
 ghost use Rattle.std.specs.Prelude.{◌≡◌, ℕ, ◌↔◌, false, List, None, Some};
 ghost use Rattle.mv_base.specs.declared.addr.Addr.{Addr};
+ghost use Rattle.mldp_fec.specs.declared.fec.Fec.{Fec};
 ghost use Rattle.selective_defs.specs.declared.learned_route.LearnedRoute.{LearnedRoute};
 ghost use Rattle.selective_defs.specs.declared.selection.Selection.{Selection};
 ghost use Rattle.selective_defs.specs.Selective.{Among, Matches, transmitted, IsTransmitted, AreDistinct, wanted, IsWanted, InStep};
+ghost use Rattle.selective_defs.specs.Example.{Overlap};
 
 /// A root transmits a flow on the tunnel of the most specific selection that matches it and whose delay was run, and on the
 /// inclusive tunnel exactly where there is none.
@@ -26,4 +28,10 @@ pub fn egress_wants_what_root_transmits()
         (route : LearnedRoute) × (route.pattern ≡ selection.pattern) × Among route (wanted routes source group) }
     ensures each { (delay now : ℕ) (selections : List Selection) (routes : List LearnedRoute) (source group : Addr) (selection : Selection) (route : LearnedRoute) → InStep delay now selections routes → transmitted selections source group ≡ Some selection →
         Among route routes → route.pattern ≡ selection.pattern → Among route (wanted routes source group) }
+{}
+
+/// A worked root and egress that are in step: while the delay of a more specific selection runs, the root transmits on the
+/// old tunnel, and the egress wants both.
+pub fn tunnels_overlap()
+    ensures { (source group : Addr) (first second : Fec) → Overlap source group first second }
 {}

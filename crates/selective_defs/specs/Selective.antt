@@ -62,7 +62,7 @@ pub record IsTransmitted (selections : List Selection) (source group : Addr) (se
   pub run : selection.run ≡ true
   pub most : (other : Selection) → Among other selections → Matches other.pattern source group → other.run ≡ true → rank other.pattern ≤ rank selection.pattern
 
--- A pattern stands at most once: selections of one pattern are one.
+-- Selections of one pattern are equal, as where a pattern stands at most once among them.
 abbrev pub AreDistinct : List Selection → Type 0
 AreDistinct selections = (one other : Selection) → Among one selections → Among other selections → one.pattern ≡ other.pattern → one ≡ other
 

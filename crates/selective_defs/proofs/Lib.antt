@@ -1,0 +1,4 @@
+pub mod PatternLemmas
+pub mod TransmittedLemmas
+pub mod WantedLemmas
+pub mod Example

@@ -1,0 +1,2 @@
+pub mod Selective
+pub mod Example

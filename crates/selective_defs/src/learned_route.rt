@@ -1,0 +1,15 @@
+//! Routes that an egress learned.
+use mldp_fec::Fec;
+use mv_base::Pattern;
+
+/// A route of a root for a selective tunnel, as an egress learned it.
+#[derive(Clone, Copy, Debug, PartialEq, Eq)]
+pub struct LearnedRoute {
+    pub pattern: Pattern,
+    /// The tunnel.
+    pub fec: Fec,
+    /// The clock at which it was learned.
+    pub since: u64,
+    /// Whether its delay was run.
+    pub run: bool,
+}

@@ -1,0 +1,14 @@
+//! Selections of a root.
+use mv_base::Pattern;
+
+/// A selection of a root: the flows that match the pattern are to go on a tunnel of their own.
+#[derive(Clone, Copy, Debug, PartialEq, Eq)]
+pub struct Selection {
+    pub pattern: Pattern,
+    /// The number of the LSP.
+    pub number: u32,
+    /// The clock at which it was made.
+    pub since: u64,
+    /// Whether its delay was run.
+    pub run: bool,
+}

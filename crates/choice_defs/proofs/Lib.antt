@@ -1,0 +1,3 @@
+pub mod OrderLemmas
+pub mod BestLemmas
+pub mod ChoiceLemmas

@@ -1,12 +1,8 @@
 -- What is chosen.
-use Rattle.std.proofs.Common.{◌≡◌, ℕ, ◌<◌, ◌≤◌, ◌==◌, Bool, true, false, ◌⊎◌, ◌↔◌, inl, inr, List, [], ◌∷◌, Option, Some, None, option_map, refl, sym, ap, subst, ◌∙◌, arith}
+use Rattle.std.proofs.Common.{◌≡◌, ℕ, ◌<◌, ◌≤◌, ◌==◌, true, false, ◌↔◌, inl, inr, List, Option, Some, None, option_map, refl, sym, ap, subst, ◌∙◌, arith}
 use Rattle.std.proofs.lemmas.Bool.Decides.{nat_tests}
 use Rattle.std.proofs.lemmas.Option.{same_Some}
-use Rattle.std.specs.Int.{w32, w128, from_be_bytes}
 use Rattle.std.specs.Ordering.{nat_cmp, is_lt, ordering_then}
-use Rattle.std.specs.declared.cmp.Ordering.{Ordering}
-use Rattle.std.specs.declared.cmp.Ordering.TheVariants.{Less, Equal, Greater}
-use Rattle.std.specs.Cmp.{nat_cmp_is}
 use Rattle.mv_base.specs.Prefix.{covers, same_front}
 use Rattle.mv_base.specs.declared.addr.Addr.{Addr}
 use Rattle.mv_base.specs.declared.addr.Addr.TheVariants.{V4, V6}
@@ -19,7 +15,7 @@ use Rattle.mv_base.specs.declared.rd.Rule.TheVariants.{Highest, Nearest, Hash}
 use Rattle.choice_defs.specs.declared.known_route.KnownRoute.{KnownRoute}
 use Rattle.choice_defs.specs.declared.origin.Origin.{Origin}
 use Rattle.choice_defs.specs.declared.origin.Origin.TheVariants.{Local, Remote}
-use Rattle.choice_defs.specs.Choice.{Among, addr_cmp, rd_cmp, IsLower, IsLess, cost_by, remote_cmp, origin_cmp, route_cmp, is_better, best_route, choose, IsHigher, IsFirst, Precedes, IsChosen, IsUncovered, AreTold, AreOfEdges, IsOnePrefix, AreOfSites, AreLocal, IsSiteOfLongest}
+use Rattle.choice_defs.specs.Choice.{Among, addr_cmp, rd_cmp, IsLower, cost_by, remote_cmp, origin_cmp, is_better, best_route, choose, IsHigher, IsFirst, Precedes, IsChosen, IsUncovered, AreTold, AreOfEdges, IsOnePrefix, AreOfSites, AreLocal, IsSiteOfLongest}
 use Rattle.choice_defs.proofs.OrderLemmas.{less_twice, then_not_less, nat_greater, nat_equal, greater_back, not_itself, not_both, tied, addr_cmp_total, rd_cmp_total, one_addr, one_rd}
 use Rattle.choice_defs.proofs.BestLemmas.{opposite, Best, BestIs, best}
 
@@ -145,7 +141,7 @@ one_choice rule cost routes source origin other edges sites x y =
     let prefix = one_prefix x.route.prefix y.route.prefix source same x.covering y.covering in
     sym x.of_origin
     ∙ one_origin rule cost x.route.origin y.route.origin (edges x.route y.route x.among y.among) (λ s t. sites x.route y.route s t x.among y.among prefix)
-      (x.first y.route y.among y.covering (sym same)) (y.first x.route x.among x.covering same)
+    (x.first y.route y.among y.covering (sym same)) (y.first x.route x.among x.covering same)
     ∙ y.of_origin
 
 -- ---- the order of the list

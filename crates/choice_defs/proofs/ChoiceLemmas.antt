@@ -144,6 +144,17 @@ one_choice rule cost routes source origin other edges sites x y =
     (x.first y.route y.among y.covering (sym same)) (y.first x.route x.among x.covering same)
     ∙ y.of_origin
 
+all_by : (rule : Rule) (cost : NodeId → ℕ) (routes : List KnownRoute) (source : Addr) (origin : Origin) → AreOfEdges routes → AreOfSites routes → IsChosen rule cost routes source origin
+    → (one : Option Origin) → choose rule cost routes source ≡ one → one ≡ Some origin
+all_by rule cost routes source origin edges sites c None e =
+    absurd (opposite (covers c.route.prefix source) c.covering ((none_when rule cost routes source).0 e c.route c.among))
+all_by rule cost routes source origin edges sites c (Some x) e =
+    ap (λ (o : Origin). Some o) (one_choice rule cost routes source x origin edges sites (chosen_when rule cost routes source x edges e) c)
+
+pub all_chosen : (rule : Rule) (cost : NodeId → ℕ) (routes : List KnownRoute) (source : Addr) (origin : Origin) → AreOfEdges routes → AreOfSites routes
+    → IsChosen rule cost routes source origin → choose rule cost routes source ≡ Some origin
+all_chosen rule cost routes source origin edges sites c = all_by rule cost routes source origin edges sites c (choose rule cost routes source) refl
+
 -- ---- the order of the list
 
 -- what is chosen of one list is chosen of another one of the same routes

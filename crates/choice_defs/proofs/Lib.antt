@@ -1,0 +1,4 @@
+pub mod OrderLemmas
+pub mod BestLemmas
+pub mod ChoiceLemmas
+pub mod Example

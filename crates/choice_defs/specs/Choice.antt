@@ -1,0 +1,159 @@
+-- The upstream choice of a VRF for a source, over all routes that it knows (RFC 6513 section 5.1).
+use Rattle.std.specs.Prelude.{◌≡◌, ℕ, ◌<◌, ◌≤◌, ◌⊎◌, ◌↔◌, ⊤, Bool, true, false, List, [], ◌∷◌, Option, None, Some, option_map, if◌then◌else◌}
+use Rattle.std.specs.Ordering.{nat_cmp, is_lt, ordering_then}
+use Rattle.std.specs.declared.cmp.Ordering.{Ordering}
+use Rattle.std.specs.declared.cmp.Ordering.TheVariants.{Less, Equal, Greater}
+use Rattle.std.specs.Cmp.Lexicographic.{slice_cmp}
+use Rattle.mv_base.specs.Prefix.{covers, same_front}
+use Rattle.mv_base.specs.declared.addr.Addr.{Addr}
+use Rattle.mv_base.specs.declared.addr.Addr.TheVariants.{V4, V6}
+use Rattle.mv_base.specs.declared.ids.NodeId.{NodeId}
+use Rattle.mv_base.specs.declared.ids.SiteId.{SiteId}
+use Rattle.mv_base.specs.declared.prefix.Prefix.{Prefix}
+use Rattle.mv_base.specs.declared.rd.Rd.{Rd}
+use Rattle.mv_base.specs.declared.rd.Rule.{Rule}
+use Rattle.mv_base.specs.declared.rd.Rule.TheVariants.{Highest, Nearest, Hash}
+use Rattle.choice_defs.specs.declared.known_route.KnownRoute.{KnownRoute}
+use Rattle.choice_defs.specs.declared.origin.Origin.{Origin}
+use Rattle.choice_defs.specs.declared.origin.Origin.TheVariants.{Local, Remote}
+
+-- it is one of the list
+abbrev pub Among : {X : Type 0} → X → List X → Type 0
+Among x [] = ⊥
+Among x (y ∷ ys) = (x ≡ y) ⊎ Among x ys
+
+-- ---- addresses and route distinguishers
+
+-- the numbers by which addresses are compared: those of IPv4 are lower than those of IPv6, and within a family the octets
+-- tell
+abbrev pub addr_key : Addr → List ℕ
+addr_key (V4 octets) = 4 ∷ octets
+addr_key (V6 octets) = 6 ∷ octets
+
+abbrev pub addr_cmp : Addr → Addr → Ordering
+addr_cmp a b = slice_cmp nat_cmp (addr_key a) (addr_key b)
+
+abbrev pub rd_cmp : Rd → Rd → Ordering
+rd_cmp a b = slice_cmp nat_cmp a.0 b.0
+
+-- the first address is lower
+abbrev pub IsLower : Addr → Addr → Type 0
+IsLower a b = addr_cmp a b ≡ Less
+
+-- the first route distinguisher is less
+abbrev pub IsLess : Rd → Rd → Type 0
+IsLess a b = rd_cmp a b ≡ Less
+
+-- ---- the choice
+
+-- What a rule compares before addresses: the cost by Nearest, and nothing by Highest. Hash chooses as Highest: this is the
+-- project's rule until the hash is built.
+abbrev pub cost_by : Rule → (NodeId → ℕ) → NodeId → ℕ
+cost_by Highest cost edge = 0
+cost_by Nearest cost edge = cost edge
+cost_by Hash cost edge = 0
+
+-- the order of two edges and route distinguishers, the better first: by the least cost, by the highest address, and by the
+-- least route distinguisher
+abbrev pub remote_cmp : (NodeId → ℕ) → NodeId → Addr → Rd → NodeId → Addr → Rd → Ordering
+remote_cmp cost edge address rd other_edge other_address other_rd =
+    ordering_then (nat_cmp (cost edge) (cost other_edge)) (ordering_then (addr_cmp other_address address) (rd_cmp rd other_rd))
+
+-- the order of two origins, the better first: local ones before remote ones
+abbrev pub origin_cmp : (NodeId → ℕ) → Origin → Origin → Ordering
+origin_cmp cost (Local site) (Local other_site) = Equal
+origin_cmp cost (Local site) (Remote other_edge other_address other_rd) = Less
+origin_cmp cost (Remote edge address rd) (Local other_site) = Greater
+origin_cmp cost (Remote edge address rd) (Remote other_edge other_address other_rd) = remote_cmp cost edge address rd other_edge other_address other_rd
+
+-- the order of two routes that cover a source, the better first: longer ones before shorter ones
+abbrev pub route_cmp : (NodeId → ℕ) → KnownRoute → KnownRoute → Ordering
+route_cmp cost route other = ordering_then (nat_cmp other.prefix.bits route.prefix.bits) (origin_cmp cost route.origin other.origin)
+
+-- whether the first route is better than the second, the cost being that by the rule
+abbrev pub is_better : (NodeId → ℕ) → KnownRoute → KnownRoute → Bool
+is_better cost route other = is_lt (route_cmp cost route other)
+
+-- the better one of a route, where it covers the source, and of what is best of the others
+abbrev pub better_of : (NodeId → ℕ) → Bool → KnownRoute → Option KnownRoute → Option KnownRoute
+better_of cost false route rest = rest
+better_of cost true route None = Some route
+better_of cost true route (Some other) = if is_better cost other route then Some other else Some route
+
+-- the best one of the routes that cover the source
+abbrev pub best_route : (NodeId → ℕ) → List KnownRoute → Addr → Option KnownRoute
+best_route cost [] source = None
+best_route cost (route ∷ more) source = better_of cost (covers route.prefix source) route (best_route cost more source)
+
+-- The upstream choice of a VRF for a source, over the routes that it knows. The cost is the least cost in the core from this
+-- edge to each node.
+abbrev pub choose : Rule → (NodeId → ℕ) → List KnownRoute → Addr → Option Origin
+choose rule cost routes source = option_map (λ route. route.origin) (best_route (cost_by rule cost) routes source)
+
+-- ---- what it means
+
+-- The first edge has the higher address, or both are one edge and the second route distinguisher is not less.
+abbrev pub IsHigher : NodeId → Addr → Rd → NodeId → Addr → Rd → Type 0
+IsHigher edge address rd other_edge other_address other_rd = IsLower other_address address ⊎ ((edge ≡ other_edge) × (IsLess other_rd rd → ⊥))
+
+-- The second edge and route distinguisher are no better by the rule. Hash is as Highest until it is built.
+abbrev pub IsFirst : Rule → (NodeId → ℕ) → NodeId → Addr → Rd → NodeId → Addr → Rd → Type 0
+IsFirst Highest cost edge address rd other_edge other_address other_rd = IsHigher edge address rd other_edge other_address other_rd
+IsFirst Nearest cost edge address rd other_edge other_address other_rd =
+    (cost edge < cost other_edge) ⊎ ((cost edge ≡ cost other_edge) × IsHigher edge address rd other_edge other_address other_rd)
+IsFirst Hash cost edge address rd other_edge other_address other_rd = IsHigher edge address rd other_edge other_address other_rd
+
+-- A local origin stands before all others, and a remote one before no local one.
+abbrev pub Precedes : Rule → (NodeId → ℕ) → Origin → Origin → Type 0
+Precedes rule cost (Local site) other = ⊤
+Precedes rule cost (Remote edge address rd) (Local other_site) = ⊥
+Precedes rule cost (Remote edge address rd) (Remote other_edge other_address other_rd) = IsFirst rule cost edge address rd other_edge other_address other_rd
+
+-- The VRF chooses the origin: it is that of a route that covers the source, no route that covers it is longer, and of those
+-- as long none is better: where the origin is remote, none is local, and each other one has a lower address (by Nearest: a
+-- greater cost, or the same cost and a lower address) or is of the same edge and of no lesser route distinguisher.
+pub record IsChosen (rule : Rule) (cost : NodeId → ℕ) (routes : List KnownRoute) (source : Addr) (origin : Origin) : Type 0 where
+  pub route : KnownRoute
+  pub among : Among route routes
+  pub covering : covers route.prefix source ≡ true
+  pub of_origin : route.origin ≡ origin
+  pub longest : (other : KnownRoute) → Among other routes → covers other.prefix source ≡ true → other.prefix.bits ≤ route.prefix.bits
+  pub first : (other : KnownRoute) → Among other routes → covers other.prefix source ≡ true → other.prefix.bits ≡ route.prefix.bits → Precedes rule cost route.origin other.origin
+
+-- No route covers the source.
+abbrev pub IsUncovered : List KnownRoute → Addr → Type 0
+IsUncovered routes source = (route : KnownRoute) → Among route routes → covers route.prefix source ≡ false
+
+-- ---- what a VRF knows
+
+-- Remote origins of one edge have one address, and those of two edges have different ones.
+abbrev pub AreTold : Origin → Origin → Type 0
+AreTold origin other = (edge other_edge : NodeId) (address other_address : Addr) (rd other_rd : Rd) → origin ≡ Remote edge address rd → other ≡ Remote other_edge other_address other_rd
+    → (edge ≡ other_edge) ↔ (address ≡ other_address)
+
+-- An edge has one address, and two edges have different ones.
+abbrev pub AreOfEdges : List KnownRoute → Type 0
+AreOfEdges routes = (route other : KnownRoute) → Among route routes → Among other routes → AreTold route.origin other.origin
+
+-- Both are one prefix: of one length, and of the same first bits.
+abbrev pub IsOnePrefix : Prefix → Prefix → Type 0
+IsOnePrefix a b = (a.bits ≡ b.bits) × (same_front a.addr b.addr a.bits ≡ true)
+
+-- Local routes of one prefix are of one site.
+abbrev pub AreOfSites : List KnownRoute → Type 0
+AreOfSites routes = (route other : KnownRoute) (site other_site : SiteId) → Among route routes → Among other routes → IsOnePrefix route.prefix other.prefix
+    → route.origin ≡ Local site → other.origin ≡ Local other_site → site ≡ other_site
+
+-- Each route is local.
+abbrev pub AreLocal : List KnownRoute → Type 0
+AreLocal routes = (route : KnownRoute) → Among route routes → (site : SiteId) × (route.origin ≡ Local site)
+
+-- The origin is the site of a route that covers the source, and no route that covers it is longer.
+pub record IsSiteOfLongest (routes : List KnownRoute) (source : Addr) (origin : Origin) : Type 0 where
+  pub site : SiteId
+  pub route : KnownRoute
+  pub is_site : origin ≡ Local site
+  pub among : Among route routes
+  pub covering : covers route.prefix source ≡ true
+  pub of_site : route.origin ≡ Local site
+  pub longest : (other : KnownRoute) → Among other routes → covers other.prefix source ≡ true → other.prefix.bits ≤ route.prefix.bits

@@ -1,0 +1,40 @@
+//! Laws of the upstream choice.
+ghost use Rattle.std.specs.Prelude.{◌≡◌, ℕ, ◌↔◌, List, None, Some};
+ghost use Rattle.mv_base.specs.declared.addr.Addr.{Addr};
+ghost use Rattle.mv_base.specs.declared.ids.NodeId.{NodeId};
+ghost use Rattle.mv_base.specs.declared.rd.Rule.{Rule};
+ghost use Rattle.choice_defs.specs.declared.known_route.KnownRoute.{KnownRoute};
+ghost use Rattle.choice_defs.specs.declared.origin.Origin.{Origin};
+ghost use Rattle.choice_defs.specs.Choice.{Among, choose, IsChosen, IsUncovered, AreOfEdges, AreOfSites, AreLocal, IsSiteOfLongest};
+ghost use Rattle.choice_defs.specs.Example.{Worked};
+
+/// Where each edge has an address of its own, what a VRF chooses is chosen as the rule says; and it chooses nothing exactly
+/// where no route covers the source.
+pub fn choice_is()
+    ensures chosen { (rule : Rule) (cost : NodeId → ℕ) (routes : List KnownRoute) (source : Addr) (origin : Origin) → AreOfEdges routes →
+        choose rule cost routes source ≡ Some origin → IsChosen rule cost routes source origin }
+    ensures none { (rule : Rule) (cost : NodeId → ℕ) (routes : List KnownRoute) (source : Addr) →
+        (choose rule cost routes source ≡ None) ↔ IsUncovered routes source }
+{}
+
+/// Where each edge has an address of its own, and a prefix has one local site at most, at most one origin is chosen, that is
+/// the choice, and it is the same in whatever order the routes stand.
+pub fn one_choice()
+    ensures one { (rule : Rule) (cost : NodeId → ℕ) (routes : List KnownRoute) (source : Addr) (origin other : Origin) → AreOfEdges routes → AreOfSites routes →
+        IsChosen rule cost routes source origin → IsChosen rule cost routes source other → origin ≡ other }
+    ensures all { (rule : Rule) (cost : NodeId → ℕ) (routes : List KnownRoute) (source : Addr) (origin : Origin) → AreOfEdges routes → AreOfSites routes →
+        IsChosen rule cost routes source origin → choose rule cost routes source ≡ Some origin }
+    ensures order { (rule : Rule) (cost : NodeId → ℕ) (routes others : List KnownRoute) (source : Addr) → AreOfEdges routes → AreOfSites routes →
+        ((route : KnownRoute) → Among route routes ↔ Among route others) → choose rule cost routes source ≡ choose rule cost others source }
+{}
+
+/// With local routes alone, the choice is the site of a longest route that covers the source.
+pub fn local_choice()
+    ensures { (rule : Rule) (cost : NodeId → ℕ) (routes : List KnownRoute) (source : Addr) (origin : Origin) → AreLocal routes →
+        choose rule cost routes source ≡ Some origin → IsSiteOfLongest routes source origin }
+{}
+
+/// A worked VRF with a short local route and longer ones of two edges.
+pub fn worked_choice()
+    ensures { Worked }
+{}

@@ -1,0 +1,11 @@
+//! Where routes are from.
+use mv_base::{Addr, NodeId, Rd, SiteId};
+
+/// Where a route that a VRF knows is from.
+#[derive(Clone, Copy, Debug, PartialEq, Eq)]
+pub enum Origin {
+    /// A site that is attached at the VRF itself.
+    Local(SiteId),
+    /// Another edge, with its address and the route distinguisher of the route.
+    Remote { edge: NodeId, address: Addr, rd: Rd },
+}

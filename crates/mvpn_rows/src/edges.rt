@@ -8,11 +8,11 @@ const TWO_EDGES: &str =
     "edge E1 192.0.2.1\nedge E2 192.0.2.2\ncore C 192.0.2.9\nlink E1 C 1\nlink E2 C 1\nvrf V1 E1 1 65000:1 65000:1 highest\nvrf V2 E2 1 65000:1 65000:1 highest\nsite X 10.1.0.0/24\nsite Y 10.2.0.0/24\niface X1 V1 X 10.1.0.1\niface Y1 V2 Y 10.2.0.1\n";
 
 /// The first site is attached at the second edge as well, and another site at the first edge.
-const DUAL_HOMED: &str = "site W 10.4.0.0/24\niface X2 V2 X 10.1.0.2\niface W1 V1 W 10.4.0.1\n";
+const DUAL_HOMED: &str = "site U 10.4.0.0/24\niface X2 V2 X 10.1.0.2\niface U1 V1 U 10.4.0.1\n";
 
 /// A third site at the first edge, and at the second one a site with a longer prefix of the first site's addresses.
 const LONGER_ELSEWHERE: &str =
-    "site Z 10.1.0.0/25\nsite W 10.4.0.0/24\niface Z1 V2 Z 10.1.0.2\niface W1 V1 W 10.4.0.1\n";
+    "site Z 10.1.0.0/25\nsite U 10.4.0.0/24\niface Z1 V2 Z 10.1.0.2\niface U1 V1 U 10.4.0.1\n";
 
 /// More lines of the scenario, events, and what they report.
 #[derive(Clone, Copy)]
@@ -39,15 +39,15 @@ const APART: Row = Row {
 /// A datagram enters at each edge of its site.
 const BOTH: Row = Row {
     scenario: DUAL_HOMED,
-    events: "join Y1 10.1.0.9 232.1.1.1\njoin W1 10.1.0.9 232.1.1.1\nsend X 10.1.0.9 232.1.1.1 aabb\n",
-    report: "out 1 W1 4500001600000000401187cb0a010009e8010101aabb\nout 1 Y1 4500001600000000401187cb0a010009e8010101aabb\n",
+    events: "join Y1 10.1.0.9 232.1.1.1\njoin U1 10.1.0.9 232.1.1.1\nsend X 10.1.0.9 232.1.1.1 aabb\n",
+    report: "out 1 U1 4500001600000000401187cb0a010009e8010101aabb\nout 1 Y1 4500001600000000401187cb0a010009e8010101aabb\n",
 };
 
 /// An edge does not know the longer prefix of another edge.
 const LOCAL: Row = Row {
     scenario: LONGER_ELSEWHERE,
-    events: "join W1 10.1.0.9 232.1.1.1\nsend X 10.1.0.9 232.1.1.1 aabb\n",
-    report: "out 1 W1 4500001600000000401187cb0a010009e8010101aabb\n",
+    events: "join U1 10.1.0.9 232.1.1.1\nsend X 10.1.0.9 232.1.1.1 aabb\n",
+    report: "out 1 U1 4500001600000000401187cb0a010009e8010101aabb\n",
 };
 
 /// The timers of one edge leave the entries of another.
@@ -79,11 +79,11 @@ fn faults_of_links_and_lists_are_told(rt: HostRuntime) -> Result<(), Fail> {
         ("link C C 1\n", "fault 12:8 self\n"),
         ("core D 192.0.2.10\nevents\n", "fault 13:1 apart\n"),
         (
-            "vrf W1 E1 2 65000:2 65000:1,192.0.2.1:2 highest\n",
+            "vrf V3 E1 2 65000:2 65000:1,192.0.2.1:2 highest\n",
             "fault 12:21 overlap\n",
         ),
         (
-            "vrf W1 E1 2 65000:2 65000:2,65000:2 highest\n",
+            "vrf V3 E1 2 65000:2 65000:2,65000:2 highest\n",
             "fault 12:21 targets\n",
         ),
         (

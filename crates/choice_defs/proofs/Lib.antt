@@ -1,4 +1,5 @@
 pub mod OrderLemmas
 pub mod BestLemmas
 pub mod ChoiceLemmas
+pub mod HomeLemmas
 pub mod Example

@@ -13,6 +13,7 @@ use Rattle.mv_base.specs.declared.prefix.Prefix.{Prefix}
 use Rattle.mv_base.specs.declared.rd.Rd.{Rd}
 use Rattle.mv_base.specs.declared.rd.Rule.{Rule}
 use Rattle.mv_base.specs.declared.rd.Rule.TheVariants.{Highest, Nearest, Hash}
+use Rattle.scenario_defs.specs.declared.scenario.Route.{Route}
 use Rattle.choice_defs.specs.declared.known_route.KnownRoute.{KnownRoute}
 use Rattle.choice_defs.specs.declared.origin.Origin.{Origin}
 use Rattle.choice_defs.specs.declared.origin.Origin.TheVariants.{Local, Remote}
@@ -125,6 +126,10 @@ abbrev pub IsUncovered : List KnownRoute → Addr → Type 0
 IsUncovered routes source = (route : KnownRoute) → Among route routes → covers route.prefix source ≡ false
 
 -- ---- what a VRF knows
+
+-- a local route, as one that the VRF knows
+abbrev pub of_site : Route → KnownRoute
+of_site route = record { prefix = route.prefix; origin = Local route.site }
 
 -- Remote origins of one edge have one address, and those of two edges have different ones.
 abbrev pub AreTold : Origin → Origin → Type 0

@@ -1,11 +1,14 @@
 //! Laws of the upstream choice.
-ghost use Rattle.std.specs.Prelude.{◌≡◌, ℕ, ◌↔◌, List, None, Some};
+ghost use Rattle.std.specs.Prelude.{◌≡◌, ℕ, ◌↔◌, List, map, None, Some, option_map};
 ghost use Rattle.mv_base.specs.declared.addr.Addr.{Addr};
 ghost use Rattle.mv_base.specs.declared.ids.NodeId.{NodeId};
 ghost use Rattle.mv_base.specs.declared.rd.Rule.{Rule};
+ghost use Rattle.scenario_defs.specs.declared.scenario.Route.{Route};
+ghost use Rattle.scenario_defs.specs.Home.{home_by};
 ghost use Rattle.choice_defs.specs.declared.known_route.KnownRoute.{KnownRoute};
 ghost use Rattle.choice_defs.specs.declared.origin.Origin.{Origin};
-ghost use Rattle.choice_defs.specs.Choice.{Among, choose, IsChosen, IsUncovered, AreOfEdges, AreOfSites, AreLocal, IsSiteOfLongest};
+ghost use Rattle.choice_defs.specs.declared.origin.Origin.TheVariants.{Local};
+ghost use Rattle.choice_defs.specs.Choice.{Among, choose, of_site, IsChosen, IsUncovered, AreOfEdges, AreOfSites, AreLocal, IsSiteOfLongest};
 ghost use Rattle.choice_defs.specs.Example.{Worked};
 
 /// Where each edge has an address of its own, what a VRF chooses is chosen as the rule says; and it chooses nothing exactly
@@ -32,6 +35,11 @@ pub fn one_choice()
 pub fn local_choice()
     ensures { (rule : Rule) (cost : NodeId → ℕ) (routes : List KnownRoute) (source : Addr) (origin : Origin) → AreLocal routes →
         choose rule cost routes source ≡ Some origin → IsSiteOfLongest routes source origin }
+{}
+
+/// With the local routes of a VRF alone, the choice is the site by which the network of this version chooses, whatever the rule.
+pub fn local_home()
+    ensures { (rule : Rule) (cost : NodeId → ℕ) (routes : List Route) (source : Addr) → choose rule cost (map of_site routes) source ≡ option_map (λ site. Local site) (home_by routes source) }
 {}
 
 /// A worked VRF with a short local route and longer ones of two edges.

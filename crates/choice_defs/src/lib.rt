@@ -7,5 +7,5 @@ mod laws;
 mod origin;
 
 pub use known_route::KnownRoute;
-pub use laws::{choice_is, local_choice, one_choice, worked_choice};
+pub use laws::{choice_is, local_choice, local_home, one_choice, worked_choice};
 pub use origin::Origin;

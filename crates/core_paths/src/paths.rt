@@ -57,7 +57,7 @@ fn copied(alloc: Global, links: &[Link]) -> Result<Vec<Link>, NoMemory>
 }
 
 impl Core {
-    /// The core of so many nodes and these links.
+    /// The core of so many nodes and these links; `Disconnected` with the lowest node that node 0 does not reach.
     pub fn of(alloc: Global, nodes: u16, links: &[Link]) -> Result<Core, CoreFault>
         requires { IsTopology nodes links.now }
         ensures ok { IfOk result (λ core. core ≡ record { nodes = nodes; links = links.now }) }

@@ -7,7 +7,7 @@ use mv_base::{Link, NoMemory};
 use std::alloc::Global;
 
 /// The entry of a node for which no first step is known. It is above the number of every node.
-const NOBODY: u16 = u16::MAX;
+const NO_STEP: u16 = u16::MAX;
 
 /// Lowers the entry of `from` to `via`, if a walk of least cost leads there.
 fn note(nexts: &mut [u16], row: &[u32], from: u16, via: u16, cost: u32)
@@ -55,7 +55,7 @@ pub(crate) fn steps_toward(
     requires near { (k : ℕ) → k < nodes → slice_index row.now k < far }
     ensures { IfOk result (λ nexts. IsStepRow links.now nodes root nexts.items) }
 {
-    let mut nexts = vec![in alloc; NOBODY; usize::from(nodes)]?;
+    let mut nexts = vec![in alloc; NO_STEP; usize::from(nodes)]?;
     note_all(&mut nexts, row, links);
     Ok(nexts)
 }

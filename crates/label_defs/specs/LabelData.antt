@@ -43,7 +43,7 @@ first_label = 16
 abbrev pub same_fec : Fec → Fec → Bool
 same_fec a b = eq_by_cmp fec_cmp a b
 
--- what the label is used for; one that the node does not have is free for nothing
+-- what the label is used for, where the node has it
 abbrev pub use_of : LabelData → ℕ → Option LabelUse
 use_of part label = if nat_lt label first_label then None else slice_get part.labels (label - first_label)
 

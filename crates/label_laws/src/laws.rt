@@ -21,7 +21,7 @@ pub fn runs_keep_the_rule()
     ensures { (network : LabelNetwork) (acts : List Act) → Kept network → OnNetwork Kept (run network acts) }
 {}
 
-/// The rule says of each copy and of each branch that the label under it stands.
+/// The rule gives the label rule: of each copy on a link, and of each branch.
 pub fn the_rule_in_full()
     ensures { (network : LabelNetwork) → Rule network → LabelRule network }
 {}

@@ -9,9 +9,13 @@ pub record Space : Type 0 where
   pub life : ℕ
   pub states : List LabelState
 
--- what the label is, where the space has it; 0 to 15 are reserved (RFC 3032 section 2.1)
+-- the least label; 0 to 15 are reserved (RFC 3032 section 2.1)
+abbrev pub first_label : ℕ
+first_label = 16
+
+-- what the label is, where the space has it
 abbrev pub state_of : Space → ℕ → Option LabelState
-state_of space label = if nat_lt label 16 then None else slice_get space.states (label - 16)
+state_of space label = if nat_lt label first_label then None else slice_get space.states (label - first_label)
 
 abbrev pub IsOwned : Space → ℕ → Type 0
 IsOwned space label = state_of space label ≡ Some Owned
@@ -27,7 +31,7 @@ NoneFree space = (label : ℕ) → state_of space label ≢ Some Free
 
 -- the label, one of the space, alone becomes so
 abbrev pub set_label : Space → ℕ → LabelState → Space
-set_label space label state = record space { states = slice_set space.states (label - 16) state }
+set_label space label state = record space { states = slice_set space.states (label - first_label) state }
 
 -- a resting label is free again from its moment on
 abbrev pub woken : ℕ → LabelState → LabelState

@@ -8,7 +8,7 @@ use mldp_fec::Fec;
 use mv_base::NodeId;
 
 /// Which raise of a session: a count.
-#[derive(Clone, Copy, Debug, PartialEq, Eq, PartialOrd, Ord)]
+#[derive(Clone, Copy, Debug, PartialEq, Eq)]
 pub struct Incarnation(pub u64);
 
 /// A FEC that waits for a label.

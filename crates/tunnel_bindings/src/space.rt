@@ -63,12 +63,10 @@ impl Model for LabelSpace {
 }
 
 impl LabelSpace {
-    /// So many labels from 16 on, each free. A label that is released rests for its life and one more. No later call takes
-    /// memory.
+    /// So many labels from 16 on, each free. A label that is released rests for `life` ticks and one more, so that no copy
+    /// that was sent under it is on a link any more. No later call takes memory.
     pub fn of(alloc: Global, count: u32, life: u64) -> Result<LabelSpace, NoMemory>
-        requires some { 1 ≤ count }
         requires few { count ≤ 65536 }
-        requires lasting { 1 ≤ life }
         requires short { life ≤ 1000 }
         ensures { IfOk result (λ space. space ≡ record { life = life; states = replicate count LabelState.Free }) }
     {
@@ -117,7 +115,7 @@ impl LabelSpace {
         self.numbers.set(number as usize, LabelState::Free);
     }
 
-    /// The label, which is owned, rests from now on for its life and one more.
+    /// The label, which is owned, rests from now on for the life of a copy and one tick more.
     pub(crate) fn rest(&mut self, label: u32, now: u64)
         requires owned { IsOwned self.old label }
         requires now { now < 2 ^ 63 }

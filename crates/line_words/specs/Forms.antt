@@ -67,21 +67,23 @@ group_at row word = addr_at row word >>= λ addr. if is_group addr then Ok addr 
 unfoldable pub vrf_number_of : List ℕ → Option ℕ
 vrf_number_of text = number_of text >>? λ number. only_if (nat_le 1 number && nat_le number 4095) number
 
--- the octets that a text `N:M` writes behind the two octets of a kind: N, below 2^16, in two and M, below 2^32, in four
+-- all eight octets that a text `N:M` writes: the two of the kind, then N, below 2^16, in two and M, below 2^32, in four
 unfoldable pub numbered_of : ℕ → ℕ → List ℕ → Option (List ℕ)
 numbered_of kind sub_kind text =
     cut_of 58 text >>? λ cut. number_of cut.0 >>? λ n. number_of cut.1 >>? λ m. only_if (nat_le n 65535 && nat_le m 4294967295) (kind ∷ sub_kind ∷ (to_be_bytes w16 n ++ to_be_bytes w32 m))
 
--- the octets that a text `ADDR:M` writes behind the two octets of a kind: those of ADDR, and M, below 2^16, in two
+-- all eight octets that a text `ADDR:M` writes: the two of the kind, then the four of ADDR, and M, below 2^16, in two
 unfoldable pub addressed_of : ℕ → ℕ → List ℕ → Option (List ℕ)
 addressed_of kind sub_kind text =
     cut_of 58 text >>? λ cut. dotted_of cut.0 >>? λ addr. number_of cut.1 >>? λ m. only_if (nat_le m 65535) (kind ∷ sub_kind ∷ (addr ++ to_be_bytes w16 m))
 
--- the route distinguisher that a text writes: `N:M` one of type 0, `ADDR:M` one of type 1 (RFC 4364 section 4.2)
+-- the route distinguisher that a text writes, all eight octets, of which the first two are the type: `N:M` one of type 0,
+-- `ADDR:M` one of type 1 (RFC 4364 section 4.2)
 unfoldable pub rd_of : List ℕ → Option Rd
 rd_of text = option_map (λ octets. record { 0 = octets }) (option_or (numbered_of 0 0 text) (addressed_of 0 1 text))
 
--- the Route Target that a text writes: `N:M` one of a two-octet AS, `ADDR:M` one of an IPv4 address (RFC 4360 section 4)
+-- the Route Target that a text writes, all eight octets, of which the first two are the type and the sub-type: `N:M` one of
+-- a two-octet AS, `ADDR:M` one of an IPv4 address (RFC 4360 section 4)
 unfoldable pub target_of : List ℕ → Option Target
 target_of text = option_map (λ octets. record { 0 = record { 0 = octets } }) (option_or (numbered_of 0 2 text) (addressed_of 1 2 text))
 

@@ -133,7 +133,7 @@ fn numbered_octets(kind: u8, sub_kind: u8, n: u16, m: u32) -> [u8; 8]
     [kind, sub_kind, n0, n1, m0, m1, m2, m3]
 }
 
-/// The octets that `N:M` writes behind the two octets of a kind, where N is below 2^16 and M below 2^32.
+/// All eight octets that `N:M` writes, the two of the kind first, where N is below 2^16 and M below 2^32.
 #[tactic(auto, unfolding(crate::specs::Forms::numbered_of))]
 fn numbered_of(kind: u8, sub_kind: u8, text: &[u8]) -> Option<[u8; 8]>
     ensures { result ≡ numbered_of kind sub_kind text.now }
@@ -166,7 +166,7 @@ fn addressed_octets(kind: u8, sub_kind: u8, addr: [u8; 4], m: u16) -> [u8; 8]
     [kind, sub_kind, a, b, c, d, m0, m1]
 }
 
-/// The octets that `ADDR:M` writes behind the two octets of a kind, where M is below 2^16.
+/// All eight octets that `ADDR:M` writes, the two of the kind first, where M is below 2^16.
 #[tactic(auto, unfolding(crate::specs::Forms::addressed_of))]
 fn addressed_of(kind: u8, sub_kind: u8, text: &[u8]) -> Option<[u8; 8]>
     ensures { result ≡ addressed_of kind sub_kind text.now }

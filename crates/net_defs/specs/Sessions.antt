@@ -33,6 +33,7 @@ ldp_session link = record { kind = kinds.Ldp; a = link.a; b = link.b; joined = f
 abbrev pub sessions : Scenario → List Session
 sessions scenario = bgp_sessions (edges scenario) ++ map ldp_session scenario.links
 
--- how many of the sessions are not ready: those that are not joined
+-- How many of the sessions are not ready: those that are not joined. No line that is built raises one, so none is joined
+-- with a hold that was not run.
 abbrev pub unready : List Session → ℕ
 unready all = count_by (λ session. not session.joined) all

@@ -84,12 +84,16 @@ fn leave(
     })
 }
 
-/// A datagram that enters: its site, which one it is, its octets, and the interfaces that ask for its flow.
+/// A datagram that enters.
 #[derive(Clone, Copy)]
 pub(crate) struct Entering<'a> {
+    /// The site that sent it.
     pub site: SiteId,
+    /// Which one it is: accepted sends are numbered from 1.
     pub number: u64,
+    /// The whole IPv4 packet.
     pub octets: &'a [u8],
+    /// The interfaces of all VRFs that ask for its flow, in order.
     pub asking: &'a [IfaceId],
 }
 
@@ -112,7 +116,7 @@ fn enter(
     Ok(())
 }
 
-/// Appends the lines of the datagram's entering at each of the VRFs, in order.
+/// Appends the lines of the datagram's entering at each of the VRFs, in order. At want of memory some first ones stand.
 pub(crate) fn enter_each(
     alloc: Global,
     ifaces: &[Iface],

@@ -1,4 +1,5 @@
-//! The interfaces that ask for a flow, kept for each flow until an event may change them.
+//! The interfaces that ask for a flow, kept from its look-up until a tick, a run of timers, or a message that is taken and
+//! names the flow.
 ghost use Rattle.std.specs.Prelude.{◌≡◌, ◌≤◌, ◌^◌, length, IfOk, OnOk};
 ghost use Rattle.std.specs.List.{list_any};
 ghost use Rattle.indexmap.specs.IndexMap.{get};
@@ -20,7 +21,7 @@ pub struct Flow {
     pub group: Addr,
 }
 
-/// What the interfaces' asking for flows depends on: the joined state of each node at a moment, and the scenario.
+/// What the interfaces' asking for flows depends on: the scenario, the entries of each node, and the clock.
 #[derive(Clone, Copy)]
 pub(crate) struct Moment<'a> {
     pub scenario: &'a Scenario,
@@ -40,7 +41,7 @@ fn is_asking(moment: &Moment<'_>, flow: Flow, iface: IfaceId) -> bool
     }
 }
 
-/// The interfaces that ask for the flow, in order.
+/// The interfaces of all edges that ask for the flow, in order.
 fn asking(alloc: Global, moment: &Moment<'_>, flow: Flow) -> Result<IfaceList, NoMemory>
     requires { length moment.now.scenario.now.ifaces ≤ 2 ^ 16 }
     ensures { IfOk result (λ found. found ≡ asking (seen moment.now) flow.source flow.group) }
@@ -55,7 +56,7 @@ fn asking(alloc: Global, moment: &Moment<'_>, flow: Flow) -> Result<IfaceList, N
     Ok(found)
 }
 
-/// The interfaces that are kept for the flow.
+/// The interfaces that are kept for the flow; none where the flow is not kept.
 pub(crate) fn members(flows: &IndexMap<Flow, IfaceList>, flow: Flow) -> &[IfaceId]
     ensures { result.now ≡ members flows.now flow.source flow.group }
 {
@@ -65,7 +66,7 @@ pub(crate) fn members(flows: &IndexMap<Flow, IfaceList>, flow: Flow) -> &[IfaceI
     }
 }
 
-/// Looks up the interfaces that ask for the flow, and keeps them.
+/// Looks up the interfaces that ask for the flow and keeps them, where the flow is not kept yet.
 pub(crate) fn look_up(
     alloc: Global,
     flows: &mut IndexMap<Flow, IfaceList>,
@@ -112,7 +113,7 @@ fn forget_group(flows: &mut IndexMap<Flow, IfaceList>, group: &Group)
     forget_sources(flows, group.group, group.prunes.as_slice());
 }
 
-/// Forgets the flows that a message names: other flows are asked for as before it.
+/// Forgets the flows that a message names, in joins or in prunes: other flows are asked for as before it.
 pub(crate) fn forget(flows: &mut IndexMap<Flow, IfaceList>, groups: &[Group])
     ensures { (flow : Flow) → get same_flow flows.new flow ≡ unless (list_any (λ group. names_in group flow) groups.now) (get same_flow flows.old flow) }
 {

@@ -31,7 +31,8 @@ pub struct World {
     downstreams: Downstreams,
     sessions: Seq<Session>,
     clock: u64,
-    /// For flows that were sent since the last event that may change them, the interfaces that ask for them, in order.
+    /// For some flows, the interfaces that ask for them, in order: kept from a send on until a tick, a run of timers, or a
+    /// message that is taken and names the flow.
     flows: IndexMap<Flow, IfaceList>,
     /// The local routes of each VRF.
     routes: Seq<Seq<Route>>,

@@ -138,8 +138,8 @@ pub record NameRules (scenario : Scenario) : Type 0 where
   pub formed : (thing : Thing) (name : List ℕ) → name_of scenario thing ≡ Some name → is_name name ≡ true
   pub distinct : (thing other : Thing) (name : List ℕ) → name_of scenario thing ≡ Some name → name_of scenario other ≡ Some name → thing ≡ other
 
--- The rules of a scenario. `apart`, `vpns` and the other relations of two things speak of each pair once, in order of
--- declaration.
+-- The rules of a scenario. Relations that are said with `AllPairs` speak of each two of a list once, in the list's order:
+-- of things, the one that is declared first stands first. `distinct` of `NameRules` speaks of any two things, in both orders.
 pub record Rules (scenario : Scenario) : Type 0 where
   pub settings : SettingRules scenario
   pub core : CoreRules scenario

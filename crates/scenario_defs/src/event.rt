@@ -20,7 +20,8 @@ pub enum JoinEntry {
     Rpt { source: Addr, group: Addr },
 }
 
-/// An entry of an interface: (*,G) or (S,G) joined, or (S,G,rpt) pruned, by its customer router (RFC 7761 section 4.1).
+/// What a join or a prune names at an interface, whether or not it is held there. One that is held is an entry of the
+/// interface: (*,G) or (S,G) joined, or (S,G,rpt) pruned, by its customer router (RFC 7761 section 4.1).
 #[derive(Clone, Copy, Debug, PartialEq, Eq, Hash)]
 pub struct IfaceEntry {
     pub iface: IfaceId,

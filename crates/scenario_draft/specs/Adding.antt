@@ -8,7 +8,7 @@ use Rattle.scenario_draft.specs.declared.line.Line.TheVariants as says
 use Rattle.scenario_draft.specs.Drafted.{Drafted}
 use Rattle.scenario_draft.specs.Settings.{highest, none_given, is_given, with_given, with_setting}
 
--- nothing is declared
+-- nothing is declared, and each setting has its default
 abbrev pub empty_draft : Drafted
 empty_draft = record { scenario = record { life = 2; delay = 3; labels = 4096; system = 65000; nodes = []; links = []; vrfs = []; sites = []; ifaces = [] }; given = none_given; begun = false; events = []; names = [] }
 

@@ -5,7 +5,7 @@ use Rattle.scenario_defs.specs.declared.event.Timed.{Timed}
 use Rattle.scenario_defs.specs.declared.scenario.Thing.{Thing}
 use Rattle.scenario_draft.specs.declared.setting.Given.{Given}
 
--- the scenario, which settings were given, whether it has ended, the events, and what each name stands for
+-- the scenario, which settings were given, whether the line `events` was read, the events, and what each name stands for
 pub record Drafted : Type 0 where
   pub scenario : Scenario
   pub given : Given

@@ -68,7 +68,7 @@ site_named draft text = named draft text >>? λ thing. site_of thing >>? λ id. 
 unfoldable pub iface_named : Drafted → List ℕ → Option IfaceId
 iface_named draft text = named draft text >>? λ thing. iface_of thing >>? λ id. slice_get draft.scenario.ifaces id.0 >>? λ found. Some id
 
--- a word that declares a name
+-- a word that declares a name: the fault is `Name` where it does not have the form of one, `Again` where a thing has it
 unfoldable pub new_name : Drafted → Row → Placed → Result (List ℕ) TextFault
 new_name draft row word =
     if is_name word.text then elim (named draft word.text) [ None ↦ Ok word.text | Some thing ↦ fault row.number word.column reasons.Again ] else fault row.number word.column reasons.Name
@@ -97,7 +97,8 @@ iface_at draft row word = or_fault (iface_named draft word.text) row word reason
 abbrev pub is_at : Addr → Node → Bool
 is_at addr node = same_addr node.addr addr
 
--- a word that writes the address of a node
+-- a word that writes the address of a new node: the fault is `Address` where it writes none, or one that is not unicast,
+-- and `Again` where a node has it
 unfoldable pub node_addr_at : Drafted → Row → Placed → Result Addr TextFault
 node_addr_at draft row word =
     addr_at row word >>= λ addr. if is_unicast addr then (if list_any (is_at addr) draft.scenario.nodes then fault row.number word.column reasons.Again else Ok addr) else fault row.number word.column reasons.Address
@@ -106,7 +107,8 @@ node_addr_at draft row word =
 abbrev pub has_number : NodeId → ℕ → Vrf → Bool
 has_number edge number vrf = vrf.edge.0 == edge.0 && vrf.number == number
 
--- a word that writes the number of a VRF that is new at the edge
+-- a word that writes the number of a VRF that is new at the edge: the fault is `Number` where it writes none of 1 to 4,095,
+-- `Again` where a VRF of the edge has it
 unfoldable pub vrf_number_at : Drafted → Row → NodeId → Placed → Result ℕ TextFault
 vrf_number_at draft row edge word =
     or_fault (vrf_number_of word.text) row word reasons.Number >>= λ number. if list_any (has_number edge number) draft.scenario.vrfs then fault row.number word.column reasons.Again else Ok number
@@ -115,7 +117,8 @@ vrf_number_at draft row edge word =
 abbrev pub has_rd : NodeId → Rd → Vrf → Bool
 has_rd edge rd vrf = vrf.edge.0 == edge.0 && pointwise nat_eq vrf.rd.0 rd.0
 
--- a word that writes a route distinguisher that is new at the edge
+-- a word that writes a route distinguisher that is new at the edge: the fault is `Rd` where it writes none, `Again` where
+-- a VRF of the edge has it
 unfoldable pub rd_at : Drafted → Row → NodeId → Placed → Result Rd TextFault
 rd_at draft row edge word =
     or_fault (rd_of word.text) row word reasons.Rd >>= λ rd. if list_any (has_rd edge rd) draft.scenario.vrfs then fault row.number word.column reasons.Again else Ok rd
@@ -124,7 +127,8 @@ rd_at draft row edge word =
 abbrev pub joins : NodeId → NodeId → Link → Bool
 joins a b link = (link.a.0 == a.0 && link.b.0 == b.0) || (link.a.0 == b.0 && link.b.0 == a.0)
 
--- a word that names the other end of a link that is new
+-- a word that names the other end of a link that is new: the fault is `Unknown` where it names no node, `Again` where a
+-- link joins both
 unfoldable pub other_end_at : Drafted → Row → NodeId → Placed → Result NodeId TextFault
 other_end_at draft row a word =
     node_at draft row word >>= λ b. if list_any (joins a b) draft.scenario.links then fault row.number word.column reasons.Again else Ok b

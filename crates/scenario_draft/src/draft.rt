@@ -56,7 +56,7 @@ impl Model for Draft {
 }
 
 impl Draft {
-    /// Nothing is declared.
+    /// Nothing is declared, and each setting has its default.
     pub fn new(alloc: Global) -> Self
         ensures { result ≡ empty_draft }
     {
@@ -92,7 +92,7 @@ impl Draft {
         self.given
     }
 
-    /// Whether the scenario has ended.
+    /// Whether the line `events` was read.
     pub fn begun(&self) -> bool
         ensures { result ≡ self.now.begun }
     {
@@ -124,7 +124,8 @@ impl Draft {
         }
     }
 
-    /// Adds what a line says.
+    /// Adds what a line says, or answers `NoMemory`. Nothing is promised of the draft then: the name of a thing may have been
+    /// added without the thing.
     pub fn add(&mut self, line: u32, said: Line) -> Result<(), NoMemory>
         requires { IsNew self.old said }
         ensures { OnOk result (self.new ≡ added self.old line said) }

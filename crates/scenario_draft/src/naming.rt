@@ -93,7 +93,7 @@ fn iface_named(draft: &Draft, text: &[u8]) -> Option<IfaceId>
     Some(id)
 }
 
-/// A name that is not declared.
+/// A name that is not declared: `Name` where the word does not have the form of one, `Again` where a thing has it.
 #[tactic(auto, unfolding(crate::specs::Naming::new_name))]
 pub fn new_name(draft: &Draft, row: Row, word: &Word) -> Result<Name, TextFault>
     ensures { result ≡ new_name draft.now row (placed_word word.now) }
@@ -156,7 +156,8 @@ fn is_at_any(addr: Addr, nodes: &[Node]) -> bool
     nodes.iter().any(|node| node.addr.same(addr))
 }
 
-/// The address of a new node.
+/// The address of a new node: `Address` where the word writes none, or one that is not unicast; `Again` where a node
+/// has it.
 #[tactic(auto, unfolding(crate::specs::Naming::node_addr_at))]
 pub fn node_addr_at(draft: &Draft, row: Row, word: &Word) -> Result<Addr, TextFault>
     ensures { result ≡ node_addr_at draft.now row (placed_word word.now) }
@@ -183,7 +184,8 @@ fn is_number_taken(edge: NodeId, number: u16, vrfs: &[Vrf]) -> bool
     vrfs.iter().any(|vrf| has_number(edge, number, vrf))
 }
 
-/// The number of a new VRF at the edge.
+/// The number of a new VRF at the edge: `Number` where the word writes none of 1 to 4,095, `Again` where a VRF of the edge
+/// has it.
 #[tactic(auto, unfolding(crate::specs::Naming::vrf_number_at))]
 pub fn vrf_number_at(draft: &Draft, row: Row, edge: NodeId, word: &Word) -> Result<u16, TextFault>
     ensures { result ≡ vrf_number_at draft.now row edge (placed_word word.now) }
@@ -207,7 +209,7 @@ fn is_rd_taken(edge: NodeId, rd: Rd, vrfs: &[Vrf]) -> bool
     vrfs.iter().any(|vrf| has_rd(edge, rd, vrf))
 }
 
-/// The route distinguisher of a new VRF at the edge: `Rd` where a word writes none, `Again` where a VRF of the edge has it.
+/// The route distinguisher of a new VRF at the edge: `Rd` where the word writes none, `Again` where a VRF of the edge has it.
 #[tactic(auto, unfolding(crate::specs::Naming::rd_at))]
 pub fn rd_at(draft: &Draft, row: Row, edge: NodeId, word: &Word) -> Result<Rd, TextFault>
     ensures { result ≡ rd_at draft.now row edge (placed_word word.now) }
@@ -231,7 +233,7 @@ fn are_joined(a: NodeId, b: NodeId, links: &[Link]) -> bool
     links.iter().any(|link| joins(a, b, link))
 }
 
-/// The other end of a new link: `Unknown` where a word names no node, `Again` where a link joins both.
+/// The other end of a new link: `Unknown` where the word names no node, `Again` where a link joins both.
 #[tactic(auto, unfolding(crate::specs::Naming::other_end_at))]
 pub fn other_end_at(draft: &Draft, row: Row, a: NodeId, word: &Word) -> Result<NodeId, TextFault>
     ensures { result ≡ other_end_at draft.now row a (placed_word word.now) }

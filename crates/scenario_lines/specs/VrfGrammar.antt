@@ -26,11 +26,11 @@ vrf_head draft row a b c = new_name draft row a >>= λ name. edge_at draft row b
 unfoldable pub vrf_tail : Drafted → Row → NodeId → Placed → Placed → Placed → Result VrfTail TextFault
 vrf_tail draft row edge d e f = rd_at draft row edge d >>= λ rd. targets_at row e >>= λ targets. rule_at row f >>= λ rule. Ok (record { rd = rd; targets = targets; rule = rule })
 
--- whether a VRF shares some but not all members of the set
+-- whether the VRF has a member of the set among its targets, and its own set is not equal to it
 abbrev pub overlaps : List Target → Vrf → Bool
 overlaps targets vrf = shares vrf.targets targets && not (same vrf.targets targets)
 
--- whether a VRF of the edge has the members of the set
+-- whether the VRF is of that edge and has an equal set
 abbrev pub is_vpn_at : NodeId → List Target → Vrf → Bool
 is_vpn_at edge targets vrf = vrf.edge.0 == edge.0 && same vrf.targets targets
 

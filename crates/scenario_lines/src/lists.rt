@@ -14,7 +14,7 @@ fn overlaps(targets: &Targets, vrf: &Vrf) -> bool
     route_targets::shares(&vrf.targets, targets) && !route_targets::same(&vrf.targets, targets)
 }
 
-/// Whether some set shares some but not all members of the set.
+/// Whether some VRF has a member of the set among its targets, and its own set is not equal to it.
 pub fn is_overlap(targets: &Targets, vrfs: &[Vrf]) -> bool
     ensures { result ≡ list_any (overlaps targets.now) vrfs.now }
 {
@@ -27,7 +27,7 @@ fn is_vpn_at(edge: NodeId, targets: &Targets, vrf: &Vrf) -> bool
     vrf.edge.0 == edge.0 && route_targets::same(&vrf.targets, targets)
 }
 
-/// Whether some VRF of the edge has the members of the set.
+/// Whether some VRF of that edge has an equal set.
 pub fn is_vpn_taken(edge: NodeId, targets: &Targets, vrfs: &[Vrf]) -> bool
     ensures { result ≡ list_any (is_vpn_at edge targets.now) vrfs.now }
 {

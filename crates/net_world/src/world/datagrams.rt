@@ -15,7 +15,7 @@ use crate::packet::packet;
 use mv_base::{Addr, NoMemory, Seq, SiteId, VrfId};
 use scenario_defs::Lines;
 
-/// The list of that number, none where the table has none.
+/// The list of that number, an empty one where the table has none.
 fn list_at(table: &[Seq<VrfId>], number: u16) -> &[VrfId]
     ensures { result.now ≡ slice_index_or table.now number [] }
 {
@@ -28,7 +28,7 @@ fn list_at(table: &[Seq<VrfId>], number: u16) -> &[VrfId]
 impl World {
     ghost use Rattle.net_world.specs.WorldState.{event_lines, AppendsFront, Acts, Halts};
 
-    /// Appends the lines of a datagram's entering at the VRFs, whose choice is its site.
+    /// Appends the lines of a datagram's entering at each of these VRFs. The interfaces that ask for its flow are kept.
     fn enter_at(
         &mut self,
         vrfs: &[VrfId],
@@ -66,7 +66,7 @@ impl World {
         )
     }
 
-    /// The VRFs of the site whose choice for the source is the site.
+    /// Of the VRFs at which the site is attached, those whose choice for the source is the site.
     fn chosen(&self, site: SiteId, source: Addr) -> Result<Seq<VrfId>, NoMemory>
         requires running { self.now.halt ≡ None }
         requires known { site.0 < length self.now.network.scenario.sites }
@@ -76,7 +76,8 @@ impl World {
         choosing(self.alloc, self.routes.as_slice(), source, site, entered)
     }
 
-    /// Appends the lines of a datagram's entering at each VRF at which its site is attached.
+    /// Appends the lines of a datagram's entering at each VRF at which its site is attached: none where the VRF's choice for
+    /// the source is not the site.
     fn enter(
         &mut self,
         site: SiteId,
@@ -99,7 +100,7 @@ impl World {
         self.enter_at(vrfs.as_slice(), site, flow, payload, lines)
     }
 
-    /// A datagram of the site.
+    /// A datagram of the site: it is accepted and counted, or the world halts.
     pub(super) fn send(
         &mut self,
         line: u32,

@@ -16,7 +16,7 @@ use Rattle.scenario_defs.specs.Rules.{Rules}
 use Rattle.scenario_defs.proofs.RuleLemmas.{iface_rules_at, vrf_rules_at}
 use Rattle.mvpn_model.proofs.VpnLemmas.{element_at}
 use Rattle.net_defs.specs.Network.{is_chosen}
-use Rattle.net_world.specs.Entering.{choose, choosing}
+use Rattle.net_world.specs.Entering.{is_choice, choosing}
 use Rattle.net_world.specs.Tables.{upto}
 use Rattle.net_world.proofs.TablesLemmas.{get_or-upto}
 
@@ -40,8 +40,8 @@ pub choosing_told : (scenario : Scenario) (routes : List (List Route)) (vrfs : L
 choosing_told scenario routes vrfs source site r v known =
     let own : slice_index_or vrfs site.0 [] ≡ entered scenario site = ap (λ (l : List (List VrfId)). slice_index_or l site.0 []) v ∙ get_or-upto (λ n. entered scenario (record { 0 = n })) (length scenario.sites) site.0 [] known in
     ap (choosing routes source site) own
-    ∙ entered-filter (λ vrf. choose (slice_index_or routes vrf.0 []) source site) (λ vrf. is_chosen scenario vrf source site) scenario site (length scenario.vrfs) 0 scenario.vrfs
-    (λ n lt. ap (λ (l : List Route). choose l source site) (ap (λ (l : List (List Route)). slice_index_or l n []) r ∙ get_or-upto (λ vrf. local_routes scenario (record { 0 = vrf })) (length scenario.vrfs) n [] lt)) (omega arith)
+    ∙ entered-filter (λ vrf. is_choice (slice_index_or routes vrf.0 []) source site) (λ vrf. is_chosen scenario vrf source site) scenario site (length scenario.vrfs) 0 scenario.vrfs
+    (λ n lt. ap (λ (l : List Route). is_choice l source site) (ap (λ (l : List (List Route)). slice_index_or l n []) r ∙ get_or-upto (λ vrf. local_routes scenario (record { 0 = vrf })) (length scenario.vrfs) n [] lt)) (omega arith)
 
 -- the edge of an interface, which is one of the nodes
 record EdgeAt (scenario : Scenario) (iface : IfaceId) : Type 0 where

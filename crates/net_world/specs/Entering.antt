@@ -13,12 +13,12 @@ use Rattle.scenario_defs.specs.Vpn.{is_of_site, is_of_vrf}
 use Rattle.scenario_defs.specs.Home.{home_by}
 
 -- whether the choice for the source by these routes is the site
-abbrev pub choose : List Route → Addr → SiteId → Bool
-choose routes source site = elim (home_by routes source) [ None ↦ false | Some found ↦ found.0 == site.0 ]
+abbrev pub is_choice : List Route → Addr → SiteId → Bool
+is_choice routes source site = elim (home_by routes source) [ None ↦ false | Some found ↦ found.0 == site.0 ]
 
 -- of the VRFs those whose choice for the source is the site, by a table of the routes of each VRF
 abbrev pub choosing : List (List Route) → Addr → SiteId → List VrfId → List VrfId
-choosing table source site vrfs = filter (λ vrf. choose (slice_index_or table vrf.0 []) source site) vrfs
+choosing table source site vrfs = filter (λ vrf. is_choice (slice_index_or table vrf.0 []) source site) vrfs
 
 -- whether the interface of that number is of the VRF and belongs to another site
 abbrev pub is_outside : List Iface → VrfId → SiteId → IfaceId → Bool

@@ -1,6 +1,6 @@
 //! Where a datagram enters, and at which interfaces it leaves.
 ghost use Rattle.std.specs.Prelude.{◌≡◌, ◌++◌, [], ◌∷◌, slice_index_or, OnOk, OnErr, IfOk};
-ghost use Rattle.net_world.specs.Entering.{choose, choosing, is_outside, outs, outs_of_each};
+ghost use Rattle.net_world.specs.Entering.{is_choice, choosing, is_outside, outs, outs_of_each};
 ghost use Rattle.net_world.specs.WorldState.{AppendsFront};
 
 use mv_base::{Addr, Bytes, IfaceId, NoMemory, Seq, SiteId, VrfId};
@@ -9,8 +9,8 @@ use scenario_defs::{Iface, Lines, ReportLine, Route};
 use std::alloc::Global;
 
 /// Whether the choice for the source by these routes is the site.
-fn choose(routes: &[Route], source: Addr, site: SiteId) -> bool
-    ensures { result ≡ choose routes.now source site }
+fn is_choice(routes: &[Route], source: Addr, site: SiteId) -> bool
+    ensures { result ≡ is_choice routes.now source site }
 {
     match home_among(routes, source) {
         Some(found) => found.0 == site.0,
@@ -19,11 +19,11 @@ fn choose(routes: &[Route], source: Addr, site: SiteId) -> bool
 }
 
 /// Whether the VRF's choice for the source is the site, by a table of the routes of each VRF.
-fn chooses(table: &[Seq<Route>], vrf: VrfId, source: Addr, site: SiteId) -> bool
-    ensures { result ≡ choose (slice_index_or table.now vrf.0 []) source site }
+fn is_choice_of(table: &[Seq<Route>], vrf: VrfId, source: Addr, site: SiteId) -> bool
+    ensures { result ≡ is_choice (slice_index_or table.now vrf.0 []) source site }
 {
     match table.get(usize::from(vrf.0)) {
-        Some(routes) => choose(routes.as_slice(), source, site),
+        Some(routes) => is_choice(routes.as_slice(), source, site),
         None => false,
     }
 }
@@ -40,7 +40,7 @@ pub(crate) fn choosing(
 {
     let mut found = Seq::new(alloc);
     for vrf in vrfs {
-        if chooses(table, *vrf, source, site) {
+        if is_choice_of(table, *vrf, source, site) {
             found.push(*vrf)?;
         }
     }

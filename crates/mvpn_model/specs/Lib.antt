@@ -1,4 +1,3 @@
-pub mod Scope
 pub mod Messages
 pub mod Past
 pub mod Packet

@@ -10,6 +10,6 @@ mod vpn;
 
 pub use history::{History, LineNumbers, asks, home, receivers};
 pub use message::{Given, message_of, own_addr};
-pub use routing::{home_among, local_routes, routes};
+pub use routing::{home_among, local_routes};
 pub use standing::Standing;
 pub use vpn::{is_attached, is_attached_at, vrf_of_site};

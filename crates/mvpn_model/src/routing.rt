@@ -1,32 +1,12 @@
 //! The routes of a VRF, and the home of a source.
-ghost use Rattle.std.specs.Prelude.{◌≡◌, ◌≤◌, ◌^◌, ◌++◌, [], filter, length, IfOk, OnOk, if◌then◌else◌};
+ghost use Rattle.std.specs.Prelude.{◌≡◌, ◌≤◌, ◌^◌, ◌++◌, filter, length, IfOk, OnOk};
 ghost use Rattle.mv_base.specs.Prefix.{covers};
-ghost use Rattle.scenario_defs.specs.Home.{routes, local_routes, routes_from, routes_of_site, longer, longest_after, home_by};
-ghost use Rattle.mvpn_model.specs.Scope.{is_within};
+ghost use Rattle.scenario_defs.specs.Home.{routes, local_routes, routes_of_site, longer, longest_after, home_by};
 
 use crate::vpn::{is_attached, is_attached_at};
 use mv_base::{Addr, NoMemory, Prefix, Seq, SiteId, VrfId};
-use scenario_defs::{Route, Scenario, Site};
+use scenario_defs::{Route, Scenario};
 use std::alloc::Global;
-
-/// Which sites' prefixes are taken as routes of a VRF.
-#[derive(Clone, Copy, Debug)]
-pub(crate) enum Scope {
-    /// Those of the sites that are attached to the VRF's VPN.
-    Vpn,
-    /// Those of the sites that are attached at the VRF itself.
-    Local,
-}
-
-/// Whether the site is attached to the VRF, as the scope asks.
-fn is_within(scope: Scope, scenario: &Scenario, vrf: VrfId, site: SiteId) -> bool
-    ensures { result ≡ is_within scope scenario.now vrf site }
-{
-    match scope {
-        Scope::Vpn => is_attached(scenario, vrf, site),
-        Scope::Local => is_attached_at(scenario, vrf, site),
-    }
-}
 
 /// The longer of two routes, and the first of two that are equally long.
 fn longer(best: Option<Route>, route: Route) -> Option<Route>
@@ -75,23 +55,6 @@ fn longest_of_site(
     longest
 }
 
-/// The prefixes of the site where it is within the scope, and none elsewhere.
-fn prefixes_within<'a>(
-    scope: Scope,
-    scenario: &Scenario,
-    vrf: VrfId,
-    number: SiteId,
-    site: &'a Site,
-) -> &'a [Prefix]
-    ensures { routes_of_site number result.now ≡ (if is_within scope scenario.now vrf number then routes_of_site number site.now.prefixes else []) }
-{
-    if is_within(scope, scenario, vrf, number) {
-        site.prefixes.as_slice()
-    } else {
-        &[]
-    }
-}
-
 /// The site of the longest of the routes that cover the source (RFC 6513 section 5.1).
 pub fn home_among(routes: &[Route], source: Addr) -> Option<SiteId>
     ensures { result ≡ home_by routes.now source }
@@ -107,8 +70,10 @@ pub(crate) fn longest_route(scenario: &Scenario, vrf: VrfId, source: Addr) -> Op
     let mut longest = None;
     let sites = scenario.sites.as_slice();
     for (number, site) in sites.iter().enumerate() {
-        let prefixes = prefixes_within(Scope::Vpn, scenario, vrf, SiteId(number as u16), site);
-        longest = longest_of_site(longest, SiteId(number as u16), prefixes, source);
+        let id = SiteId(number as u16);
+        if is_attached(scenario, vrf, id) {
+            longest = longest_of_site(longest, id, site.prefixes.as_slice(), source);
+        }
     }
     longest
 }
@@ -126,37 +91,18 @@ fn add_routes(routes: &mut Seq<Route>, site: SiteId, prefixes: &[Prefix]) -> Res
     Ok(())
 }
 
-/// The routes of a VRF within a scope: each prefix of each site within it, in order of sites.
-fn routes_within(
-    alloc: Global,
-    scope: Scope,
-    scenario: &Scenario,
-    vrf: VrfId,
-) -> Result<Seq<Route>, NoMemory>
-    requires { length scenario.now.sites ≤ 2 ^ 16 }
-    ensures { IfOk result (λ all. all ≡ routes_from (is_within scope scenario.now vrf) 0 scenario.now.sites) }
-{
-    let mut all = Seq::new(alloc);
-    let sites = scenario.sites.as_slice();
-    for (number, site) in sites.iter().enumerate() {
-        let prefixes = prefixes_within(scope, scenario, vrf, SiteId(number as u16), site);
-        add_routes(&mut all, SiteId(number as u16), prefixes)?;
-    }
-    Ok(all)
-}
-
-/// The routes of the VRF's VPN: each prefix of each site that is attached to it, in order of sites.
-pub fn routes(alloc: Global, scenario: &Scenario, vrf: VrfId) -> Result<Seq<Route>, NoMemory>
-    requires { length scenario.now.sites ≤ 2 ^ 16 }
-    ensures { IfOk result (λ all. all ≡ routes scenario.now vrf) }
-{
-    routes_within(alloc, Scope::Vpn, scenario, vrf)
-}
-
 /// The local routes of the VRF: each prefix of each site that is attached at the VRF itself, in order of sites.
 pub fn local_routes(alloc: Global, scenario: &Scenario, vrf: VrfId) -> Result<Seq<Route>, NoMemory>
     requires { length scenario.now.sites ≤ 2 ^ 16 }
     ensures { IfOk result (λ all. all ≡ local_routes scenario.now vrf) }
 {
-    routes_within(alloc, Scope::Local, scenario, vrf)
+    let mut all = Seq::new(alloc);
+    let sites = scenario.sites.as_slice();
+    for (number, site) in sites.iter().enumerate() {
+        let id = SiteId(number as u16);
+        if is_attached_at(scenario, vrf, id) {
+            add_routes(&mut all, id, site.prefixes.as_slice())?;
+        }
+    }
+    Ok(all)
 }

@@ -1,6 +1,6 @@
 //! The plain functions over histories.
 use mv_base::{Addr, IfaceId, Seq, SiteId, VrfId};
-use mvpn_model::{History, asks, home, receivers, routes};
+use mvpn_model::{History, asks, home, receivers};
 use scenario_text::read;
 use std::test::Fail;
 
@@ -39,6 +39,5 @@ fn a_history_tells_homes_and_receivers(rt: HostRuntime) -> Result<(), Fail> {
     assert_eq!(rt; both.as_slice(), [IfaceId(1), IfaceId(2)].as_slice());
     let none = receivers(rt.alloc(), &history, SiteId(1), SOURCE, GROUP)?;
     assert_eq!(rt; none.as_slice(), [].as_slice());
-    assert_eq!(rt; routes(rt.alloc(), &script.scenario, VrfId(0))?.len(), 3);
     Ok(())
 }

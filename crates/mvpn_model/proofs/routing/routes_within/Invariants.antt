@@ -1,8 +1,0 @@
-use Rattle.std.proofs.Common.{◌≡◌, ◌++◌, drop}
-use Rattle.scenario_defs.specs.Home.{routes_from}
-use Rattle.mvpn_model.specs.Scope.{is_within}
-use Rattle.mvpn_model.proofs.routing.routes_within.Given as goal
-
-abbrev pub invariant-loop-number : goal.invariant-loop-number
-invariant-loop-number l =
-    l.all ++ routes_from (is_within l.scope l.scenario l.vrf) l.number (drop l.number l.sites) ≡ routes_from (is_within l.scope l.scenario l.vrf) 0 l.sites

@@ -29,6 +29,14 @@ const UNREADY: Row = Row {
     report: "state 0 0 0 0 3\n",
 };
 
+/// A third edge with links to the others: three sessions over BGP, one for each two edges, and four over LDP, one for each
+/// link.
+const THREE_EDGES: Row = Row {
+    scenario: "edge E3 192.0.2.3\nlink E1 E3 1\nlink E2 E3 1\n",
+    events: "state\n",
+    report: "state 0 0 0 0 7\n",
+};
+
 /// A receiver at another edge gets nothing yet.
 const APART: Row = Row {
     scenario: "",
@@ -59,7 +67,7 @@ const TIMERS: Row = Row {
 
 #[test]
 fn edges_keep_to_themselves_without_sessions(rt: HostRuntime) -> Result<(), Fail> {
-    let rows: [Row; 5] = [UNREADY, APART, BOTH, LOCAL, TIMERS];
+    let rows: [Row; 6] = [UNREADY, THREE_EDGES, APART, BOTH, LOCAL, TIMERS];
     for row in rows {
         let input = [TWO_EDGES, row.scenario, "events\n", row.events];
         assert!(rt;

@@ -1,5 +1,5 @@
 -- The acts of each event, one after another.
-use Rattle.std.specs.Prelude.{ℕ, zero, suc, ◌+◌, ◌==◌, ◌&&◌, ◌||◌, Bool, true, false, List, [], ◌∷◌, ◌++◌, map, find, length, replicate, Option, None, Some, Ok, Err, if◌then◌else◌}
+use Rattle.std.specs.Prelude.{ℕ, zero, suc, ◌+◌, ◌==◌, ◌&&◌, ◌||◌, Bool, List, [], ◌∷◌, ◌++◌, map, find, length, replicate, Option, None, Some, Ok, Err, if◌then◌else◌}
 use Rattle.std.specs.List.{flat_map}
 use Rattle.mv_base.specs.declared.ids.NodeId.{NodeId}
 use Rattle.mv_base.specs.declared.ids.SiteId.{SiteId}
@@ -9,7 +9,6 @@ use Rattle.scenario_defs.specs.declared.event.Event.{Event}
 use Rattle.scenario_defs.specs.declared.event.Event.TheVariants as events
 use Rattle.scenario_defs.specs.declared.event.Kind.{Kind}
 use Rattle.scenario_defs.specs.declared.report.ReportLine.{ReportLine}
-use Rattle.scenario_defs.specs.declared.scenario.Scenario.{Scenario}
 use Rattle.mvpn_model.specs.Messages.{message_of}
 use Rattle.mvpn_model.specs.Packet.{packet}
 use Rattle.mvpn_model.specs.declared.message.Given.{Given}
@@ -19,16 +18,21 @@ use Rattle.session_defs.specs.Message.{same_kind}
 use Rattle.session_defs.specs.declared.direction.Direction.{Direction}
 use Rattle.edge_defs.specs.Steps as steps
 use Rattle.world_defs.specs.Acts.{Act, Tick, Timers, Move, Lose, Notice, RaiseFirst, RaiseSecond, Restart, At, Enter, Land, Drop, Tell, act}
-use Rattle.world_defs.specs.Counts.{directions, link_ways, all_copies, all_nodes, is_joined, is_up}
+use Rattle.world_defs.specs.Counts.{directions, link_ways, all_nodes, is_joined, is_up}
 use Rattle.world_defs.specs.Packets.{source_in, group_in}
 use Rattle.world_defs.specs.Refusals.{edge_of_vrf}
-use Rattle.world_defs.specs.World.{World, Datagram, scenario_of}
+use Rattle.world_defs.specs.World.{World, scenario_of}
 
--- What comes of a row of acts: the lines of each act, and the network behind them all; or the lines of those that ended before one that
--- lacks a label, and the node that lacks it.
+-- An act that happened, with its lines; a refused event has its line and no act.
+pub record Happened : Type 0 where
+  pub act : Option Act
+  pub lines : List ReportLine
+
+-- What comes of a row of acts: what happened, and the network behind it; or what happened before an act that lacks a label, and the
+-- node that lacks it.
 pub data Outcome : Type 0 where
-  Done : (lines : List (List ReportLine)) → (world : World) → Outcome
-  Halted : (lines : List (List ReportLine)) → (node : NodeId) → Outcome
+  Done : (acts : List Happened) → (world : World) → Outcome
+  Halted : (acts : List Happened) → (node : NodeId) → Outcome
 
 -- more acts behind, if the first ones were done
 abbrev pub and_then : Outcome → (World → Outcome) → Outcome
@@ -39,7 +43,7 @@ and_then (Done before world) next = elim (next world) [
 ]
 
 abbrev pub one_act : World → Act → Outcome
-one_act world first = elim (act world first) [ Ok new ↦ Done (new.lines ∷ []) new.world | Err node ↦ Halted [] node ]
+one_act world first = elim (act world first) [ Ok new ↦ Done (record { act = Some first; lines = new.lines } ∷ []) new.world | Err node ↦ Halted [] node ]
 
 -- a row of acts
 abbrev pub row : List Act → World → Outcome

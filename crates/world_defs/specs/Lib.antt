@@ -8,3 +8,4 @@ pub mod Refusals
 pub mod Acts
 pub mod Events
 pub mod Run
+pub mod Local

@@ -1,5 +1,5 @@
 -- The nodes of a network: edges, and core nodes, which have a label part alone.
-use Rattle.std.specs.Prelude.{ℕ, ◌==◌, Bool, false, slice_get, Option, None, Some, if◌then◌else◌}
+use Rattle.std.specs.Prelude.{ℕ, ◌==◌, Bool, false, slice_get, None, Some, if◌then◌else◌}
 use Rattle.mv_base.specs.declared.ids.NodeId.{NodeId}
 use Rattle.scenario_defs.specs.declared.scenario.Scenario.{Scenario}
 use Rattle.label_defs.specs.LabelData as labels

@@ -1,5 +1,5 @@
 -- What the steps of a node put, in octets (RFC 4271 section 4.3; RFC 5036 section 3.5).
-use Rattle.std.specs.Prelude.{ℕ, List, [], ◌∷◌, ◌++◌, map, Option, None, Some}
+use Rattle.std.specs.Prelude.{ℕ, List, [], ◌∷◌, map, None, Some}
 use Rattle.std.specs.List.{flat_map}
 use Rattle.std.specs.FinMap as maps
 use Rattle.std.specs.FinMap.{FinMap}
@@ -12,20 +12,17 @@ use Rattle.bgp_attributes.specs.declared.update.Message.TheVariants as bgp_messa
 use Rattle.bgp_update.specs.Written.{written, update_of}
 use Rattle.table_defs.specs.declared.change.Change.{Change}
 use Rattle.label_defs.specs.Keys.{node_cmp}
-use Rattle.label_defs.specs.LabelData.{Place, LabelData}
-use Rattle.label_defs.specs.Settling.{Stepped}
-use Rattle.label_defs.specs.Steps.{Call, effect, next_id}
+use Rattle.label_defs.specs.LabelData.{Place}
+use Rattle.label_defs.specs.Steps.{effect, next_id}
 use Rattle.label_defs.specs.declared.put.Put as labels
 use Rattle.scenario_defs.specs.declared.event.Kind.TheVariants as kinds
-use Rattle.scenario_defs.specs.declared.scenario.Scenario.{Scenario}
 use Rattle.session_defs.specs.Message.{SessionMessage, Bgp, Label}
 use Rattle.session_defs.specs.System.{Put}
-use Rattle.session_defs.specs.declared.direction.Direction.{Direction}
 use Rattle.edge_defs.specs.Edge.{Control}
 use Rattle.edge_defs.specs.Held.{put_to}
 use Rattle.edge_defs.specs.Keys.{Value}
 use Rattle.edge_defs.specs.Messages.{as_update}
-use Rattle.edge_defs.specs.Place.{EdgePlace, own_addr}
+use Rattle.edge_defs.specs.Place.{EdgePlace}
 use Rattle.edge_defs.specs.Steps.{LabelStep}
 use Rattle.net_defs.specs.Sessions.{edges}
 

@@ -1,5 +1,5 @@
 -- What the nodes of a network do with the messages that they take and at their calls.
-use Rattle.std.specs.Prelude.{ℕ, ◌+◌, List, [], ◌∷◌, ◌++◌, Option, None, Some}
+use Rattle.std.specs.Prelude.{ℕ, ◌+◌, [], ◌++◌, Option, None, Some}
 use Rattle.std.specs.List.{flat_map}
 use Rattle.mv_base.specs.Number.{◌>>?◌}
 use Rattle.mv_base.specs.declared.ids.NodeId.{NodeId}
@@ -8,7 +8,6 @@ use Rattle.label_defs.specs.Steps as labels
 use Rattle.label_defs.specs.Steps.{label_step}
 use Rattle.session_defs.specs.Message.{SessionMessage, Bgp, Label}
 use Rattle.session_defs.specs.System.{Stepped, System}
-use Rattle.session_defs.specs.declared.direction.Direction.{Direction}
 use Rattle.edge_defs.specs.Edge.{EdgeData}
 use Rattle.edge_defs.specs.Place.{addr_of, label_place}
 use Rattle.edge_defs.specs.Steps as steps

@@ -1,0 +1,108 @@
+-- Where a datagram goes that enters at a VRF, or that arrives at an edge under a label (RFC 6513 sections 9.1.1 and 12; RFC 3032).
+use Rattle.std.specs.Prelude.{ℕ, ◌==◌, ◌&&◌, Bool, true, false, not, List, [], slice_get, Option, None, Some, if◌then◌else◌}
+use Rattle.std.specs.List.{filter, flat_map, list_any}
+use Rattle.std.specs.FinMap as maps
+use Rattle.std.specs.FinSet as sets
+use Rattle.mv_base.specs.declared.addr.Addr.{Addr}
+use Rattle.mv_base.specs.declared.ids.IfaceId.{IfaceId}
+use Rattle.mv_base.specs.declared.ids.NodeId.{NodeId}
+use Rattle.mv_base.specs.declared.ids.SiteId.{SiteId}
+use Rattle.mldp_fec.specs.declared.fec.Fec.{Fec}
+use Rattle.bgp_attributes.specs.declared.key.Key.{Key}
+use Rattle.scenario_defs.specs.Vpn.{is_of_site}
+use Rattle.scenario_defs.specs.declared.scenario.Scenario.{Scenario}
+use Rattle.label_defs.specs.LabelData.{LabelData, same_fec, use_of}
+use Rattle.label_defs.specs.declared.branch.Branch.{Branch}
+use Rattle.label_defs.specs.declared.label_use.LabelUse.{LabelUse}
+use Rattle.label_defs.specs.declared.label_use.LabelUse.TheVariants as uses
+use Rattle.edge_defs.specs.Edge.{Upstream, Site, Remote, TakenRoute, Taken, Control, EdgeData}
+use Rattle.edge_defs.specs.Flows.{asking_ifaces}
+use Rattle.edge_defs.specs.Imported.{imported_inclusive, imported_selective, ImportedSelective}
+use Rattle.edge_defs.specs.Place.{EdgePlace, OwnVrf, addr_of, own_vrfs}
+use Rattle.edge_defs.specs.Tunnels.{transmit_tunnel, is_joined_in}
+use Rattle.edge_defs.specs.Upstream.{upstream_for}
+
+-- Where a datagram goes from a node: the interfaces at which it leaves, in order, and the branches on which a copy is put, in order of
+-- neighbours and labels.
+pub record Fate : Type 0 where
+  pub outs : List IfaceId
+  pub branches : List Branch
+
+abbrev pub discarded : Fate
+discarded = record { outs = []; branches = [] }
+
+-- the branches of a tree
+abbrev pub branches_of : LabelData → Fec → List Branch
+branches_of part fec = filter (λ branch. same_fec branch.fec fec) (sets.items part.branches)
+
+-- ---- a datagram that enters
+
+-- whether the upstream is that site, and whether it is that edge
+abbrev pub is_site : SiteId → Option Upstream → Bool
+is_site site (Some (Site own)) = own.0 == site.0
+is_site site other = false
+
+abbrev pub is_edge : NodeId → Option Upstream → Bool
+is_edge edge (Some (Remote own rd import source_as)) = own.0 == edge.0
+is_edge edge other = false
+
+-- whether the interface belongs to another site
+abbrev pub is_outside : Scenario → SiteId → IfaceId → Bool
+is_outside scenario site iface = elim (slice_get scenario.ifaces iface.0) [ None ↦ false | Some found ↦ not (is_of_site site found) ]
+
+-- A datagram of a site enters at a VRF only where the VRF's upstream for its source is that site. It leaves at each interface outside
+-- the site that asks for it; and where another edge has joined the flow, a copy goes on each branch of the tunnel that is transmitted on.
+abbrev pub entered : EdgePlace → ℕ → EdgeData → OwnVrf → SiteId → Addr → Addr → Fate
+entered place now edge own site source group =
+    if is_site site (upstream_for place edge.control own source)
+    then record {
+      outs = filter (is_outside place.scenario site) (asking_ifaces place now edge.control own source group);
+      branches = if is_joined_in place edge.control own source group then branches_of edge.part (transmit_tunnel place edge.control own source group) else [];
+    }
+    else discarded
+
+-- ---- a datagram that arrives
+
+-- whether a route of the tunnel is imported from a peer
+abbrev pub is_tunnel : Fec → Option Fec → Bool
+is_tunnel fec None = false
+is_tunnel fec (Some own) = same_fec own fec
+
+abbrev pub selective_fec : Option ImportedSelective → Option Fec
+selective_fec None = None
+selective_fec (Some imported) = Some imported.fec
+
+abbrev pub is_route_of : EdgePlace → OwnVrf → NodeId → Fec → Key × TakenRoute → Bool
+is_route_of place own peer fec entry =
+    if is_tunnel fec (imported_inclusive own.vrf (addr_of place.scenario peer) entry) then true
+    else is_tunnel fec (selective_fec (imported_selective own.vrf (addr_of place.scenario peer) entry))
+
+abbrev pub is_imported_from : EdgePlace → OwnVrf → Fec → NodeId × Taken → Bool
+is_imported_from place own fec peer = list_any (is_route_of place own peer.0 fec) (maps.entries peer.1)
+
+-- The copy is delivered at a VRF that imports a route of the tunnel, where the VRF's upstream for the source is the tunnel's root: it
+-- leaves at each interface that asks for it.
+abbrev pub delivered_from : EdgePlace → ℕ → Control → OwnVrf → Fec → Addr → Addr → NodeId × Taken → List IfaceId
+delivered_from place now control own fec source group peer =
+    if is_imported_from place own fec peer && is_edge peer.0 (upstream_for place control own source) then asking_ifaces place now control own source group else []
+
+abbrev pub delivered_at : EdgePlace → ℕ → Control → Fec → Addr → Addr → OwnVrf → List IfaceId
+delivered_at place now control fec source group own = flat_map (delivered_from place now control own fec source group) (maps.entries control.peers)
+
+-- at a leaf, VRF by VRF
+abbrev pub delivered : EdgePlace → ℕ → EdgeData → Fec → Addr → Addr → List IfaceId
+delivered place now edge fec source group =
+    if sets.contains edge.part.leaves fec then flat_map (delivered_at place now edge.control fec source group) (own_vrfs place) else []
+
+-- the tree to which a label is mapped towards the neighbour that a copy came from
+abbrev pub tree_of : NodeId → Option LabelUse → Option Fec
+tree_of from (Some (uses.Mapped fec upstream)) = if upstream.0 == from.0 then Some fec else None
+tree_of from other = None
+
+-- A copy under a label that is mapped towards the neighbour from which it came is delivered at a leaf, and goes on each branch of the
+-- tree. Any other is discarded.
+abbrev pub arrived : EdgePlace → ℕ → EdgeData → NodeId → ℕ → Addr → Addr → Fate
+arrived place now edge from label source group = elim (tree_of from (use_of edge.part label)) [
+  | None ↦ discarded
+  | Some fec ↦ record { outs = delivered place now edge fec source group; branches = branches_of edge.part fec }
+]

@@ -1,0 +1,13 @@
+pub mod Keys
+pub mod Place
+pub mod Edge
+pub mod Originated
+pub mod Imported
+pub mod Upstream
+pub mod Flows
+pub mod Tunnels
+pub mod Held
+pub mod Messages
+pub mod Steps
+pub mod Datagrams
+pub mod Due

@@ -1,0 +1,12 @@
+-- The changes of tables as UPDATE messages make them (RFC 4271 section 4.3).
+use Rattle.bgp_attributes.specs.declared.key.Key.{Key}
+use Rattle.bgp_attributes.specs.declared.update.Change as updates
+use Rattle.bgp_attributes.specs.declared.update.Change.TheVariants as update_changes
+use Rattle.table_defs.specs.declared.change.Change.{Change}
+use Rattle.table_defs.specs.declared.change.Change.TheVariants.{Reach, Unreach}
+use Rattle.edge_defs.specs.Keys.{Value}
+
+-- a change of a table, as one that an UPDATE message makes
+abbrev pub as_update : Change Key Value → updates.Change
+as_update (Reach key value) = update_changes.Reach (record { key = key; next_hop = value.next_hop; comms = value.comms; pmsi = value.pmsi })
+as_update (Unreach key) = update_changes.Unreach key

@@ -1,0 +1,192 @@
+-- The steps of an edge.
+use Rattle.std.specs.Prelude.{ℕ, zero, suc, ◌+◌, ◌==◌, ◌&&◌, ◌||◌, Bool, true, false, not, nat_le, List, [], ◌∷◌, ◌++◌, map, fold, is_some, Option, None, Some, if◌then◌else◌}
+use Rattle.std.specs.List.{filter, list_any}
+use Rattle.std.specs.FinMap as maps
+use Rattle.std.specs.FinMap.{FinMap}
+use Rattle.std.specs.FinSet as sets
+use Rattle.std.specs.FinSet.{FinSet}
+use Rattle.mv_base.specs.Number.{◌>>?◌}
+use Rattle.mv_base.specs.declared.addr.Addr.{Addr}
+use Rattle.mv_base.specs.declared.ids.IfaceId.{IfaceId}
+use Rattle.mv_base.specs.declared.ids.NodeId.{NodeId}
+use Rattle.mv_base.specs.declared.ids.VrfId.{VrfId}
+use Rattle.mv_base.specs.declared.pattern.Pattern.{Pattern}
+use Rattle.mldp_msgs.specs.declared.message.LabelMessage.{LabelMessage}
+use Rattle.pim_joinprune.specs.declared.message.JoinPrune.{JoinPrune}
+use Rattle.pim_defs.specs.Entries.{applied, kept_at}
+use Rattle.bgp_attributes.specs.declared.key.Key.{Key}
+use Rattle.bgp_attributes.specs.declared.update.Change.{Change}
+use Rattle.bgp_attributes.specs.declared.update.Change.TheVariants as updates
+use Rattle.bgp_attributes.specs.declared.update.Message.{Message}
+use Rattle.bgp_update.specs.Table.{changes_of}
+use Rattle.scenario_defs.specs.declared.event.Kind.{Kind}
+use Rattle.scenario_defs.specs.declared.event.Kind.TheVariants as kinds
+use Rattle.label_defs.specs.Keys.{fec_cmp, node_cmp}
+use Rattle.label_defs.specs.LabelData.{LabelData}
+use Rattle.label_defs.specs.Settling.{Stepped}
+use Rattle.label_defs.specs.Steps as labels
+use Rattle.label_defs.specs.Steps.{label_step}
+use Rattle.edge_defs.specs.Edge.{VrfPattern, pattern_cmp, Selected, TakenRoute, Taken, Control, EdgeData}
+use Rattle.edge_defs.specs.Flows.{flows_at}
+use Rattle.edge_defs.specs.Imported.{imported_selective}
+use Rattle.edge_defs.specs.Keys.{Value, same_value}
+use Rattle.edge_defs.specs.Place.{EdgePlace, addr_of, own_vrfs, label_place}
+use Rattle.edge_defs.specs.Tunnels.{leaves}
+
+-- What makes a step: a BGP message or a label message that is taken, a Join/Prune message of a customer router, a source that is noted
+-- or no longer is, a pattern that is selected or no longer is, an end that comes up, a loss that is noticed, and the timers.
+pub data Call : Type 0 where
+  Update : (peer : NodeId) → (message : Message) → Call
+  Label : (neighbour : NodeId) → (message : LabelMessage) → Call
+  Pim : (iface : IfaceId) → (message : JoinPrune) → Call
+  Active : (iface : IfaceId) → (source group : Addr) → Call
+  Idle : (iface : IfaceId) → (source group : Addr) → Call
+  Select : (vrf : VrfId) → (pattern : Pattern) → Call
+  Unselect : (vrf : VrfId) → (pattern : Pattern) → Call
+  Raised : (kind : Kind) → (peer : NodeId) → Call
+  Noticed : (kind : Kind) → (peer : NodeId) → Call
+  Timers : Call
+
+-- ---- routes that are taken
+
+-- A route behind an advertisement at the clock. One that changes counts as forgotten and learned again; an equal one keeps its time.
+abbrev pub learned : ℕ → Value → Option TakenRoute → TakenRoute
+learned now value None = record { value = value; since = now; run = false }
+learned now value (Some old) = if same_value old.value value then old else record { value = value; since = now; run = false }
+
+abbrev pub taken_change : ℕ → Taken → Change → Taken
+taken_change now taken (updates.Reach advert) = maps.insert taken advert.key (learned now (record { next_hop = advert.next_hop; comms = advert.comms; pmsi = advert.pmsi }) (maps.get taken advert.key))
+taken_change now taken (updates.Unreach key) = maps.remove taken key
+
+-- a message of a peer whose session is up here: its withdrawals first, and then its advertisements
+abbrev pub with_update : ℕ → NodeId → Message → Control → Control
+with_update now peer message old = elim (maps.get old.peers peer) [
+  | None ↦ old
+  | Some taken ↦ record old { peers = maps.insert old.peers peer (fold (taken_change now) taken (changes_of message)) }
+]
+
+-- ---- selections
+
+-- whether a selection of the VRF has the number
+abbrev pub is_used : VrfId → ℕ → VrfPattern × Selected → Bool
+is_used vrf number entry = (entry.0.vrf.0 == vrf.0) && (entry.1.number == number)
+
+-- the first number, from that one on and so many at most, that no selection of the VRF has
+abbrev pub free_number : VrfId → List (VrfPattern × Selected) → ℕ → ℕ → ℕ
+free_number vrf entries zero number = number
+free_number vrf entries (suc count) number = if list_any (is_used vrf number) entries then free_number vrf entries count (number + 1) else number
+
+-- a new selection gets the least number from 1 on that no other one of its VRF has
+abbrev pub with_selection : ℕ → VrfId → Pattern → FinMap pattern_cmp Selected → FinMap pattern_cmp Selected
+with_selection now vrf pattern old =
+    maps.insert old (record { vrf = vrf; pattern = pattern }) (record { number = free_number vrf (maps.entries old) (maps.len old) 1; since = now; run = false })
+
+-- ---- timers
+
+-- a selection whose delay is over
+abbrev pub selection_run : ℕ → ℕ → Selected → Selected
+selection_run delay now selected = record selected { run = selected.run || nat_le (selected.since + delay) now }
+
+abbrev pub selections_run : ℕ → ℕ → FinMap pattern_cmp Selected → FinMap pattern_cmp Selected
+selections_run delay now old = maps.from_entries (map (λ (entry : VrfPattern × Selected). (entry.0, selection_run delay now entry.1)) (maps.entries old))
+
+-- whether some VRF of the edge imports the selective route from the peer
+abbrev pub is_imported : EdgePlace → NodeId → Key × TakenRoute → Bool
+is_imported place peer entry = list_any (λ own. is_some (imported_selective own.vrf (addr_of place.scenario peer) entry)) (own_vrfs place)
+
+-- a selective route that is imported, and whose delay is over
+abbrev pub route_run : EdgePlace → ℕ → NodeId → Key × TakenRoute → Key × TakenRoute
+route_run place now peer entry = (entry.0, record entry.1 { run = entry.1.run || (is_imported place peer entry && nat_le (entry.1.since + place.scenario.delay) now) })
+
+abbrev pub taken_run : EdgePlace → ℕ → NodeId × Taken → NodeId × Taken
+taken_run place now peer = (peer.0, maps.from_entries (map (route_run place now peer.0) (maps.entries peer.1)))
+
+abbrev pub peers_run : EdgePlace → ℕ → FinMap node_cmp Taken → FinMap node_cmp Taken
+peers_run place now old = maps.from_entries (map (taken_run place now) (maps.entries old))
+
+-- all timers of customers and of BGP that are due
+abbrev pub timed : EdgePlace → ℕ → Control → Control
+timed place now old = record old { entries = kept_at old.entries now; selections = selections_run place.scenario.delay now old.selections; peers = peers_run place now old.peers }
+
+-- ---- steps
+
+-- what a call itself changes
+abbrev pub effect : EdgePlace → ℕ → Control → Call → Control
+effect place now old (Update peer message) = with_update now peer message old
+effect place now old (Label neighbour message) = old
+effect place now old (Pim iface message) = record old { entries = applied old.entries iface message now }
+effect place now old (Active iface source group) = record old { notes = sets.insert old.notes (record { iface = iface; source = source; group = group }) }
+effect place now old (Idle iface source group) = record old { notes = sets.remove old.notes (record { iface = iface; source = source; group = group }) }
+effect place now old (Select vrf pattern) = record old { selections = with_selection now vrf pattern old.selections }
+effect place now old (Unselect vrf pattern) = record old { selections = maps.remove old.selections (record { vrf = vrf; pattern = pattern }) }
+effect place now old (Raised kinds.Bgp peer) = record old { peers = maps.insert old.peers peer maps.empty }
+effect place now old (Raised kinds.Ldp peer) = old
+effect place now old (Noticed kinds.Bgp peer) = record old { peers = maps.remove old.peers peer }
+effect place now old (Noticed kinds.Ldp peer) = old
+effect place now old Timers = timed place now old
+
+-- whether the call is a step of each VRF: a selection changes no flow
+abbrev pub is_vrf_step : Call → Bool
+is_vrf_step (Select vrf pattern) = false
+is_vrf_step (Unselect vrf pattern) = false
+is_vrf_step other = true
+
+-- the flows are those that are asked for now
+abbrev pub refreshed : EdgePlace → ℕ → Control → Control
+refreshed place now control = record control { flows = flows_at place now control }
+
+-- what the edge keeps of its customers and of BGP behind a call
+abbrev pub control_step : EdgePlace → ℕ → Control → Call → Control
+control_step place now old call = let own = effect place now old call in if is_vrf_step call then refreshed place now own else own
+
+-- ---- the label part
+
+-- the label step of the call itself, if it has one
+abbrev pub own_label_call : Call → Option labels.Call
+own_label_call (Label neighbour message) = Some (labels.Taken neighbour message)
+own_label_call (Raised kinds.Ldp peer) = Some (labels.Raised peer)
+own_label_call (Noticed kinds.Ldp peer) = Some (labels.Noticed peer)
+own_label_call Timers = Some labels.Timers
+own_label_call other = None
+
+-- the trees of which the node becomes or stops being a leaf, in their order
+abbrev pub changed_leaves : FinSet fec_cmp → FinSet fec_cmp → List labels.Call
+changed_leaves old new =
+    map (λ fec. if sets.contains new fec then labels.Want fec else labels.Unwant fec)
+    (filter (λ fec. not (sets.contains old fec && sets.contains new fec)) (sets.items (sets.union old new)))
+
+abbrev pub one_call : Option labels.Call → List labels.Call
+one_call None = []
+one_call (Some call) = call ∷ []
+
+-- A label step that was made: what the node was before it, the call, and what is behind it.
+pub record LabelStep : Type 0 where
+  pub old : LabelData
+  pub call : labels.Call
+  pub new : Stepped
+
+-- the label steps of a row of calls, one after another; none where one of them needs a label and none is free
+abbrev pub label_row : EdgePlace → ℕ → LabelData → List labels.Call → Option (List LabelStep)
+label_row place now part [] = Some []
+label_row place now part (call ∷ more) =
+    label_step (label_place place.scenario place.core place.me) now part call >>? λ new.
+    label_row place now new.part more >>? λ behind.
+    Some (record { old = part; call = call; new = new } ∷ behind)
+
+-- the label part behind the row
+abbrev pub part_after : LabelData → List LabelStep → LabelData
+part_after part [] = part
+part_after part (step ∷ more) = part_after step.new.part more
+
+-- An edge behind a step, with the label steps that it made.
+pub record EdgeStepped : Type 0 where
+  pub edge : EdgeData
+  pub row : List LabelStep
+
+-- A step of an edge: the call's own effect; then the flows of each VRF; then the label step of the call itself, and one for each tree
+-- of which the edge becomes or stops being a leaf, in their order. There is none where a label step needs more labels than are free.
+abbrev pub edge_step : EdgePlace → ℕ → EdgeData → Call → Option EdgeStepped
+edge_step place now old call =
+    let control = control_step place now old.control call in
+    label_row place now old.part (one_call (own_label_call call) ++ changed_leaves (leaves place old.control) (leaves place control)) >>? λ row.
+    Some (record { edge = record { control = control; part = part_after old.part row }; row = row })

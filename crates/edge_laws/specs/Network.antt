@@ -1,0 +1,43 @@
+-- A network of edges at the level of messages, each of which is one change of a table.
+use Rattle.std.specs.Prelude.{ℕ, ◌==◌, ◌&&◌, Bool, List, ◌++◌, if◌then◌else◌}
+use Rattle.mv_base.specs.declared.ids.NodeId.{NodeId}
+use Rattle.bgp_attributes.specs.declared.key.Key.{Key}
+use Rattle.scenario_defs.specs.declared.scenario.Scenario.{Scenario}
+use Rattle.table_defs.specs.declared.change.Change.{Change}
+use Rattle.edge_defs.specs.Edge.{Control}
+use Rattle.edge_defs.specs.Held.{put_to}
+use Rattle.edge_defs.specs.Keys.{Value}
+use Rattle.edge_defs.specs.Place.{Core, EdgePlace}
+
+-- What is between two edges in one direction: whether their BGP session is joined, and the changes in transit, each in a message of
+-- its own.
+pub record Direction : Type 0 where
+  pub joined : Bool
+  pub transit : List (Change Key Value)
+
+-- A network: its clock, its scenario and its core; what each edge keeps; and what is between each two of them.
+pub record EdgeNetwork : Type 0 where
+  pub clock : ℕ
+  pub scenario : Scenario
+  pub core : Core
+  pub node : NodeId → Control
+  pub direction : NodeId → NodeId → Direction
+
+-- the place of an edge in the network
+abbrev pub place_of : EdgeNetwork → NodeId → EdgePlace
+place_of network n = record { scenario = network.scenario; core = network.core; me = n }
+
+-- one edge becomes another, and all others stay
+abbrev pub at_node : NodeId → Control → (NodeId → Control) → NodeId → Control
+at_node at new node n = if n.0 == at.0 then new else node n
+
+-- The network once an edge has stepped: to each peer it puts what changes in the table that it told that peer. It is lost where the
+-- session is not joined.
+abbrev pub behind : EdgeNetwork → NodeId → Control → EdgeNetwork
+behind network n new =
+    record network {
+      node = at_node n new network.node;
+      direction = λ from to. record (network.direction from to) {
+        transit = if (from.0 == n.0) && (network.direction from to).joined then (network.direction from to).transit ++ put_to (place_of network n) (network.node n) new to else (network.direction from to).transit;
+      };
+    }

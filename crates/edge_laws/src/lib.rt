@@ -1,0 +1,9 @@
+//! A network of edges at the level of messages, and what holds of it after every run: the tables of each session are in step, and a
+//! route is learned no earlier than its selection was made.
+#![tactic(auto)]
+
+mod laws;
+
+pub use laws::{
+    routes_are_learned_no_earlier, runs_keep_the_rule, start_keeps_the_rule, tables_are_in_step,
+};

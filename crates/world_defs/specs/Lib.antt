@@ -1,0 +1,11 @@
+pub mod Puts
+pub mod Nodes
+pub mod System
+pub mod World
+pub mod Packets
+pub mod Counts
+pub mod Refusals
+pub mod Acts
+pub mod Events
+pub mod Run
+pub mod Local

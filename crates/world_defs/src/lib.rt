@@ -1,0 +1,3 @@
+//! The whole network as plain data: its nodes, its sessions with the octets in transit, the copies on its links and its clock; what
+//! each event does to it, act by act; and its runs.
+#![tactic(auto)]

@@ -14,6 +14,7 @@ ghost use Rattle.bgp_attributes.specs.declared.key.Key.TheVariants.{Mcast, Unica
 ghost use Rattle.bgp_update.specs.Written.{vpn_text};
 ghost use Rattle.table_laws.specs.Words.{IsExact};
 ghost use Rattle.edge_defs.specs.Edge.{flow_cmp, note_cmp, pattern_cmp};
+ghost use Rattle.edge_defs.specs.Example.{Worked};
 ghost use Rattle.edge_defs.specs.Keys.{key_cmp, same_value};
 
 /// Keys, notes, patterns and flows that tie are equal, and so are values that compare as equal.
@@ -34,4 +35,9 @@ pub fn keys_are_in_order()
         key_cmp (Mcast afi own) (Mcast afi other) ≡ slice_cmp nat_cmp (written own) (written other) }
     ensures prefixes { (rd other_rd : Rd) (prefix other : Prefix) → slice_cmp nat_cmp (vpn_text [] rd prefix) (vpn_text [] other_rd other) ≢ Equal →
         key_cmp (Unicast rd prefix) (Unicast other_rd other) ≡ slice_cmp nat_cmp (vpn_text [] rd prefix) (vpn_text [] other_rd other) }
+{}
+
+/// A worked network of two edges: what one originates, and what the other makes of it.
+pub fn worked_edges()
+    ensures { Worked }
 {}

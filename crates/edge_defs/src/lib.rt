@@ -4,4 +4,4 @@
 
 mod laws;
 
-pub use laws::{keys_are_in_order, keys_are_told};
+pub use laws::{keys_are_in_order, keys_are_told, worked_edges};

@@ -1,5 +1,5 @@
 -- The worked edges.
-use Rattle.std.proofs.Common.{◌≡◌, ℕ, ◌==◌, true, false, cond, List, [], ◌∷◌, ◌++◌, Option, Some, None, refl, sym, ap, ◌∙◌, arith}
+use Rattle.std.proofs.Common.{◌↔◌, not, ◌&&◌, ◌||◌, inl, inr, subst, ◌≡◌, ◌==◌, true, false, cond, List, [], ◌∷◌, ◌++◌, Option, Some, None, refl, sym, ap, ◌∙◌, arith}
 use Rattle.std.specs.Prelude.{length, map}
 use Rattle.std.specs.List.{filter, flat_map, list_any}
 use Rattle.std.specs.Ordering.{eq_by_cmp}
@@ -9,9 +9,9 @@ use Rattle.std.specs.FinSet as sets
 use Rattle.std.specs.FinSet.{FinSet}
 use Rattle.std.specs.Cmp.{IsTotalOrder}
 use Rattle.std.specs.Ordering.{is_eq}
-use Rattle.std.specs.Cmp.{tied_itself}
+use Rattle.std.specs.Cmp.{tied_itself, Equal-is}
+use Rattle.std.proofs.lemmas.Bool.{or_cases}
 use Rattle.mv_base.specs.Number.{◌>>?◌}
-use Rattle.mv_base.specs.declared.addr.Addr.{Addr}
 use Rattle.mv_base.specs.declared.ids.NodeId.{NodeId}
 use Rattle.bgp_attributes.specs.declared.key.Key.{Key}
 use Rattle.mldp_fec.specs.declared.fec.Fec.{Fec}
@@ -20,16 +20,20 @@ use Rattle.choice_defs.specs.declared.known_route.KnownRoute.{KnownRoute}
 use Rattle.choice_defs.specs.declared.origin.Origin.TheVariants as origins
 use Rattle.scenario_defs.specs.Home.{local_routes}
 use Rattle.label_defs.specs.Keys.{fec_cmp, node_cmp}
-use Rattle.label_defs.proofs.KeyLemmas.{node_cmp_total, fec_cmp_total}
+use Rattle.label_defs.proofs.KeyLemmas.{node_cmp_total, fec_cmp_total, fec_cmp_exact}
+use Rattle.label_defs.specs.Steps as labels
+use Rattle.selective_defs.specs.Selective.{Among}
 use Rattle.edge_defs.specs.Edge.{Note, Upstream, Remote, VrfPattern, Selected, VrfFlow, TakenRoute, Taken, note_cmp, pattern_cmp, flow_cmp, no_control}
-use Rattle.edge_defs.specs.Imported.{found_in, imported_inclusive, join_by, taken_from}
+use Rattle.edge_defs.specs.Imported.{found_in, imported_inclusive, join_by}
 use Rattle.edge_defs.specs.Example.{first, second, first_addr, first_vrf, first_prefix, second_vrf, second_prefix, second_own, second_control, first_table, distinguisher, place_of, inclusive_key, inclusive_value, inclusive_tunnel, unicast_key, unicast_value, taken, source, upstream}
 use Rattle.edge_defs.specs.Keys.{Value, key_cmp}
 use Rattle.edge_defs.specs.Originated.{originated, inclusive_route, unicast_routes, selective_key, tunnel_value, active_key, plain_value, is_iface_of}
 use Rattle.edge_defs.specs.Place.{OwnVrf, own_vrfs, tunnel_number}
+use Rattle.edge_defs.specs.Steps.{changed_leaves}
 use Rattle.edge_defs.specs.Tunnels.{flow_tunnels, inclusive_tunnels, leaves, tunnels_of}
 use Rattle.edge_defs.specs.Upstream.{known_from, known_route, known_routes, upstream_by, upstream_for}
 use Rattle.edge_defs.proofs.KeyLemmas.{key_total, note_total}
+use Rattle.edge_defs.proofs.LeafLemmas.{call_for, changed_from, changed_to}
 
 -- ---- empty maps and sets
 
@@ -129,3 +133,42 @@ pub leaf : sets.contains (leaves (place_of second) second_control) inclusive_tun
 leaf =
     sets.contains-from_list fec_cmp_total (flat_map (tunnels_of (place_of second) second_control) (own_vrfs (place_of second))) inclusive_tunnel
     ∙ ap (list_any (eq_by_cmp fec_cmp inclusive_tunnel)) leaf_list
+
+-- before, it wants none
+no_leaf_list : flat_map (tunnels_of (place_of second) no_control) (own_vrfs (place_of second)) ≡ []
+no_leaf_list =
+    ap (λ (peers : List (NodeId × Taken)). (flat_map (inclusive_tunnels (place_of second) second_own) peers ++ flat_map (flow_tunnels (place_of second) no_control second_own)
+    (filter (λ (entry : VrfFlow × Option Upstream). entry.0.vrf.0 == 1) (maps.entries no_control.flows))) ++ []) (no_entries node_cmp Taken)
+    ∙ ap (λ (flows : List (VrfFlow × Option Upstream)). flat_map (flow_tunnels (place_of second) no_control second_own)
+    (filter (λ (entry : VrfFlow × Option Upstream). entry.0.vrf.0 == 1) flows) ++ []) (no_entries flow_cmp (Option Upstream))
+
+no_leaf : (fec : Fec) → sets.contains (leaves (place_of second) no_control) fec ≡ false
+no_leaf fec =
+    sets.contains-from_list fec_cmp_total (flat_map (tunnels_of (place_of second) no_control) (own_vrfs (place_of second))) fec
+    ∙ ap (list_any (eq_by_cmp fec_cmp fec)) no_leaf_list
+
+one_leaf : (fec : Fec) → sets.contains (leaves (place_of second) second_control) fec ≡ true → fec ≡ inclusive_tunnel
+one_leaf fec e =
+    let tied : (eq_by_cmp fec_cmp fec inclusive_tunnel || false) ≡ true =
+    sym (sets.contains-from_list fec_cmp_total (flat_map (tunnels_of (place_of second) second_control) (own_vrfs (place_of second))) fec
+    ∙ ap (list_any (eq_by_cmp fec_cmp fec)) leaf_list) ∙ e in
+    elim (or_cases (eq_by_cmp fec_cmp fec inclusive_tunnel) false tied) [
+      | inl same ↦ fec_cmp_exact fec inclusive_tunnel ((Equal-is (fec_cmp fec inclusive_tunnel)).0 same)
+      | inr none ↦ absurd cc
+    ]
+
+wanted_call : (old new : FinSet fec_cmp) (fec : Fec) → sets.contains new fec ≡ true → call_for old new fec ≡ labels.Want fec
+wanted_call old new fec e = ap (λ b. cond b (labels.Want fec) (labels.Unwant fec)) e
+
+pub wants : (call : labels.Call) → Among call (changed_leaves (leaves (place_of second) no_control) (leaves (place_of second) second_control)) ↔ (call ≡ labels.Want inclusive_tunnel)
+wants call =
+    let old : FinSet fec_cmp = leaves (place_of second) no_control in
+    let new : FinSet fec_cmp = leaves (place_of second) second_control in (
+      λ h. (let made = changed_from old new call h in
+          let is_new : sets.contains new made.0 ≡ true = ap (λ b. b || sets.contains new made.0) (sym (no_leaf made.0)) ∙ made.3 in
+          let fec = one_leaf made.0 is_new in
+          made.1 ∙ wanted_call old new made.0 is_new ∙ ap (λ (own : Fec). labels.Want own) fec),
+      λ e. subst (λ (own : labels.Call). Among own (changed_leaves old new)) (wanted_call old new inclusive_tunnel leaf ∙ sym e)
+          (changed_to old new inclusive_tunnel (ap (λ b. not (b && sets.contains new inclusive_tunnel)) (no_leaf inclusive_tunnel))
+          (ap (λ b. b || sets.contains new inclusive_tunnel) (no_leaf inclusive_tunnel) ∙ leaf)),
+    )

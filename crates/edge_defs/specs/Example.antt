@@ -1,13 +1,12 @@
 -- Two edges, 192.0.2.1 and 192.0.2.2, joined by a core node, with a VRF of one VPN at each: a site with 10.1.0.0/24 is attached at the
 -- first one, and a site with 10.2.0.0/24 at the second.
-use Rattle.std.specs.Prelude.{◌≡◌, ℕ, ◌==◌, ◌||◌, false, true, List, [], ◌∷◌, length, Option, None, Some, option_map, if◌then◌else◌}
+use Rattle.std.specs.Prelude.{◌≡◌, ◌↔◌, ℕ, ◌==◌, ◌||◌, false, true, List, [], ◌∷◌, length, Option, None, Some, option_map, if◌then◌else◌}
 use Rattle.std.specs.FinMap as maps
 use Rattle.std.specs.FinSet as sets
 use Rattle.mv_base.specs.declared.addr.Addr.{Addr}
 use Rattle.mv_base.specs.declared.addr.Addr.TheVariants.{V4}
 use Rattle.mv_base.specs.declared.core_link.Link.{Link}
 use Rattle.mv_base.specs.declared.ids.NodeId.{NodeId}
-use Rattle.mv_base.specs.declared.ids.VrfId.{VrfId}
 use Rattle.mv_base.specs.declared.prefix.Prefix.{Prefix}
 use Rattle.mv_base.specs.declared.rd.Rd.{Rd}
 use Rattle.mv_base.specs.declared.rd.Rule.TheVariants.{Highest}
@@ -26,12 +25,15 @@ use Rattle.scenario_defs.specs.declared.scenario.Node.{Node}
 use Rattle.scenario_defs.specs.declared.scenario.Scenario.{Scenario}
 use Rattle.scenario_defs.specs.declared.scenario.Site.{Site}
 use Rattle.scenario_defs.specs.declared.scenario.Vrf.{Vrf}
+use Rattle.label_defs.specs.Steps as labels
+use Rattle.selective_defs.specs.Selective.{Among}
 use Rattle.edge_defs.specs.Edge.{Import, Upstream, Remote, VrfFlow, TakenRoute, Taken, Control, no_control}
 use Rattle.edge_defs.specs.Held.{join_route}
 use Rattle.edge_defs.specs.Keys.{Value}
 use Rattle.edge_defs.specs.Messages.{as_update}
-use Rattle.edge_defs.specs.Originated.{originated}
-use Rattle.edge_defs.specs.Place.{Core, EdgePlace, OwnVrf, own_addr, lsp, tunnel_number}
+use Rattle.edge_defs.specs.Originated.{import_target, originated}
+use Rattle.edge_defs.specs.Place.{EdgePlace, OwnVrf, own_addr, lsp, tunnel_number}
+use Rattle.edge_defs.specs.Steps.{changed_leaves}
 use Rattle.edge_defs.specs.Tunnels.{leaves}
 use Rattle.edge_defs.specs.Upstream.{upstream_for}
 
@@ -169,7 +171,14 @@ upstream = Remote first distinguisher (record { addr = first_addr; number = 1 })
 abbrev pub flow : VrfFlow
 flow = record { vrf = record { 0 = 1 }; source = source; group = group }
 
--- the Source Tree Join that the second edge puts to the first one
+-- the Source Tree Join of the flow at the first edge, by what the chosen route says
+abbrev pub join_key : Rd → ℕ → Key
+join_key rd source_as = Mcast Ipv4 (routes.SourceJoin rd source_as source group)
+
+abbrev pub join_value : Import → Value
+join_value import = record { next_hop = second_addr; comms = import_target import ∷ []; pmsi = None }
+
+-- that of the unicast route of the first edge, as an UPDATE message
 abbrev pub join_octets : List ℕ
 join_octets =
     255 ∷ 255 ∷ 255 ∷ 255 ∷ 255 ∷ 255 ∷ 255 ∷ 255 ∷ 255 ∷ 255 ∷ 255 ∷ 255 ∷ 255 ∷ 255 ∷ 255 ∷ 255 ∷ 0 ∷ 84 ∷ 2 ∷ 0 ∷ 0 ∷ 0 ∷ 61
@@ -182,12 +191,15 @@ join_octets =
     ∷ []
 
 -- The first edge originates the inclusive route and one unicast route, each in an UPDATE message of 99 octets. The second edge, which
--- has taken both, chooses the first one for a source of its site, joins there by this message, and is a leaf of its inclusive tunnel.
+-- has taken both, chooses the first one for a source of its site, joins there by this message, and is a leaf of its inclusive tunnel, which is the one
+-- tree that it wants for these routes.
 pub record Worked : Type 0 where
   pub originates : originated (place_of first) no_control ≡ (inclusive_key, inclusive_value) ∷ (unicast_key, unicast_value) ∷ []
   pub inclusive_octets : length (written (as_update (Reach inclusive_key inclusive_value))) ≡ 99
   pub unicast_octets : length (written (as_update (Reach unicast_key unicast_value))) ≡ 99
   pub joins : option_map (λ (route : Key × Value). written (as_update (Reach route.0 route.1))) (join_route (place_of second) first (flow, Some upstream)) ≡ Some join_octets
+  pub joins_by : (rd : Rd) (import : Import) (source_as : ℕ) → join_route (place_of second) first (flow, Some (Remote first rd import source_as)) ≡ Some (join_key rd source_as, join_value import)
   pub tunnel : lsp (own_addr (place_of first)) (tunnel_number first_vrf 0) ≡ inclusive_tunnel
   pub chooses : upstream_for (place_of second) second_control second_own source ≡ Some upstream
   pub leaf : sets.contains (leaves (place_of second) second_control) inclusive_tunnel ≡ true
+  pub wants : (call : labels.Call) → Among call (changed_leaves (leaves (place_of second) no_control) (leaves (place_of second) second_control)) ↔ (call ≡ labels.Want inclusive_tunnel)

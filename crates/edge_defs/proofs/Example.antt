@@ -25,7 +25,7 @@ use Rattle.label_defs.specs.Steps as labels
 use Rattle.selective_defs.specs.Selective.{Among}
 use Rattle.edge_defs.specs.Edge.{Note, Upstream, Remote, VrfPattern, Selected, VrfFlow, TakenRoute, Taken, note_cmp, pattern_cmp, flow_cmp, no_control}
 use Rattle.edge_defs.specs.Imported.{found_in, imported_inclusive, join_by}
-use Rattle.edge_defs.specs.Example.{first, second, first_addr, first_vrf, first_prefix, second_vrf, second_prefix, second_own, second_control, first_table, distinguisher, place_of, inclusive_key, inclusive_value, inclusive_tunnel, unicast_key, unicast_value, taken, source, upstream}
+use Rattle.edge_defs.specs.Example.{first, second, first_addr, first_prefix, second_vrf, second_prefix, second_own, second_control, first_table, distinguisher, place_of, inclusive_key, inclusive_value, inclusive_tunnel, unicast_key, unicast_value, taken, source, upstream}
 use Rattle.edge_defs.specs.Keys.{Value, key_cmp}
 use Rattle.edge_defs.specs.Originated.{originated, inclusive_route, unicast_routes, selective_key, tunnel_value, active_key, plain_value, is_iface_of}
 use Rattle.edge_defs.specs.Place.{OwnVrf, own_vrfs, tunnel_number}
@@ -41,10 +41,10 @@ no_items : {A : Type 0} (list : List A) → length list ≡ 0 → list ≡ []
 no_items [] e = refl
 no_items (x ∷ list) e = absurd (omega (arith, e))
 
-no_entries : {K : Type 0} (R : K → K → Ordering) (X : Type 0) → maps.entries (maps.empty {X = X} {R = R}) ≡ []
+pub no_entries : {K : Type 0} (R : K → K → Ordering) (X : Type 0) → maps.entries (maps.empty {X = X} {R = R}) ≡ []
 no_entries R X = no_items (maps.entries maps.empty) (sym (maps.len-entries maps.empty) ∙ maps.len-empty R X)
 
-no_members : {K : Type 0} {R : K → K → Ordering} → IsTotalOrder R → (list : List K) → ((k : K) → list_any (eq_by_cmp R k) list ≡ false) → list ≡ []
+pub no_members : {K : Type 0} {R : K → K → Ordering} → IsTotalOrder R → (list : List K) → ((k : K) → list_any (eq_by_cmp R k) list ≡ false) → list ≡ []
 no_members total [] none = refl
 no_members {R = R} total (k ∷ list) none = absurd (let itself = ap is_eq (tied_itself total k) in let other = none k in cc)
 
@@ -52,9 +52,6 @@ no_notes : sets.items (sets.empty {R = note_cmp}) ≡ []
 no_notes = no_members note_total (sets.items sets.empty) (λ note. sym (sets.contains-items sets.empty note) ∙ sets.contains-empty note_cmp note)
 
 -- ---- the first edge
-
-abbrev first_own : OwnVrf
-first_own = record { id = record { 0 = 0 }; vrf = first_vrf }
 
 -- what it originates, with the selections and the notes
 abbrev originated_with : List (VrfPattern × Selected) → List Note → List (Key × Value)

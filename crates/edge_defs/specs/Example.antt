@@ -191,8 +191,8 @@ join_octets =
     ∷ []
 
 -- The first edge originates the inclusive route and one unicast route, each in an UPDATE message of 99 octets. The second edge, which
--- has taken both, chooses the first one for a source of its site, joins there by this message, and is a leaf of its inclusive tunnel, which is the one
--- tree that it wants for these routes.
+-- has taken both, chooses the first one for a source at the first site, and joins there by this message; whatever the chosen route says,
+-- its join says the same. It is a leaf of the inclusive tunnel, and that is the one tree that it wants more than before.
 pub record Worked : Type 0 where
   pub originates : originated (place_of first) no_control ≡ (inclusive_key, inclusive_value) ∷ (unicast_key, unicast_value) ∷ []
   pub inclusive_octets : length (written (as_update (Reach inclusive_key inclusive_value))) ≡ 99

@@ -11,3 +11,4 @@ pub mod Messages
 pub mod Steps
 pub mod Datagrams
 pub mod Due
+pub mod Example

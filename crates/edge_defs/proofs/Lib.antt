@@ -1,0 +1,4 @@
+pub mod PartLemmas
+pub mod KeyLemmas
+pub mod LeafLemmas
+pub mod Example

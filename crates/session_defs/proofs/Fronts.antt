@@ -1,0 +1,57 @@
+-- What stands at the front of a session's octets is what its messages spell, and a fault stays.
+use Rattle.std.proofs.Common.{◌≡◌, ℕ, List, length, sym, ap, ◌∙◌}
+use Rattle.std.specs.Prelude.{map}
+use Rattle.framing.specs.Cut.{Front}
+use Rattle.framing.specs.Cut.Front.{more, whole, bad}
+use Rattle.framing.proofs.Cuts.{IsStream}
+use Rattle.framing.proofs.Fronts.{whole_is, bad_is}
+use Rattle.scenario_defs.specs.declared.event.Kind.{Kind}
+use Rattle.scenario_defs.specs.declared.event.Kind.TheVariants as kinds
+use Rattle.bgp_update.specs.Reading.{message_front}
+use Rattle.bgp_update.specs.Spelling.{SpellsMessage}
+use Rattle.bgp_update.proofs.Messages.{message_format}
+use Rattle.mldp_msgs.specs.Reading.{pdu_front}
+use Rattle.mldp_msgs.specs.Spelling.{SpellsPdu}
+use Rattle.mldp_msgs.proofs.Pdus.{pdu_format}
+use Rattle.session_defs.specs.Message.{SessionMessage, SessionFault, as_front, front_of, Spells}
+use Rattle.session_defs.specs.Message.SessionMessage.{Bgp, Label}
+use Rattle.session_defs.specs.Message.SessionFault.{BgpFault, LabelFault}
+
+-- the messages of one protocol as messages of a session
+abbrev SpellsAs : {M : Type 0} → (M → SessionMessage) → (List M → List ℕ → Type 0) → List SessionMessage → List ℕ → Type 0
+SpellsAs {M} message Plain messages text = (plain : List M) × (messages ≡ map message plain) × Plain plain text
+
+whole_in : {M E : Type 0} (message : M → SessionMessage) (fault : E → SessionFault) (front : Front M E) (n : ℕ) (messages : List SessionMessage) → as_front message fault front ≡ whole n messages
+    → (plain : List M) × (messages ≡ map message plain) × (front ≡ whole n plain)
+whole_in message fault more n messages e = absurd cc
+whole_in message fault (whole count plain) n messages e =
+    let same = whole_is count n (map message plain) messages e in (plain, sym same.1, ap (λ (k : ℕ). whole k plain) same.0)
+whole_in message fault (bad offset reason) n messages e = absurd cc
+
+bad_in : {M E : Type 0} (message : M → SessionMessage) (fault : E → SessionFault) (front : Front M E) (offset : ℕ) (reason : SessionFault) → as_front message fault front ≡ bad offset reason
+    → (own : E) × (fault own ≡ reason) × (front ≡ bad offset own)
+bad_in message fault more offset reason e = absurd cc
+bad_in message fault (whole count plain) offset reason e = absurd cc
+bad_in message fault (bad place own) offset reason e =
+    let same = bad_is {M = SessionMessage} place offset (fault own) reason e in (own, same.1, ap (λ (k : ℕ). bad k own) same.0)
+
+stream_as : {M E : Type 0} (message : M → SessionMessage) (fault : E → SessionFault) (front : List ℕ → Front M E) (Plain : List M → List ℕ → Type 0) → IsStream front Plain
+    → IsStream (λ octets. as_front message fault (front octets)) (SpellsAs message Plain)
+stream_as message fault front Plain stream = record {
+  framing = record {
+    empty = ap (as_front message fault) stream.framing.empty;
+    taken = λ octets n messages fits e.
+        let is = whole_in message fault (front octets) n messages e in
+        let took = stream.framing.taken octets n is.0 fits is.2 in
+        (took.0, (is.0, is.1, took.1));
+    again = λ messages text after spells. ap (as_front message fault) (stream.framing.again spells.0 text after spells.2) ∙ ap (λ (ms : List SessionMessage). whole (length text) ms) (sym spells.1);
+    filled = λ messages text spells. stream.framing.filled spells.0 text spells.2;
+  };
+  kept = λ octets later offset reason e.
+      let is = bad_in message fault (front octets) offset reason e in
+      ap (as_front message fault) (stream.kept octets later offset is.0 is.2) ∙ ap (λ (r : SessionFault). bad offset r) is.1;
+}
+
+pub stream_of : (kind : Kind) → IsStream (front_of kind) (Spells kind)
+stream_of kinds.Bgp = stream_as (λ message. Bgp message) (λ fault. BgpFault fault) message_front SpellsMessage message_format.stream
+stream_of kinds.Ldp = stream_as (λ message. Label message) (λ fault. LabelFault fault) pdu_front SpellsPdu pdu_format.stream

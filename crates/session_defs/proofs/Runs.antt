@@ -1,0 +1,134 @@
+-- A run in octets is a run in messages.
+use Rattle.std.proofs.Common.{◌≡◌, ℕ, Bool, true, false, cond, List, [], ◌∷◌, ◌++◌, Option, Some, None, refl, sym, ap, subst, ◌∙◌, append_assoc}
+use Rattle.std.proofs.lemmas.List.{append-nil}
+use Rattle.mv_base.specs.Number.{◌>>?◌}
+use Rattle.session_defs.specs.declared.direction.Direction.{Direction}
+use Rattle.session_defs.specs.Message.{SessionMessage}
+use Rattle.session_defs.specs.System as messages
+use Rattle.session_defs.specs.System.{Put, Stepped, System, MessageNetwork, MessageAct, Behind, message_act, message_run, with_earlier}
+use Rattle.session_defs.specs.System.MessageAct.{Call as CallNodes, Lose as LoseMessages, Join as JoinSessions}
+use Rattle.session_defs.specs.Octets.{OctetNetwork, OctetAct, with_step, moved, octet_act, octet_run}
+use Rattle.session_defs.specs.Octets.OctetAct.{Move, Call, Lose, Forget, Join}
+use Rattle.session_defs.specs.Refined.{IsLine, AreLines, seen, ArePut, IsHonest, Refined, deliveries}
+use Rattle.session_defs.proofs.Lines.{line_lost, line_forgotten, line_joined}
+use Rattle.session_defs.proofs.Deliveries.{IsSeen, seen_earlier, with_news, news_are}
+use Rattle.session_defs.proofs.Moves.{moved_seen}
+
+-- ---- rows of acts in messages
+
+nothing_earlier : {N : Type 0} (new : Option (Behind N)) → with_earlier [] new ≡ new
+nothing_earlier None = refl
+nothing_earlier (Some new) = refl
+
+-- what was put before both
+both_earlier : {N : Type 0} (first then_puts : List Put) (new : Option (Behind N)) → with_earlier (first ++ then_puts) new ≡ with_earlier first (with_earlier then_puts new)
+both_earlier first then_puts None = refl
+both_earlier first then_puts (Some new) = ap (λ (puts : List Put). Some (record { network = new.network; puts = puts })) (append_assoc first then_puts new.puts)
+
+-- the acts go on behind a network
+abbrev pub goes_on : {S X : Type 0} → System S X → List (MessageAct X) → Option (Behind (MessageNetwork S)) → Option (Behind (MessageNetwork S))
+goes_on system acts found = found >>? λ next. with_earlier next.puts (message_run system next.network acts)
+
+earlier_goes_on : {S X : Type 0} (system : System S X) (acts : List (MessageAct X)) (puts : List Put) (found : Option (Behind (MessageNetwork S))) → goes_on system acts (with_earlier puts found) ≡ with_earlier puts (goes_on system acts found)
+earlier_goes_on system acts puts None = refl
+earlier_goes_on system acts puts (Some next) = both_earlier puts next.puts (message_run system next.network acts)
+
+-- one row behind another
+one_more : {S X : Type 0} (system : System S X) (first others : List (MessageAct X)) → ((network : MessageNetwork S) → message_run system network (first ++ others) ≡ goes_on system others (message_run system network first))
+    → (found : Option (Behind (MessageNetwork S))) → goes_on system (first ++ others) found ≡ goes_on system others (goes_on system first found)
+one_more system first others rows None = refl
+one_more system first others rows (Some next) = ap (with_earlier next.puts) (rows next.network) ∙ sym (earlier_goes_on system others next.puts (message_run system next.network first))
+
+pub both_rows : {S X : Type 0} (system : System S X) (first others : List (MessageAct X)) (network : MessageNetwork S) → message_run system network (first ++ others) ≡ goes_on system others (message_run system network first)
+both_rows system [] others network = sym (nothing_earlier (message_run system network others))
+both_rows system (one ∷ first) others network = one_more system first others (λ n. both_rows system first others n) (message_act system network one)
+
+-- a row of one act
+alone : {S : Type 0} (found : Option (Behind (MessageNetwork S))) → (found >>? λ next. with_earlier next.puts (Some (record { network = next.network; puts = [] }))) ≡ found
+alone None = refl
+alone (Some next) = ap (λ (puts : List Put). Some (record { network = next.network; puts = puts })) (append-nil next.puts)
+
+-- ---- one act
+
+-- acts in messages with the same outcome
+pub record Acted {S X : Type 0} (system : System S X) (old : OctetNetwork S) (pending : Direction → List SessionMessage) (new : Option (Behind (OctetNetwork S))) : Type 0 where
+  pub acts : List (MessageAct X)
+  pub outcome : IsSeen new (message_run system (seen old pending) acts)
+
+step_seen : {S : Type 0} (old : OctetNetwork S) (pending : Direction → List SessionMessage) → AreLines old pending → (stepped : Option (Stepped S)) → ArePut stepped → IsSeen (with_step old stepped) (messages.with_step (seen old pending) stepped)
+step_seen old pending lines None are = refl
+step_seen old pending lines (Some new) are = (with_news old pending new.puts, news_are old pending new lines are, refl)
+
+called_seen : {S X : Type 0} (system : System S X) → IsHonest system → (old : OctetNetwork S) (pending : Direction → List SessionMessage) → AreLines old pending → (call : X) → Acted system old pending (octet_act system old (Call call))
+called_seen system honest old pending lines call =
+    let found : Option (Behind (MessageNetwork _)) = message_act system (seen old pending) (CallNodes call) in
+    record {
+      acts = CallNodes call ∷ [];
+      outcome = subst (IsSeen (octet_act system old (Call call))) (sym (alone found)) (step_seen old pending lines (system.called call old.state) (honest.called call old.state));
+    }
+
+-- a move by whether the session is joined
+move_seen : {S X : Type 0} (system : System S X) → IsHonest system → (old : OctetNetwork S) (pending : Direction → List SessionMessage) → AreLines old pending → (direction : Direction) (count : ℕ) (joined : Bool) → old.joined direction ≡ joined
+    → IsLine direction.kind joined (old.stream direction) (old.transit direction) (pending direction) → Acted system old pending (cond joined (moved system old direction count) (Some (record { network = old; puts = [] })))
+move_seen system honest old pending lines direction count true joined line =
+    let m = moved_seen system honest old pending direction count lines joined line in
+    record { acts = deliveries direction m.first; outcome = m.outcome }
+move_seen system honest old pending lines direction count false joined line = record { acts = []; outcome = (pending, lines, refl) }
+
+act_seen : {S X : Type 0} (system : System S X) → IsHonest system → (old : OctetNetwork S) (pending : Direction → List SessionMessage) → AreLines old pending → (one : OctetAct X) → Acted system old pending (octet_act system old one)
+act_seen system honest old pending lines (Move direction count) = move_seen system honest old pending lines direction count (old.joined direction) refl (lines direction)
+act_seen system honest old pending lines (Call call) = called_seen system honest old pending lines call
+act_seen system honest old pending lines (Lose hit) = record {
+  acts = LoseMessages hit ∷ [];
+  outcome = (
+    (λ other. cond (hit other) [] (pending other)),
+    (λ other. line_lost other.kind (hit other) (old.joined other) (old.stream other) (old.transit other) (pending other) (lines other)),
+    refl,
+  );
+}
+act_seen system honest old pending lines (Forget hit) = record {
+  acts = [];
+  outcome = (pending, (λ other. line_forgotten other.kind (hit other) (old.joined other) (old.stream other) (old.transit other) (pending other) (lines other)), refl);
+}
+act_seen system honest old pending lines (Join hit) = record {
+  acts = JoinSessions hit ∷ [];
+  outcome = (
+    (λ other. cond (hit other) [] (pending other)),
+    (λ other. line_joined other.kind (hit other) (old.joined other) (old.stream other) (old.transit other) (pending other) (lines other)),
+    refl,
+  );
+}
+
+-- ---- a run
+
+-- a first act, and the run behind it
+run_on : {S X : Type 0} (system : System S X) (old : OctetNetwork S) (pending : Direction → List SessionMessage) (acts : List (OctetAct X)) (new : Option (Behind (OctetNetwork S)))
+    → ((next : OctetNetwork S) (waiting : Direction → List SessionMessage) → AreLines next waiting → Acted system next waiting (octet_run system next acts)) → Acted system old pending new
+    → Acted system old pending (new >>? λ next. with_earlier next.puts (octet_run system next.network acts))
+run_on system old pending acts None others first = record { acts = first.acts; outcome = first.outcome }
+run_on {S} {X} system old pending acts (Some next) others first =
+    let left : Direction → List SessionMessage = first.outcome.0 in
+    let rest = others next.network left first.outcome.1 in
+    let found : Option (Behind (MessageNetwork S)) = message_run system (seen next.network left) rest.acts in
+    let row : message_run system (seen old pending) (first.acts ++ rest.acts) ≡ with_earlier next.puts found = both_rows system first.acts rest.acts (seen old pending) ∙ ap (goes_on system rest.acts) first.outcome.2 in
+    record {
+      acts = first.acts ++ rest.acts;
+      outcome = subst (IsSeen (with_earlier next.puts (octet_run system next.network acts))) (sym row) (seen_earlier next.puts (octet_run system next.network acts) found rest.outcome);
+    }
+
+run_seen : {S X : Type 0} (system : System S X) → IsHonest system → (acts : List (OctetAct X)) (old : OctetNetwork S) (pending : Direction → List SessionMessage) → AreLines old pending → Acted system old pending (octet_run system old acts)
+run_seen system honest [] old pending lines = record { acts = []; outcome = (pending, lines, refl) }
+run_seen system honest (one ∷ acts) old pending lines =
+    run_on system old pending acts (octet_act system old one) (λ next waiting are. run_seen system honest acts next waiting are) (act_seen system honest old pending lines one)
+
+pub run_refined : {S X : Type 0} (system : System S X) (old : OctetNetwork S) (pending : Direction → List SessionMessage) (acts : List (OctetAct X)) (new : Behind (OctetNetwork S)) → IsHonest system → AreLines old pending
+    → octet_run system old acts ≡ Some new → Refined system old pending new
+run_refined {S} {X} system old pending acts new honest lines e =
+    let run : Acted system old pending (Some new) = subst (Acted system old pending) e (run_seen system honest acts old pending lines) in
+    record { acts = run.acts; left = run.outcome.0; lines = run.outcome.1; same = run.outcome.2 }
+
+pub run_ended : {S X : Type 0} (system : System S X) (old : OctetNetwork S) (pending : Direction → List SessionMessage) (acts : List (OctetAct X)) → IsHonest system → AreLines old pending
+    → octet_run system old acts ≡ None → (row : List (MessageAct X)) × (message_run system (seen old pending) row ≡ None)
+run_ended {S} {X} system old pending acts honest lines e =
+    let run : Acted system old pending None = subst (Acted system old pending) e (run_seen system honest acts old pending lines) in
+    (run.acts, run.outcome)

@@ -1,0 +1,5 @@
+pub mod Message
+pub mod System
+pub mod Octets
+pub mod Refined
+pub mod Example

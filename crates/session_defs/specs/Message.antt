@@ -1,0 +1,54 @@
+-- The messages of sessions over BGP and LDP, and the octets that spell them (RFC 4271 section 4.1, RFC 5036 section 3.1).
+use Rattle.std.specs.Prelude.{◌≡◌, ℕ, ◌==◌, ◌&&◌, Bool, true, false, List, map}
+use Rattle.mv_base.specs.Octets.{IsOctets}
+use Rattle.framing.specs.Cut.{Front}
+use Rattle.framing.specs.Cut.Front.{more, whole, bad}
+use Rattle.scenario_defs.specs.declared.event.Kind.{Kind}
+use Rattle.scenario_defs.specs.declared.event.Kind.TheVariants as kinds
+use Rattle.bgp_attributes.specs.declared.update.Message.{Message}
+use Rattle.bgp_attributes.specs.declared.fault.StreamFault.{StreamFault}
+use Rattle.bgp_update.specs.Reading.{message_front}
+use Rattle.bgp_update.specs.Spelling.{SpellsMessage}
+use Rattle.mldp_msgs.specs.declared.message.LabelMessage.{LabelMessage}
+use Rattle.mldp_msgs.specs.declared.fault.LdpFault.{LdpFault}
+use Rattle.mldp_msgs.specs.Reading.{pdu_front}
+use Rattle.mldp_msgs.specs.Spelling.{SpellsPdu}
+use Rattle.session_defs.specs.declared.direction.Direction.{Direction}
+
+-- a message of a session
+pub data SessionMessage : Type 0 where
+  Bgp : (message : Message) → SessionMessage
+  Label : (message : LabelMessage) → SessionMessage
+
+-- the first fault of a stream
+pub data SessionFault : Type 0 where
+  BgpFault : (fault : StreamFault) → SessionFault
+  LabelFault : (fault : LdpFault) → SessionFault
+
+-- whether both are one protocol, and one direction
+abbrev pub same_kind : Kind → Kind → Bool
+same_kind kinds.Bgp kinds.Bgp = true
+same_kind kinds.Ldp kinds.Ldp = true
+same_kind a b = false
+
+abbrev pub same_direction : Direction → Direction → Bool
+same_direction a b = same_kind a.kind b.kind && (a.from.0 == b.from.0) && (a.to.0 == b.to.0)
+
+-- what stands at the front of a session's octets
+abbrev pub as_front : {M E : Type 0} → (M → SessionMessage) → (E → SessionFault) → Front M E → Front SessionMessage SessionFault
+as_front message fault more = more
+as_front message fault (whole count messages) = whole count (map message messages)
+as_front message fault (bad offset reason) = bad offset (fault reason)
+
+abbrev pub front_of : Kind → List ℕ → Front SessionMessage SessionFault
+front_of kinds.Bgp octets = as_front (λ message. Bgp message) (λ fault. BgpFault fault) (message_front octets)
+front_of kinds.Ldp octets = as_front (λ message. Label message) (λ fault. LabelFault fault) (pdu_front octets)
+
+-- the octets of one unit, a BGP message or an LDP PDU, with the messages that it carries
+abbrev pub Spells : Kind → List SessionMessage → List ℕ → Type 0
+Spells kinds.Bgp messages text = (plain : List Message) × (messages ≡ map (λ message. Bgp message) plain) × SpellsMessage plain text
+Spells kinds.Ldp messages text = (plain : List LabelMessage) × (messages ≡ map (λ message. Label message) plain) × SpellsPdu plain text
+
+-- a spelling, in octets
+abbrev pub IsPut : Kind → List SessionMessage → List ℕ → Type 0
+IsPut kind messages text = Spells kind messages text × IsOctets text

@@ -1,0 +1,63 @@
+-- How a network in octets is one in messages.
+use Rattle.std.specs.Prelude.{◌≡◌, ◌≤◌, ℕ, Bool, true, false, List, [], ◌++◌, map, length, Option, Some, None, ⊤}
+use Rattle.std.specs.List.{AllByRecursion}
+use Rattle.framing.specs.Units.{Spelled, octets_of, messages_of, AreUnits}
+use Rattle.scenario_defs.specs.declared.event.Kind.{Kind}
+use Rattle.session_defs.specs.declared.direction.Direction.{Direction}
+use Rattle.session_defs.specs.Message.{SessionMessage, IsPut}
+use Rattle.session_defs.specs.System.{Put, Stepped, System, MessageNetwork, MessageAct, Behind, message_run}
+use Rattle.session_defs.specs.System.MessageAct.{Deliver}
+use Rattle.session_defs.specs.Octets.{Stream, OctetNetwork}
+
+-- what is held back, with what is in transit behind it, is whole units, and they carry what is pending
+pub record Carried (kind : Kind) (stream : Stream) (transit : List ℕ) (pending : List SessionMessage) : Type 0 where
+  pub units : List (Spelled SessionMessage)
+  pub each : AreUnits (IsPut kind) units
+  pub octets : stream.held ++ transit ≡ octets_of units
+  pub messages : pending ≡ messages_of units
+  pub taken : stream.waiting ≡ []
+  pub sound : stream.fault ≡ None
+
+-- Over a direction whose session is joined the octets carry what is pending, and the receiver's stream has no fault. Over any
+-- other direction nothing is in transit and nothing is pending.
+abbrev pub IsLine : Kind → Bool → Stream → List ℕ → List SessionMessage → Type 0
+IsLine kind true stream transit pending = Carried kind stream transit pending
+IsLine kind false stream transit pending = (transit ≡ []) × (pending ≡ [])
+
+abbrev pub AreLines : {S : Type 0} → OctetNetwork S → (Direction → List SessionMessage) → Type 0
+AreLines network pending = (direction : Direction) → IsLine direction.kind (network.joined direction) (network.stream direction) (network.transit direction) (pending direction)
+
+-- the network with these messages in the place of its octets
+abbrev pub seen : {S : Type 0} → OctetNetwork S → (Direction → List SessionMessage) → MessageNetwork S
+seen network pending = record { state = network.state; joined = network.joined; transit = pending }
+
+-- each unit that is put is spelled as its session asks
+abbrev pub ArePut : {S : Type 0} → Option (Stepped S) → Type 0
+ArePut None = ⊤
+ArePut (Some new) = AllByRecursion (λ (put : Put). IsPut put.over.kind put.unit.messages put.unit.octets) new.puts
+
+pub record IsHonest {S X : Type 0} (system : System S X) : Type 0 where
+  pub taken : (direction : Direction) (message : SessionMessage) (state : S) → ArePut (system.taken direction message state)
+  pub called : (call : X) (state : S) → ArePut (system.called call state)
+
+-- Acts on messages lead from the old network to the new one and put the same, and the octets of the new one carry what is
+-- pending there.
+pub record Refined {S X : Type 0} (system : System S X) (old : OctetNetwork S) (pending : Direction → List SessionMessage) (new : Behind (OctetNetwork S)) : Type 0 where
+  pub acts : List (MessageAct X)
+  pub left : Direction → List SessionMessage
+  pub lines : AreLines new.network left
+  pub same : message_run system (seen old pending) acts ≡ Some (record { network = seen new.network left; puts = new.puts })
+
+-- so many deliveries, one after another
+abbrev pub deliveries : {X : Type 0} → Direction → List SessionMessage → List (MessageAct X)
+deliveries direction messages = map (λ message. Deliver direction) messages
+
+-- A move delivers some first messages of those that are pending, one after another: all of them where all octets are moved.
+pub record MovesFirst {S X : Type 0} (system : System S X) (old : OctetNetwork S) (pending : Direction → List SessionMessage) (direction : Direction) (count : ℕ) (new : Behind (OctetNetwork S)) : Type 0 where
+  pub first : List SessionMessage
+  pub rest : List SessionMessage
+  pub parts : pending direction ≡ first ++ rest
+  pub all : length (old.transit direction) ≤ count → rest ≡ []
+  pub left : Direction → List SessionMessage
+  pub lines : AreLines new.network left
+  pub same : message_run system (seen old pending) (deliveries direction first) ≡ Some (record { network = seen new.network left; puts = new.puts })

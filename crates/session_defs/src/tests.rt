@@ -1,0 +1,10 @@
+//! The laws at numbers as states and calls.
+
+use crate::{a_message_cut_in_two, moves_deliver, octets_carry_messages};
+
+#[test]
+fn numbers() {
+    octets_carry_messages::<u32, u32>();
+    moves_deliver::<u32, u32>();
+    a_message_cut_in_two();
+}

@@ -1,5 +1,7 @@
 -- Messages that are taken one after another are delivered one after another.
+use Rattle.std.specs.Prelude.{⊤}
 use Rattle.std.proofs.Common.{◌≡◌, Bool, true, false, cond, List, [], ◌∷◌, ◌++◌, Option, Some, None, refl, sym, ap, subst, ◌∙◌, append_assoc}
+use Rattle.std.specs.List.{AllByRecursion}
 use Rattle.mv_base.specs.Number.{◌>>?◌}
 use Rattle.session_defs.specs.declared.direction.Direction.{Direction}
 use Rattle.session_defs.specs.Message.{SessionMessage, same_direction}
@@ -7,19 +9,31 @@ use Rattle.session_defs.specs.System as messages
 use Rattle.session_defs.specs.System.{Put, Stepped, System, MessageNetwork, MessageAct, Behind, messages_over, octets_over, delivered, message_act, message_run, with_earlier}
 use Rattle.session_defs.specs.System.MessageAct.{Deliver}
 use Rattle.session_defs.specs.Octets.{OctetNetwork, with_octets, with_step, all_taken}
-use Rattle.session_defs.specs.Refined.{AreLines, seen, ArePut, IsHonest, deliveries}
+use Rattle.session_defs.specs.Refined.{AreLines, seen, ArePut, IsCarried, IsHonest, Keeps, IsHonestWhile, deliveries}
 use Rattle.session_defs.proofs.Lines.{sent_over, line_sent, direction_is, own_direction}
+
+-- Where nodes are honest in every state, each state is a good one.
+keeps_always : {S : Type 0} (stepped : Option (Stepped S)) → ArePut stepped → Keeps (λ state. ⊤) stepped
+keeps_always None are = tt
+keeps_always (Some new) are = (are, tt)
+
+pub honest_while : {S X : Type 0} (system : System S X) → IsHonest system → IsHonestWhile system (λ state. ⊤)
+honest_while system honest = record {
+  taken = λ direction message state good carried. keeps_always (system.taken direction message state) (honest.taken direction message state carried);
+  called = λ call state good. keeps_always (system.called call state) (honest.called call state);
+}
 
 -- ---- the same outcome
 
--- Both end, or both go on: with the same nodes, sessions and puts, and octets that carry what is pending.
-abbrev pub IsSeen : {S : Type 0} → Option (Behind (OctetNetwork S)) → Option (Behind (MessageNetwork S)) → Type 0
-IsSeen None found = found ≡ None
-IsSeen (Some new) found = (left : Direction → List SessionMessage) × AreLines new.network left × (found ≡ Some (record { network = seen new.network left; puts = new.puts }))
+-- Both end, or both go on: with the same nodes, in a good state, the same sessions and puts, and octets that carry what is
+-- pending.
+abbrev pub IsSeen : {S : Type 0} → (S → Type 0) → Option (Behind (OctetNetwork S)) → Option (Behind (MessageNetwork S)) → Type 0
+IsSeen Good None found = found ≡ None
+IsSeen Good (Some new) found = (left : Direction → List SessionMessage) × AreLines new.network left × (found ≡ Some (record { network = seen new.network left; puts = new.puts })) × Good new.network.state
 
-pub seen_earlier : {S : Type 0} (puts : List Put) (new : Option (Behind (OctetNetwork S))) (found : Option (Behind (MessageNetwork S))) → IsSeen new found → IsSeen (with_earlier puts new) (with_earlier puts found)
-seen_earlier puts None found h = ap (with_earlier puts) h
-seen_earlier puts (Some new) found (left, lines, same) = (left, lines, ap (with_earlier puts) same)
+pub seen_earlier : {S : Type 0} (Good : S → Type 0) (puts : List Put) (new : Option (Behind (OctetNetwork S))) (found : Option (Behind (MessageNetwork S))) → IsSeen Good new found → IsSeen Good (with_earlier puts new) (with_earlier puts found)
+seen_earlier Good puts None found h = ap (with_earlier puts) h
+seen_earlier Good puts (Some new) found (left, lines, same, good) = (left, lines, ap (with_earlier puts) same, good)
 
 -- ---- what is put
 
@@ -69,20 +83,21 @@ delivers system network pending direction message first =
 -- ---- all of them
 
 -- one message by what the nodes do with it, and then the others
-step_seen : {S X : Type 0} (system : System S X) (network : OctetNetwork S) (pending : Direction → List SessionMessage) (direction : Direction) (message : SessionMessage) (first : List SessionMessage) → AreLines network pending
-    → ((next : OctetNetwork S) (waiting : Direction → List SessionMessage) → AreLines next waiting → IsSeen (all_taken system next direction first) (message_run system (seen next (in_front direction first waiting)) (deliveries direction first)))
-    → (stepped : Option (Stepped S)) → ArePut stepped
-    → IsSeen (with_step network stepped >>? λ next. with_earlier next.puts (all_taken system next.network direction first)) (messages.with_step (one_taken network pending direction message first) stepped >>? λ next. with_earlier next.puts (message_run system next.network (deliveries direction first)))
-step_seen system network pending direction message first lines others None are = refl
-step_seen {S} system network pending direction message first lines others (Some new) are =
-    let rest = others (with_octets network new) (with_news network pending new.puts) (news_are network pending new lines are) in
-    let P : MessageNetwork S → Type 0 = λ n. IsSeen (with_earlier new.puts (all_taken system (with_octets network new) direction first)) (with_earlier new.puts (message_run system n (deliveries direction first))) in
-    subst P (sym (taken_is network pending direction message first new)) (seen_earlier new.puts (all_taken system (with_octets network new) direction first) (message_run system (seen (with_octets network new) (in_front direction first (with_news network pending new.puts))) (deliveries direction first)) rest)
+step_seen : {S X : Type 0} (system : System S X) (Good : S → Type 0) (network : OctetNetwork S) (pending : Direction → List SessionMessage) (direction : Direction) (message : SessionMessage) (first : List SessionMessage) → AreLines network pending
+    → ((next : OctetNetwork S) (waiting : Direction → List SessionMessage) → AreLines next waiting → Good next.state → IsSeen Good (all_taken system next direction first) (message_run system (seen next (in_front direction first waiting)) (deliveries direction first)))
+    → (stepped : Option (Stepped S)) → Keeps Good stepped
+    → IsSeen Good (with_step network stepped >>? λ next. with_earlier next.puts (all_taken system next.network direction first)) (messages.with_step (one_taken network pending direction message first) stepped >>? λ next. with_earlier next.puts (message_run system next.network (deliveries direction first)))
+step_seen system Good network pending direction message first lines others None keeps = refl
+step_seen {S} system Good network pending direction message first lines others (Some new) keeps =
+    let rest = others (with_octets network new) (with_news network pending new.puts) (news_are network pending new lines keeps.0) keeps.1 in
+    let P : MessageNetwork S → Type 0 = λ n. IsSeen Good (with_earlier new.puts (all_taken system (with_octets network new) direction first)) (with_earlier new.puts (message_run system n (deliveries direction first))) in
+    subst P (sym (taken_is network pending direction message first new)) (seen_earlier Good new.puts (all_taken system (with_octets network new) direction first) (message_run system (seen (with_octets network new) (in_front direction first (with_news network pending new.puts))) (deliveries direction first)) rest)
 
-pub taken_seen : {S X : Type 0} (system : System S X) → IsHonest system → (direction : Direction) (first : List SessionMessage) (network : OctetNetwork S) (pending : Direction → List SessionMessage) → AreLines network pending
-    → IsSeen (all_taken system network direction first) (message_run system (seen network (in_front direction first pending)) (deliveries direction first))
-taken_seen system honest direction [] network pending lines = (pending, lines, λ i. Some (record { network = seen network (λ other. nothing_in_front (same_direction other direction) (pending other) i); puts = [] }))
-taken_seen {S} {X} system honest direction (message ∷ first) network pending lines =
+pub taken_seen : {S X : Type 0} (system : System S X) (Good : S → Type 0) → IsHonestWhile system Good → (direction : Direction) (first : List SessionMessage) → AllByRecursion (λ (message : SessionMessage). IsCarried direction.kind message) first
+    → (network : OctetNetwork S) (pending : Direction → List SessionMessage) → AreLines network pending → Good network.state
+    → IsSeen Good (all_taken system network direction first) (message_run system (seen network (in_front direction first pending)) (deliveries direction first))
+taken_seen system Good honest direction [] carried network pending lines good = (pending, lines, (λ i. Some (record { network = seen network (λ other. nothing_in_front (same_direction other direction) (pending other) i); puts = [] })), good)
+taken_seen {S} {X} system Good honest direction (message ∷ first) carried network pending lines good =
     let stepped : Option (Stepped S) = system.taken direction message network.state in
-    let P : Option (Behind (MessageNetwork S)) → Type 0 = λ o. IsSeen (with_step network stepped >>? λ next. with_earlier next.puts (all_taken system next.network direction first)) (o >>? λ next. with_earlier next.puts (message_run system next.network (deliveries direction first))) in
-    subst P (sym (delivers system network pending direction message first)) (step_seen system network pending direction message first lines (λ next waiting are. taken_seen system honest direction first next waiting are) stepped (honest.taken direction message network.state))
+    let P : Option (Behind (MessageNetwork S)) → Type 0 = λ o. IsSeen Good (with_step network stepped >>? λ next. with_earlier next.puts (all_taken system next.network direction first)) (o >>? λ next. with_earlier next.puts (message_run system next.network (deliveries direction first))) in
+    subst P (sym (delivers system network pending direction message first)) (step_seen system Good network pending direction message first lines (λ next waiting are fine. taken_seen system Good honest direction first carried.1 next waiting are fine) stepped (honest.taken direction message network.state good carried.0))

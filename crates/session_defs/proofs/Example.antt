@@ -35,7 +35,7 @@ is_put : IsPut put.over.kind put.unit.messages put.unit.octets
 is_put = ((withdraw ∷ [], refl, pdu_spelled router 1 withdraw writable refl), are_octets put.unit.octets refl)
 
 honest : IsHonest keeping
-honest = record { taken = λ direction message kept. tt; called = λ call kept. (is_put, tt) }
+honest = record { taken = λ direction message kept carried. tt; called = λ call kept. (is_put, tt) }
 
 line : (kind : Kind) (joined : Bool) → IsLine kind joined unfed [] []
 line kind true = record { units = []; each = tt; octets = refl; messages = refl; taken = refl; sound = refl }

@@ -36,6 +36,14 @@ pub are_both : {M : Type 0} (P : List M → List ℕ → Type 0) (a b : List (Sp
 are_both P [] b h k = k
 are_both P (unit ∷ units) b h k = (h.0, are_both P units b h.1 k)
 
+pub all_both : {A : Type 0} (P : A → Type 0) (a b : List A) → AllByRecursion P a → AllByRecursion P b → AllByRecursion P (a ++ b)
+all_both P [] b h k = k
+all_both P (x ∷ xs) b h k = (h.0, all_both P xs b h.1 k)
+
+pub are_before : {M : Type 0} (P : List M → List ℕ → Type 0) (a b : List (Spelled M)) → AreUnits P (a ++ b) → AreUnits P a
+are_before P [] b h = tt
+are_before P (unit ∷ units) b h = (h.0, are_before P units b h.1)
+
 pub are_behind : {M : Type 0} (P : List M → List ℕ → Type 0) (a b : List (Spelled M)) → AreUnits P (a ++ b) → AreUnits P b
 are_behind P [] b h = h
 are_behind P (unit ∷ units) b h = are_behind P units b h.1

@@ -1,5 +1,7 @@
 -- A move over a joined session delivers some first messages of those that are pending.
-use Rattle.std.proofs.Common.{◌≡◌, ℕ, ◌-◌, ◌≤◌, Bool, true, false, cond, List, [], ◌++◌, length, take, drop, Option, Some, None, refl, sym, ap, subst, ◌∙◌, append_assoc}
+use Rattle.std.specs.Prelude.{⊤}
+use Rattle.std.proofs.Common.{◌≡◌, ℕ, ◌-◌, ◌≤◌, Bool, true, false, cond, List, [], ◌∷◌, ◌++◌, length, take, drop, Option, Some, None, refl, sym, ap, subst, ◌∙◌, append_assoc}
+use Rattle.std.specs.List.{AllByRecursion}
 use Rattle.std.proofs.lemmas.List.{take-append-drop, drop_all}
 use Rattle.std.proofs.lemmas.List.Concat.{flat_map-append}
 use Rattle.mv_base.specs.Octets.{IsOctets}
@@ -12,11 +14,11 @@ use Rattle.session_defs.specs.declared.direction.Direction.{Direction}
 use Rattle.session_defs.specs.Message.{SessionMessage, SessionFault, same_direction, front_of, Spells, IsPut}
 use Rattle.session_defs.specs.System.{System, Behind, MessageNetwork, message_run}
 use Rattle.session_defs.specs.Octets.{Stream, OctetNetwork, all_taken, moved}
-use Rattle.session_defs.specs.Refined.{Carried, IsLine, AreLines, seen, IsHonest, MovesFirst, deliveries}
+use Rattle.session_defs.specs.Refined.{Carried, IsLine, AreLines, seen, IsCarried, IsHonest, IsHonestWhile, MovesFirst, deliveries}
 use Rattle.session_defs.proofs.Fronts.{stream_of}
 use Rattle.session_defs.proofs.Came.{Came, came, came_cut, came_all}
-use Rattle.session_defs.proofs.Lines.{are_spelled, are_octets, are_behind, line_moved, direction_is}
-use Rattle.session_defs.proofs.Deliveries.{IsSeen, in_front, taken_seen}
+use Rattle.session_defs.proofs.Lines.{are_spelled, are_octets, all_both, are_before, are_behind, line_moved, direction_is}
+use Rattle.session_defs.proofs.Deliveries.{IsSeen, in_front, honest_while, taken_seen}
 
 -- ---- what comes of one line
 
@@ -63,6 +65,20 @@ parts_of : (kind : Kind) (stream : Stream) (transit : List ℕ) (pending : List 
     → pending ≡ messages_of some.done ++ messages_of some.left
 parts_of kind stream transit pending count c some = c.messages ∙ ap messages_of some.both ∙ flat_map-append (λ (u : Spelled SessionMessage). u.messages) some.done some.left
 
+-- each message that came whole is one that a spelled unit carries
+all_carried : (kind : Kind) (text : List ℕ) (before messages : List SessionMessage) → IsPut kind (before ++ messages) text → AllByRecursion (λ (message : SessionMessage). IsCarried kind message) messages
+all_carried kind text before [] put = tt
+all_carried kind text before (message ∷ messages) put =
+    (record { before = before; behind = messages; text = text; put = put }, all_carried kind text (before ++ message ∷ []) messages (subst (λ (ms : List SessionMessage). IsPut kind ms text) (sym (append_assoc before (message ∷ []) messages)) put))
+
+units_carried : (kind : Kind) (units : List (Spelled SessionMessage)) → AreUnits (IsPut kind) units → AllByRecursion (λ (message : SessionMessage). IsCarried kind message) (messages_of units)
+units_carried kind [] are = tt
+units_carried kind (unit ∷ units) are = all_both (λ (message : SessionMessage). IsCarried kind message) unit.messages (messages_of units) (all_carried kind unit.octets [] unit.messages are.0) (units_carried kind units are.1)
+
+done_carried : (kind : Kind) (stream : Stream) (transit : List ℕ) (pending : List SessionMessage) (count : ℕ) (c : Carried kind stream transit pending) (some : Came (front_of kind) (Spells kind) (stream.held ++ take count transit) (drop count transit) c.units)
+    → AllByRecursion (λ (message : SessionMessage). IsCarried kind message) (messages_of some.done)
+done_carried kind stream transit pending count c some = units_carried kind some.done (are_before (IsPut kind) some.done some.left (subst (AreUnits (IsPut kind)) some.both c.each))
+
 -- ---- the network
 
 -- a line in the place of that of the direction
@@ -97,20 +113,20 @@ fronted network pending direction transit stream first left parts = λ i. record
 -- ---- a move
 
 -- some first messages that are pending, all where all octets are moved, and what comes of their deliveries
-pub record Moved {S X : Type 0} (system : System S X) (old : OctetNetwork S) (pending : Direction → List SessionMessage) (direction : Direction) (count : ℕ) : Type 0 where
+pub record Moved {S X : Type 0} (system : System S X) (Good : S → Type 0) (old : OctetNetwork S) (pending : Direction → List SessionMessage) (direction : Direction) (count : ℕ) : Type 0 where
   pub first : List SessionMessage
   pub rest : List SessionMessage
   pub parts : pending direction ≡ first ++ rest
   pub all : length (old.transit direction) ≤ count → rest ≡ []
-  pub outcome : IsSeen (moved system old direction count) (message_run system (seen old pending) (deliveries direction first))
+  pub outcome : IsSeen Good (moved system old direction count) (message_run system (seen old pending) (deliveries direction first))
 
 -- what the messages that a fed stream hands out do
 abbrev takes : {S X : Type 0} → System S X → OctetNetwork S → Direction → ℕ → Stream → Option (Behind (OctetNetwork S))
 takes system old direction count new = all_taken system (placed old direction (drop count (old.transit direction)) (record new { waiting = [] })) direction new.waiting
 
-pub moved_seen : {S X : Type 0} (system : System S X) → IsHonest system → (old : OctetNetwork S) (pending : Direction → List SessionMessage) (direction : Direction) (count : ℕ) → AreLines old pending → old.joined direction ≡ true
-    → Carried direction.kind (old.stream direction) (old.transit direction) (pending direction) → Moved system old pending direction count
-moved_seen {S} {X} system honest old pending direction count lines joined c =
+pub moved_seen : {S X : Type 0} (system : System S X) (Good : S → Type 0) → IsHonestWhile system Good → (old : OctetNetwork S) (pending : Direction → List SessionMessage) (direction : Direction) (count : ℕ) → AreLines old pending → Good old.state → old.joined direction ≡ true
+    → Carried direction.kind (old.stream direction) (old.transit direction) (pending direction) → Moved system Good old pending direction count
+moved_seen {S} {X} system Good honest old pending direction count lines good joined c =
     let kind : Kind = direction.kind in
     let stream : Stream = old.stream direction in
     let transit : List ℕ = old.transit direction in
@@ -122,23 +138,27 @@ moved_seen {S} {X} system honest old pending direction count lines joined c =
     let next : OctetNetwork S = placed old direction (drop count transit) new in
     let waiting : Direction → List SessionMessage = pending_there direction left pending in
     let next_lines : AreLines next waiting = placed_lines old pending direction (drop count transit) new left lines joined (left_carried kind stream transit (pending direction) count c some) in
-    let delivered : IsSeen (all_taken system next direction first) (message_run system (seen next (in_front direction first waiting)) (deliveries direction first)) = taken_seen system honest direction first next waiting next_lines in
-    let same : IsSeen (all_taken system next direction first) (message_run system (seen old pending) (deliveries direction first)) =
-    subst (λ (n : MessageNetwork S). IsSeen (all_taken system next direction first) (message_run system n (deliveries direction first))) (sym (fronted old pending direction (drop count transit) new first left parts)) delivered in
+    let delivered : IsSeen Good (all_taken system next direction first) (message_run system (seen next (in_front direction first waiting)) (deliveries direction first)) = taken_seen system Good honest direction first (done_carried kind stream transit (pending direction) count c some) next waiting next_lines good in
+    let same : IsSeen Good (all_taken system next direction first) (message_run system (seen old pending) (deliveries direction first)) =
+    subst (λ (n : MessageNetwork S). IsSeen Good (all_taken system next direction first) (message_run system n (deliveries direction first))) (sym (fronted old pending direction (drop count transit) new first left parts)) delivered in
     record {
       first = first;
       rest = left;
       parts = parts;
       all = none_left kind stream transit (pending direction) count c some;
-      outcome = subst (λ (d : Stream). IsSeen (takes system old direction count d) (message_run system (seen old pending) (deliveries direction first))) (sym (fed_is kind stream transit (pending direction) count c some)) same;
+      outcome = subst (λ (d : Stream). IsSeen Good (takes system old direction count d) (message_run system (seen old pending) (deliveries direction first))) (sym (fed_is kind stream transit (pending direction) count c some)) same;
     }
 
 carried_there : {S : Type 0} (old : OctetNetwork S) (pending : Direction → List SessionMessage) (direction : Direction) → AreLines old pending → old.joined direction ≡ true → Carried direction.kind (old.stream direction) (old.transit direction) (pending direction)
 carried_there old pending direction lines joined = subst (λ (b : Bool). IsLine direction.kind b (old.stream direction) (old.transit direction) (pending direction)) joined (lines direction)
 
+pub moves_first_while : {S X : Type 0} (system : System S X) (Good : S → Type 0) (old : OctetNetwork S) (pending : Direction → List SessionMessage) (direction : Direction) (count : ℕ) (new : Behind (OctetNetwork S)) → IsHonestWhile system Good → AreLines old pending
+    → Good old.state → old.joined direction ≡ true → moved system old direction count ≡ Some new → MovesFirst system old pending direction count new × Good new.network.state
+moves_first_while {S} {X} system Good old pending direction count new honest lines good joined e =
+    let m = moved_seen system Good honest old pending direction count lines good joined (carried_there old pending direction lines joined) in
+    let is : IsSeen Good (Some new) (message_run system (seen old pending) (deliveries direction m.first)) = subst (λ (o : Option (Behind (OctetNetwork S))). IsSeen Good o (message_run system (seen old pending) (deliveries direction m.first))) e m.outcome in
+    (record { first = m.first; rest = m.rest; parts = m.parts; all = m.all; left = is.0; lines = is.1; same = is.2 }, is.3)
+
 pub moves_first : {S X : Type 0} (system : System S X) (old : OctetNetwork S) (pending : Direction → List SessionMessage) (direction : Direction) (count : ℕ) (new : Behind (OctetNetwork S)) → IsHonest system → AreLines old pending → old.joined direction ≡ true
     → moved system old direction count ≡ Some new → MovesFirst system old pending direction count new
-moves_first {S} {X} system old pending direction count new honest lines joined e =
-    let m = moved_seen system honest old pending direction count lines joined (carried_there old pending direction lines joined) in
-    let is : IsSeen (Some new) (message_run system (seen old pending) (deliveries direction m.first)) = subst (λ (o : Option (Behind (OctetNetwork S))). IsSeen o (message_run system (seen old pending) (deliveries direction m.first))) e m.outcome in
-    record { first = m.first; rest = m.rest; parts = m.parts; all = m.all; left = is.0; lines = is.1; same = is.2 }
+moves_first system old pending direction count new honest lines joined e = (moves_first_while system (λ state. ⊤) old pending direction count new (honest_while system honest) lines tt joined e).0

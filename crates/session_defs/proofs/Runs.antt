@@ -1,4 +1,5 @@
 -- A run in octets is a run in messages.
+use Rattle.std.specs.Prelude.{⊤}
 use Rattle.std.proofs.Common.{◌≡◌, ℕ, Bool, true, false, cond, List, [], ◌∷◌, ◌++◌, Option, Some, None, refl, sym, ap, subst, ◌∙◌, append_assoc}
 use Rattle.std.proofs.lemmas.List.{append-nil}
 use Rattle.mv_base.specs.Number.{◌>>?◌}
@@ -9,9 +10,9 @@ use Rattle.session_defs.specs.System.{Put, Stepped, System, MessageNetwork, Mess
 use Rattle.session_defs.specs.System.MessageAct.{Call as CallNodes, Lose as LoseMessages, Join as JoinSessions}
 use Rattle.session_defs.specs.Octets.{OctetNetwork, OctetAct, with_step, moved, octet_act, octet_run}
 use Rattle.session_defs.specs.Octets.OctetAct.{Move, Call, Lose, Forget, Join}
-use Rattle.session_defs.specs.Refined.{IsLine, AreLines, seen, ArePut, IsHonest, Refined, deliveries}
+use Rattle.session_defs.specs.Refined.{IsLine, AreLines, seen, Keeps, IsHonest, IsHonestWhile, Refined, deliveries}
 use Rattle.session_defs.proofs.Lines.{line_lost, line_forgotten, line_joined}
-use Rattle.session_defs.proofs.Deliveries.{IsSeen, seen_earlier, with_news, news_are}
+use Rattle.session_defs.proofs.Deliveries.{IsSeen, honest_while, seen_earlier, with_news, news_are}
 use Rattle.session_defs.proofs.Moves.{moved_seen}
 
 -- ---- rows of acts in messages
@@ -51,84 +52,94 @@ alone (Some next) = ap (λ (puts : List Put). Some (record { network = next.netw
 -- ---- one act
 
 -- acts in messages with the same outcome
-pub record Acted {S X : Type 0} (system : System S X) (old : OctetNetwork S) (pending : Direction → List SessionMessage) (new : Option (Behind (OctetNetwork S))) : Type 0 where
+pub record Acted {S X : Type 0} (system : System S X) (Good : S → Type 0) (old : OctetNetwork S) (pending : Direction → List SessionMessage) (new : Option (Behind (OctetNetwork S))) : Type 0 where
   pub acts : List (MessageAct X)
-  pub outcome : IsSeen new (message_run system (seen old pending) acts)
+  pub outcome : IsSeen Good new (message_run system (seen old pending) acts)
 
-step_seen : {S : Type 0} (old : OctetNetwork S) (pending : Direction → List SessionMessage) → AreLines old pending → (stepped : Option (Stepped S)) → ArePut stepped → IsSeen (with_step old stepped) (messages.with_step (seen old pending) stepped)
-step_seen old pending lines None are = refl
-step_seen old pending lines (Some new) are = (with_news old pending new.puts, news_are old pending new lines are, refl)
+step_seen : {S : Type 0} (Good : S → Type 0) (old : OctetNetwork S) (pending : Direction → List SessionMessage) → AreLines old pending → (stepped : Option (Stepped S)) → Keeps Good stepped → IsSeen Good (with_step old stepped) (messages.with_step (seen old pending) stepped)
+step_seen Good old pending lines None keeps = refl
+step_seen Good old pending lines (Some new) keeps = (with_news old pending new.puts, news_are old pending new lines keeps.0, refl, keeps.1)
 
-called_seen : {S X : Type 0} (system : System S X) → IsHonest system → (old : OctetNetwork S) (pending : Direction → List SessionMessage) → AreLines old pending → (call : X) → Acted system old pending (octet_act system old (Call call))
-called_seen system honest old pending lines call =
+called_seen : {S X : Type 0} (system : System S X) (Good : S → Type 0) → IsHonestWhile system Good → (old : OctetNetwork S) (pending : Direction → List SessionMessage) → AreLines old pending → Good old.state → (call : X) → Acted system Good old pending (octet_act system old (Call call))
+called_seen system Good honest old pending lines good call =
     let found : Option (Behind (MessageNetwork _)) = message_act system (seen old pending) (CallNodes call) in
     record {
       acts = CallNodes call ∷ [];
-      outcome = subst (IsSeen (octet_act system old (Call call))) (sym (alone found)) (step_seen old pending lines (system.called call old.state) (honest.called call old.state));
+      outcome = subst (IsSeen Good (octet_act system old (Call call))) (sym (alone found)) (step_seen Good old pending lines (system.called call old.state) (honest.called call old.state good));
     }
 
 -- a move by whether the session is joined
-move_seen : {S X : Type 0} (system : System S X) → IsHonest system → (old : OctetNetwork S) (pending : Direction → List SessionMessage) → AreLines old pending → (direction : Direction) (count : ℕ) (joined : Bool) → old.joined direction ≡ joined
-    → IsLine direction.kind joined (old.stream direction) (old.transit direction) (pending direction) → Acted system old pending (cond joined (moved system old direction count) (Some (record { network = old; puts = [] })))
-move_seen system honest old pending lines direction count true joined line =
-    let m = moved_seen system honest old pending direction count lines joined line in
+move_seen : {S X : Type 0} (system : System S X) (Good : S → Type 0) → IsHonestWhile system Good → (old : OctetNetwork S) (pending : Direction → List SessionMessage) → AreLines old pending → Good old.state → (direction : Direction) (count : ℕ) (joined : Bool) → old.joined direction ≡ joined
+    → IsLine direction.kind joined (old.stream direction) (old.transit direction) (pending direction) → Acted system Good old pending (cond joined (moved system old direction count) (Some (record { network = old; puts = [] })))
+move_seen system Good honest old pending lines good direction count true joined line =
+    let m = moved_seen system Good honest old pending direction count lines good joined line in
     record { acts = deliveries direction m.first; outcome = m.outcome }
-move_seen system honest old pending lines direction count false joined line = record { acts = []; outcome = (pending, lines, refl) }
+move_seen system Good honest old pending lines good direction count false joined line = record { acts = []; outcome = (pending, lines, refl, good) }
 
-act_seen : {S X : Type 0} (system : System S X) → IsHonest system → (old : OctetNetwork S) (pending : Direction → List SessionMessage) → AreLines old pending → (one : OctetAct X) → Acted system old pending (octet_act system old one)
-act_seen system honest old pending lines (Move direction count) = move_seen system honest old pending lines direction count (old.joined direction) refl (lines direction)
-act_seen system honest old pending lines (Call call) = called_seen system honest old pending lines call
-act_seen system honest old pending lines (Lose hit) = record {
+act_seen : {S X : Type 0} (system : System S X) (Good : S → Type 0) → IsHonestWhile system Good → (old : OctetNetwork S) (pending : Direction → List SessionMessage) → AreLines old pending → Good old.state → (one : OctetAct X) → Acted system Good old pending (octet_act system old one)
+act_seen system Good honest old pending lines good (Move direction count) = move_seen system Good honest old pending lines good direction count (old.joined direction) refl (lines direction)
+act_seen system Good honest old pending lines good (Call call) = called_seen system Good honest old pending lines good call
+act_seen system Good honest old pending lines good (Lose hit) = record {
   acts = LoseMessages hit ∷ [];
   outcome = (
     (λ other. cond (hit other) [] (pending other)),
     (λ other. line_lost other.kind (hit other) (old.joined other) (old.stream other) (old.transit other) (pending other) (lines other)),
     refl,
+    good,
   );
 }
-act_seen system honest old pending lines (Forget hit) = record {
+act_seen system Good honest old pending lines good (Forget hit) = record {
   acts = [];
-  outcome = (pending, (λ other. line_forgotten other.kind (hit other) (old.joined other) (old.stream other) (old.transit other) (pending other) (lines other)), refl);
+  outcome = (pending, (λ other. line_forgotten other.kind (hit other) (old.joined other) (old.stream other) (old.transit other) (pending other) (lines other)), refl, good);
 }
-act_seen system honest old pending lines (Join hit) = record {
+act_seen system Good honest old pending lines good (Join hit) = record {
   acts = JoinSessions hit ∷ [];
   outcome = (
     (λ other. cond (hit other) [] (pending other)),
     (λ other. line_joined other.kind (hit other) (old.joined other) (old.stream other) (old.transit other) (pending other) (lines other)),
     refl,
+    good,
   );
 }
 
 -- ---- a run
 
 -- a first act, and the run behind it
-run_on : {S X : Type 0} (system : System S X) (old : OctetNetwork S) (pending : Direction → List SessionMessage) (acts : List (OctetAct X)) (new : Option (Behind (OctetNetwork S)))
-    → ((next : OctetNetwork S) (waiting : Direction → List SessionMessage) → AreLines next waiting → Acted system next waiting (octet_run system next acts)) → Acted system old pending new
-    → Acted system old pending (new >>? λ next. with_earlier next.puts (octet_run system next.network acts))
-run_on system old pending acts None others first = record { acts = first.acts; outcome = first.outcome }
-run_on {S} {X} system old pending acts (Some next) others first =
+run_on : {S X : Type 0} (system : System S X) (Good : S → Type 0) (old : OctetNetwork S) (pending : Direction → List SessionMessage) (acts : List (OctetAct X)) (new : Option (Behind (OctetNetwork S)))
+    → ((next : OctetNetwork S) (waiting : Direction → List SessionMessage) → AreLines next waiting → Good next.state → Acted system Good next waiting (octet_run system next acts)) → Acted system Good old pending new
+    → Acted system Good old pending (new >>? λ next. with_earlier next.puts (octet_run system next.network acts))
+run_on system Good old pending acts None others first = record { acts = first.acts; outcome = first.outcome }
+run_on {S} {X} system Good old pending acts (Some next) others first =
     let left : Direction → List SessionMessage = first.outcome.0 in
-    let rest = others next.network left first.outcome.1 in
+    let rest = others next.network left first.outcome.1 first.outcome.3 in
     let found : Option (Behind (MessageNetwork S)) = message_run system (seen next.network left) rest.acts in
     let row : message_run system (seen old pending) (first.acts ++ rest.acts) ≡ with_earlier next.puts found = both_rows system first.acts rest.acts (seen old pending) ∙ ap (goes_on system rest.acts) first.outcome.2 in
     record {
       acts = first.acts ++ rest.acts;
-      outcome = subst (IsSeen (with_earlier next.puts (octet_run system next.network acts))) (sym row) (seen_earlier next.puts (octet_run system next.network acts) found rest.outcome);
+      outcome = subst (IsSeen Good (with_earlier next.puts (octet_run system next.network acts))) (sym row) (seen_earlier Good next.puts (octet_run system next.network acts) found rest.outcome);
     }
 
-run_seen : {S X : Type 0} (system : System S X) → IsHonest system → (acts : List (OctetAct X)) (old : OctetNetwork S) (pending : Direction → List SessionMessage) → AreLines old pending → Acted system old pending (octet_run system old acts)
-run_seen system honest [] old pending lines = record { acts = []; outcome = (pending, lines, refl) }
-run_seen system honest (one ∷ acts) old pending lines =
-    run_on system old pending acts (octet_act system old one) (λ next waiting are. run_seen system honest acts next waiting are) (act_seen system honest old pending lines one)
+run_seen : {S X : Type 0} (system : System S X) (Good : S → Type 0) → IsHonestWhile system Good → (acts : List (OctetAct X)) (old : OctetNetwork S) (pending : Direction → List SessionMessage) → AreLines old pending → Good old.state → Acted system Good old pending (octet_run system old acts)
+run_seen system Good honest [] old pending lines good = record { acts = []; outcome = (pending, lines, refl, good) }
+run_seen system Good honest (one ∷ acts) old pending lines good =
+    run_on system Good old pending acts (octet_act system old one) (λ next waiting are fine. run_seen system Good honest acts next waiting are fine) (act_seen system Good honest old pending lines good one)
+
+pub run_refined_while : {S X : Type 0} (system : System S X) (Good : S → Type 0) (old : OctetNetwork S) (pending : Direction → List SessionMessage) (acts : List (OctetAct X)) (new : Behind (OctetNetwork S)) → IsHonestWhile system Good → AreLines old pending → Good old.state
+    → octet_run system old acts ≡ Some new → Refined system old pending new × Good new.network.state
+run_refined_while {S} {X} system Good old pending acts new honest lines good e =
+    let run : Acted system Good old pending (Some new) = subst (Acted system Good old pending) e (run_seen system Good honest acts old pending lines good) in
+    (record { acts = run.acts; left = run.outcome.0; lines = run.outcome.1; same = run.outcome.2 }, run.outcome.3)
+
+pub run_ended_while : {S X : Type 0} (system : System S X) (Good : S → Type 0) (old : OctetNetwork S) (pending : Direction → List SessionMessage) (acts : List (OctetAct X)) → IsHonestWhile system Good → AreLines old pending → Good old.state
+    → octet_run system old acts ≡ None → (row : List (MessageAct X)) × (message_run system (seen old pending) row ≡ None)
+run_ended_while {S} {X} system Good old pending acts honest lines good e =
+    let run : Acted system Good old pending None = subst (Acted system Good old pending) e (run_seen system Good honest acts old pending lines good) in
+    (run.acts, run.outcome)
 
 pub run_refined : {S X : Type 0} (system : System S X) (old : OctetNetwork S) (pending : Direction → List SessionMessage) (acts : List (OctetAct X)) (new : Behind (OctetNetwork S)) → IsHonest system → AreLines old pending
     → octet_run system old acts ≡ Some new → Refined system old pending new
-run_refined {S} {X} system old pending acts new honest lines e =
-    let run : Acted system old pending (Some new) = subst (Acted system old pending) e (run_seen system honest acts old pending lines) in
-    record { acts = run.acts; left = run.outcome.0; lines = run.outcome.1; same = run.outcome.2 }
+run_refined system old pending acts new honest lines e = (run_refined_while system (λ state. ⊤) old pending acts new (honest_while system honest) lines tt e).0
 
 pub run_ended : {S X : Type 0} (system : System S X) (old : OctetNetwork S) (pending : Direction → List SessionMessage) (acts : List (OctetAct X)) → IsHonest system → AreLines old pending
     → octet_run system old acts ≡ None → (row : List (MessageAct X)) × (message_run system (seen old pending) row ≡ None)
-run_ended {S} {X} system old pending acts honest lines e =
-    let run : Acted system old pending None = subst (Acted system old pending) e (run_seen system honest acts old pending lines) in
-    (run.acts, run.outcome)
+run_ended system old pending acts honest lines e = run_ended_while system (λ state. ⊤) old pending acts (honest_while system honest) lines tt e

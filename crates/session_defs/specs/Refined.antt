@@ -1,5 +1,5 @@
 -- How a network in octets is one in messages.
-use Rattle.std.specs.Prelude.{◌≡◌, ◌≤◌, ℕ, Bool, true, false, List, [], ◌++◌, map, length, Option, Some, None, ⊤}
+use Rattle.std.specs.Prelude.{◌≡◌, ◌≤◌, ℕ, Bool, true, false, List, [], ◌∷◌, ◌++◌, map, length, Option, Some, None, ⊤}
 use Rattle.std.specs.List.{AllByRecursion}
 use Rattle.framing.specs.Units.{Spelled, octets_of, messages_of, AreUnits}
 use Rattle.scenario_defs.specs.declared.event.Kind.{Kind}
@@ -36,9 +36,27 @@ abbrev pub ArePut : {S : Type 0} → Option (Stepped S) → Type 0
 ArePut None = ⊤
 ArePut (Some new) = AllByRecursion (λ (put : Put). IsPut put.over.kind put.unit.messages put.unit.octets) new.puts
 
+-- one of the messages of a unit that is spelled as a session of this kind asks
+pub record IsCarried (kind : Kind) (message : SessionMessage) : Type 0 where
+  pub before : List SessionMessage
+  pub behind : List SessionMessage
+  pub text : List ℕ
+  pub put : IsPut kind (before ++ message ∷ behind) text
+
+-- Nodes put only spelled units: at each call of their own, and with each message that a spelled unit carries.
 pub record IsHonest {S X : Type 0} (system : System S X) : Type 0 where
-  pub taken : (direction : Direction) (message : SessionMessage) (state : S) → ArePut (system.taken direction message state)
+  pub taken : (direction : Direction) (message : SessionMessage) (state : S) → IsCarried direction.kind message → ArePut (system.taken direction message state)
   pub called : (call : X) (state : S) → ArePut (system.called call state)
+
+-- each unit that is put is spelled, and the state behind is a good one
+abbrev pub Keeps : {S : Type 0} → (S → Type 0) → Option (Stepped S) → Type 0
+Keeps Good None = ⊤
+Keeps Good (Some new) = ArePut (Some new) × Good new.state
+
+-- In good states nodes put only spelled units, and a good state comes of it.
+pub record IsHonestWhile {S X : Type 0} (system : System S X) (Good : S → Type 0) : Type 0 where
+  pub taken : (direction : Direction) (message : SessionMessage) (state : S) → Good state → IsCarried direction.kind message → Keeps Good (system.taken direction message state)
+  pub called : (call : X) (state : S) → Good state → Keeps Good (system.called call state)
 
 -- Acts on messages lead from the old network to the new one and put the same, and the octets of the new one carry what is
 -- pending there.

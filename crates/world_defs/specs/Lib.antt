@@ -9,3 +9,5 @@ pub mod Acts
 pub mod Events
 pub mod Run
 pub mod Local
+pub mod LabelRule
+pub mod Unready

@@ -1,0 +1,81 @@
+-- Which sessions are ready, by the events of a past alone.
+use Rattle.std.specs.Prelude.{ℕ, ◌+◌, ◌==◌, ◌&&◌, ◌||◌, Bool, true, false, not, fold, map, count_by, Option, None, Some, if◌then◌else◌}
+use Rattle.std.specs.List.{filter}
+use Rattle.mv_base.specs.declared.ids.NodeId.{NodeId}
+use Rattle.scenario_defs.specs.declared.event.Event.{Event}
+use Rattle.scenario_defs.specs.declared.event.Event.TheVariants as events
+use Rattle.scenario_defs.specs.declared.event.Kind.{Kind}
+use Rattle.scenario_defs.specs.declared.event.Kind.TheVariants as kinds
+use Rattle.scenario_defs.specs.declared.scenario.Scenario.{Scenario}
+use Rattle.label_defs.specs.declared.end.End.{End}
+use Rattle.label_defs.specs.Steps.{hold_run}
+use Rattle.mvpn_model.specs.Past.{Past, is_accepted}
+use Rattle.net_defs.specs.Sessions.{sessions}
+use Rattle.net_defs.specs.declared.session.Session.{Session}
+use Rattle.session_defs.specs.Message.{same_kind}
+
+-- Where the sessions stand behind some events: the clock, whether the session of two nodes is joined, and the end of a node's session
+-- with a peer, where it is up.
+pub record SessionsStand : Type 0 where
+  pub clock : ℕ
+  pub joined : Kind → NodeId → NodeId → Bool
+  pub end : Kind → NodeId → NodeId → Option End
+
+-- nothing has happened yet
+abbrev pub none_joined : SessionsStand
+none_joined = record { clock = 0; joined = λ kind a b. false; end = λ kind n peer. None }
+
+-- whether the session is that of the two nodes, either way round
+abbrev pub is_that : Kind → NodeId → NodeId → Kind → NodeId → NodeId → Bool
+is_that kind a b own u n = same_kind kind own && (((u.0 == a.0) && (n.0 == b.0)) || ((u.0 == b.0) && (n.0 == a.0)))
+
+-- the session is joined, and both its ends come up
+abbrev pub raised : Kind → NodeId → NodeId → SessionsStand → SessionsStand
+raised kind a b old =
+    record old {
+      joined = λ own u n. old.joined own u n || is_that kind a b own u n;
+      end = λ own u n. if is_that kind a b own u n then Some (record { raised = old.clock; held = false }) else old.end own u n;
+    }
+
+-- a session that is not joined is raised again
+abbrev pub healed : SessionsStand → Session → SessionsStand
+healed old session = if old.joined session.kind session.a session.b then old else raised session.kind session.a session.b old
+
+-- the holds that are due are run, at the nodes that pass a test
+abbrev pub timed : Scenario → (NodeId → Bool) → SessionsStand → SessionsStand
+timed scenario passes old = record old { end = λ kind n peer. elim (old.end kind n peer) [ None ↦ None | Some end ↦ Some (if passes n then hold_run scenario.life old.clock end else end) ] }
+
+-- where the sessions stand behind an accepted event
+abbrev pub behind : Scenario → SessionsStand → Event → SessionsStand
+behind scenario old (events.Tick count) = record old { clock = old.clock + count }
+behind scenario old (events.Timers node) = timed scenario (λ n. n.0 == node.0) old
+behind scenario old events.Settle = timed scenario (λ n. true) old
+behind scenario old (events.Raise kind a b) = raised kind a b old
+behind scenario old events.Heal = fold healed old (sessions scenario)
+behind scenario old (events.Lose kind a b) = record old { joined = λ own u n. old.joined own u n && not (is_that kind a b own u n) }
+behind scenario old (events.Notice kind a b) = record old { end = λ own n peer. if same_kind kind own && (n.0 == a.0) && (peer.0 == b.0) then None else old.end own n peer }
+behind scenario old (events.Restart node) =
+    record old {
+      joined = λ own u n. old.joined own u n && not ((u.0 == node.0) || (n.0 == node.0));
+      end = λ own n peer. if n.0 == node.0 then None else old.end own n peer;
+    }
+behind scenario old other = old
+
+-- where they stand behind the accepted events of a past
+abbrev pub sessions_stand : Past → SessionsStand
+sessions_stand past = fold (behind past.scenario) none_joined (map (λ timed. timed.event) (filter (is_accepted past.refused) past.events))
+
+-- whether the hold of an end was run
+abbrev pub is_held : Option End → Bool
+is_held None = false
+is_held (Some end) = end.held
+
+-- a session is ready where it is joined, and the holds of both ends of an LDP session were run
+abbrev pub is_ready_in : SessionsStand → Session → Bool
+is_ready_in standing session =
+    standing.joined session.kind session.a session.b
+    && (same_kind session.kind kinds.Bgp || (is_held (standing.end session.kind session.a session.b) && is_held (standing.end session.kind session.b session.a)))
+
+-- How many sessions are not ready behind a past.
+abbrev pub unready_behind : Past → ℕ
+unready_behind past = count_by (λ session. not (is_ready_in (sessions_stand past) session)) (sessions past.scenario)

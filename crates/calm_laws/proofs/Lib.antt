@@ -1,0 +1,4 @@
+pub mod Lists
+pub mod Maps
+pub mod Flows
+pub mod Tables

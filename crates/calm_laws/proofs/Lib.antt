@@ -2,3 +2,8 @@ pub mod Lists
 pub mod Maps
 pub mod Flows
 pub mod Tables
+pub mod Targets
+pub mod Vrfs
+pub mod Originated
+pub mod Imports
+pub mod InStep

@@ -192,7 +192,7 @@ not_earlier network root egress root_vrf route l rule calm a =
     let timely = view.timely l.selected l.taken calm.joined calm.near (ap (values_at key_cmp key) calm.quiet) (picked (place_of network root) (network.node root) root_vrf route.pattern l.selected rule.scenario a l.at) l.from in
     subst (λ (n : ℕ). l.selected.since ≤ n) (sym l.since) timely
 
-one_selected : (control : Control) (key : VrfPattern) (one other : Selected) → maps.get control.selections key ≡ Some one → maps.get control.selections key ≡ Some other → one ≡ other
+pub one_selected : (control : Control) (key : VrfPattern) (one other : Selected) → maps.get control.selections key ≡ Some one → maps.get control.selections key ≡ Some other → one ≡ other
 one_selected control key one other h k = let both : Some one ≡ Some other = sym h ∙ k in cc
 
 pub in_step : (network : EdgeNetwork) (root egress : NodeId) (root_vrf own : OwnVrf) → Rule network → CalmSession network root egress → NoneDue network root

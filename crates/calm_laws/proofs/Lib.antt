@@ -7,3 +7,7 @@ pub mod Vrfs
 pub mod Originated
 pub mod Imports
 pub mod InStep
+pub mod Comms
+pub mod Upstreams
+pub mod Joins
+pub mod Leaves

@@ -1,7 +1,7 @@
 -- The communities of a unicast route, read back.
-use Rattle.std.proofs.Common.{◌≡◌, ℕ, ◌<◌, ◌≤◌, ◌^◌, ◌&&◌, zero, suc, Bool, true, false, cond, ◌⊎◌, inl, inr, List, [], ◌∷◌, ◌++◌, length, take, drop, nat_eq, Option, Some, None, refl, sym, ap, subst, ◌∙◌, arith}
-use Rattle.std.specs.Prelude.{All, slice_get, slice_index_or}
-use Rattle.std.specs.Int.{w16, to_be_bytes, from_be_bytes}
+use Rattle.std.proofs.Common.{◌≡◌, ℕ, ◌<◌, ◌^◌, ◌&&◌, suc, Bool, false, cond, inl, inr, List, [], ◌∷◌, ◌++◌, take, drop, nat_eq, Option, Some, None, refl, sym, ap, subst, ◌∙◌, arith}
+use Rattle.std.specs.Prelude.{All, slice_get}
+use Rattle.std.specs.Int.{w16, from_be_bytes}
 use Rattle.std.specs.Cmp.Lexicographic.{pointwise}
 use Rattle.std.proofs.lemmas.Nat.{from_be_bytes-to_be_bytes_2}
 use Rattle.mv_base.specs.Address.{same_addr, same_addr_equiv}
@@ -9,22 +9,20 @@ use Rattle.mv_base.specs.Number.{◌>>?◌, only_if}
 use Rattle.mv_base.specs.declared.addr.Addr.{Addr}
 use Rattle.mv_base.specs.declared.addr.Addr.TheVariants.{V4, V6}
 use Rattle.route_targets.specs.Communities.{kind}
-use Rattle.route_targets.specs.Targets.{same}
 use Rattle.route_targets.specs.declared.communities.ExtComm.{ExtComm}
 use Rattle.route_targets.specs.declared.communities.Target.{Target}
-use Rattle.scenario_defs.specs.Rules.{Rules, IsIpv4, IsUnicast, IsEdge, IsTarget}
+use Rattle.scenario_defs.specs.Rules.{Rules, IsIpv4, IsUnicast, IsTarget}
 use Rattle.scenario_defs.specs.declared.scenario.Node.{Node}
 use Rattle.scenario_defs.specs.declared.scenario.Scenario.{Scenario}
 use Rattle.scenario_defs.specs.declared.scenario.Vrf.{Vrf}
 use Rattle.scenario_defs.proofs.RuleLemmas.{all_at}
 use Rattle.selective_defs.specs.Selective.{Among}
 use Rattle.edge_defs.specs.Edge.{Import}
-use Rattle.edge_defs.specs.Imported.{is_admitted, import_in, source_as_in, found_in, only_one, JoinBy, join_by}
-use Rattle.edge_defs.specs.Keys.{Value}
+use Rattle.edge_defs.specs.Imported.{import_in, source_as_in, found_in, only_one, JoinBy, join_by}
 use Rattle.edge_defs.specs.Originated.{target_comms, import_comm, source_as_comm, own_import, unicast_value}
 use Rattle.edge_defs.specs.Place.{EdgePlace, OwnVrf, addr_of, own_addr, own_vrfs}
-use Rattle.calm_laws.proofs.Lists.{map_among, found_step, found_behind, among_either}
-use Rattle.calm_laws.proofs.Targets.{admitted_target, among_comms}
+use Rattle.calm_laws.proofs.Lists.{passes, map_among, found_step, found_behind, among_either}
+use Rattle.calm_laws.proofs.Targets.{among_comms}
 use Rattle.calm_laws.proofs.Vrfs.{own_edge, own_rules}
 
 pub all_of : {X : Type 0} (P : X → Type 0) (x : X) (xs : List X) → All P xs → Among x xs → P x
@@ -101,10 +99,6 @@ own_ipv4 place own rules a =
 
 -- ---- a unicast route of an edge
 
-passes : {A : Type 0} (b : Bool) (x : A) → b ≡ true → only_if b x ≡ Some x
-passes true x h = refl
-passes false x h = absurd (let bad : false ≡ true = h in cc)
-
 -- what it says for a Source Tree Join
 pub joins_by : (place : EdgePlace) (own : OwnVrf) → Rules place.scenario → Among own (own_vrfs place)
     → join_by (own_addr place) (unicast_value place own.vrf) ≡ Some (record { import = own_import place own.vrf; source_as = place.scenario.system })
@@ -116,9 +110,9 @@ joins_by place own rules a =
     let by : JoinBy = record { import = own_import place own.vrf; source_as = place.scenario.system } in
     let comms : List ExtComm = target_comms own.vrf ++ (import_comm (own_import place own.vrf) ∷ source_as_comm place.scenario.system ∷ []) in
     ap (λ (found : List Import). only_one found >>? λ import. only_one (found_in source_as_in comms) >>? λ source_as. only_if (same_addr import.addr peer && same_addr peer peer) (record { import = import; source_as = source_as }))
-      (imports_found own.vrf (own_import place own.vrf) place.scenario.system is.each (own_ipv4 place own rules a) (omega (arith, number)))
+    (imports_found own.vrf (own_import place own.vrf) place.scenario.system is.each (own_ipv4 place own rules a) (omega (arith, number)))
     ∙ ap (λ (found : List ℕ). only_one found >>? λ source_as. only_if (same_addr peer peer && same_addr peer peer) (record { import = own_import place own.vrf; source_as = source_as }))
-      (source_ass_found own.vrf (own_import place own.vrf) place.scenario.system is.each (omega (arith, system)))
+    (source_ass_found own.vrf (own_import place own.vrf) place.scenario.system is.each (omega (arith, system)))
     ∙ passes (same_addr peer peer && same_addr peer peer) by (ap (λ (b : Bool). b && b) (same_addr_equiv.refl peer))
 
 not_kind : (target : Target) (comm : ExtComm) → IsTarget target → target.0 ≡ comm → (kind comm ≡ 0 ∷ 2 ∷ [] → ⊥) → (kind comm ≡ 1 ∷ 2 ∷ [] → ⊥) → ⊥

@@ -1,9 +1,7 @@
 -- The flows of an edge are those of an earlier clock over what it knows now.
-use Rattle.std.proofs.Common.{◌≡◌, ℕ, ◌+◌, ◌≤◌, ◌==◌, ◌&&◌, ◌||◌, zero, suc, Bool, true, false, cond, List, [], ◌∷◌, ◌++◌, map, is_some, Option, Some, None, refl, sym, ap, subst, ◌∙◌, le_refl, le_trans, arith}
+use Rattle.std.proofs.Common.{◌≡◌, ℕ, ◌+◌, ◌≤◌, ◌==◌, ◌||◌, Bool, true, false, cond, List, [], ◌∷◌, ◌++◌, map, is_some, refl, sym, ap, subst, ◌∙◌, le_refl, le_trans, arith}
 use Rattle.std.specs.List.{filter, flat_map}
 use Rattle.std.specs.FinMap as maps
-use Rattle.std.specs.FinMap.{FinMap}
-use Rattle.std.specs.FinSet as sets
 use Rattle.mv_base.specs.declared.ids.NodeId.{NodeId}
 use Rattle.mv_base.specs.declared.ids.VrfId.{VrfId}
 use Rattle.mv_base.specs.declared.pattern.Pattern.{Pattern}
@@ -22,7 +20,7 @@ use Rattle.edge_defs.specs.Steps.{Call, control_step, refreshed}
 use Rattle.edge_defs.specs.Steps as steps
 use Rattle.edge_laws.specs.Acts.{Act, act, run, is_up, stepped, message_of, left_in_transit, delivered, selected, is_at, is_between, unjoined, with_joined, noticed, raised}
 use Rattle.edge_laws.specs.Acts as acts
-use Rattle.edge_laws.specs.Network.{EdgeNetwork, place_of, at_node, behind}
+use Rattle.edge_laws.specs.Network.{EdgeNetwork, place_of}
 use Rattle.calm_laws.specs.Calm.{FlowsStand}
 use Rattle.calm_laws.proofs.Maps.{empty_entries, empty_items}
 use Rattle.label_defs.specs.Keys.{node_cmp}

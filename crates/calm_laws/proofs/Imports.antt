@@ -1,7 +1,5 @@
 -- What a VRF imports of the tunnels that another edge originates.
-use Rattle.std.proofs.Common.{◌≡◌, ℕ, ◌+◌, ◌<◌, ◌==◌, ◌&&◌, Bool, true, false, not, cond, inl, inr, List, [], ◌∷◌, ◌++◌, length, Option, Some, None, refl, sym, ap, subst, ◌∙◌, arith}
-use Rattle.std.specs.Int.{w32, to_be_bytes}
-use Rattle.std.proofs.lemmas.Option.{cond_some}
+use Rattle.std.proofs.Common.{◌≡◌, ℕ, ◌&&◌, Bool, true, false, not, Option, Some, None, refl, sym, ap, ◌∙◌}
 use Rattle.mv_base.specs.Address.{same_addr, same_addr_equiv}
 use Rattle.mv_base.specs.Number.{◌>>?◌, only_if}
 use Rattle.mv_base.specs.declared.addr.Addr.{Addr}
@@ -11,23 +9,18 @@ use Rattle.mv_base.specs.declared.pattern.Pattern.{Pattern}
 use Rattle.mv_base.specs.declared.rd.Rd.{Rd}
 use Rattle.mldp_fec.specs.declared.fec.Fec.{Fec}
 use Rattle.mvpn_nlri.specs.declared.route.Afi.{Afi}
-use Rattle.mvpn_nlri.specs.declared.route.Afi.TheVariants.{Ipv4, Ipv6}
-use Rattle.mvpn_nlri.specs.declared.route.Route.{Route}
 use Rattle.mvpn_nlri.specs.declared.route.Route.TheVariants as routes
 use Rattle.bgp_attributes.specs.declared.key.Key.{Key}
 use Rattle.bgp_attributes.specs.declared.key.Key.TheVariants.{Mcast, Unicast}
 use Rattle.scenario_defs.specs.declared.scenario.Vrf.{Vrf}
 use Rattle.selective_defs.specs.declared.learned_route.LearnedRoute.{LearnedRoute}
 use Rattle.edge_defs.specs.Edge.{TakenRoute}
-use Rattle.edge_defs.specs.Imported.{is_admitted, lsp_of, tunnel_by, SelectiveRoute, is_passed_over, selective_of, imported_inclusive, ImportedSelective, imported_selective}
+use Rattle.edge_defs.specs.Imported.{is_admitted, tunnel_by, SelectiveRoute, is_passed_over, imported_inclusive, ImportedSelective, imported_selective}
 use Rattle.edge_defs.specs.Keys.{Value}
-use Rattle.edge_defs.specs.Originated.{afi_of, afi_by, selective_key, inclusive_key, tunnel_value}
-use Rattle.edge_defs.specs.Place.{EdgePlace, OwnVrf, addr_of, own_addr, lsp_opaque, is_lsp_opaque, lsp, tunnel_number}
+use Rattle.edge_defs.specs.Originated.{afi_by, selective_key, inclusive_key, tunnel_value}
+use Rattle.edge_defs.specs.Place.{EdgePlace, OwnVrf, addr_of, own_addr, lsp_opaque, is_lsp_opaque, lsp}
 use Rattle.edge_defs.specs.Tunnels.{learned_route}
-
-passes : {A : Type 0} (b : Bool) (x : A) → b ≡ true → only_if b x ≡ Some x
-passes true x h = refl
-passes false x h = absurd (let bad : false ≡ true = h in cc)
+use Rattle.calm_laws.proofs.Lists.{passes}
 
 -- ---- tunnels
 
@@ -39,7 +32,7 @@ tunnel_of : (place : EdgePlace) (vrf : Vrf) (number : ℕ) → tunnel_by (own_ad
 tunnel_of place vrf number =
     ap (λ (fec : Option Fec). fec >>? λ f. only_if (same_addr f.root (own_addr place) && same_addr (own_addr place) (own_addr place)) f) (passes (is_lsp_opaque (lsp_opaque number)) (lsp (own_addr place) number) (is_opaque number))
     ∙ passes (same_addr (own_addr place) (own_addr place) && same_addr (own_addr place) (own_addr place)) (lsp (own_addr place) number)
-      (ap (λ (b : Bool). b && b) (same_addr_equiv.refl (own_addr place)))
+    (ap (λ (b : Bool). b && b) (same_addr_equiv.refl (own_addr place)))
 
 -- ---- selective routes
 
@@ -52,13 +45,13 @@ not_passed None None = refl
 
 imports : (place : EdgePlace) (vrf root_vrf : Vrf) (pattern : Pattern) (number : ℕ) (taken : TakenRoute) (value : Value) → taken.value ≡ value → value ≡ tunnel_value place root_vrf number → is_admitted vrf value.comms ≡ true
     → imported_selective vrf (own_addr place) (selective_key place root_vrf pattern, taken) ≡
-      Some (record { route = record { rd = root_vrf.rd; source = pattern.source; group = pattern.group; originator = own_addr place }; fec = lsp (own_addr place) number })
+    Some (record { route = record { rd = root_vrf.rd; source = pattern.source; group = pattern.group; originator = own_addr place }; fec = lsp (own_addr place) number })
 imports place vrf root_vrf pattern number taken value e is h =
     let route : SelectiveRoute = record { rd = root_vrf.rd; source = pattern.source; group = pattern.group; originator = own_addr place } in
     let admitted : is_admitted vrf taken.value.comms ≡ true = ap (λ (v : Value). is_admitted vrf v.comms) e ∙ h in
     let own : taken.value ≡ tunnel_value place root_vrf number = e ∙ is in
     ap (λ (o : Option SelectiveRoute). o >>? λ r. only_if (is_admitted vrf taken.value.comms) taken.value >>? λ v. tunnel_by (own_addr place) r.originator v >>? λ fec. Some (record { route = r; fec = fec }))
-      (passes (not (is_passed_over (afi_by pattern.source pattern.group) pattern.source pattern.group)) route (ap not (not_passed pattern.source pattern.group)))
+    (passes (not (is_passed_over (afi_by pattern.source pattern.group) pattern.source pattern.group)) route (ap not (not_passed pattern.source pattern.group)))
     ∙ ap (λ (o : Option Value). o >>? λ v. tunnel_by (own_addr place) (own_addr place) v >>? λ fec. Some (record { route = route; fec = fec })) (passes (is_admitted vrf taken.value.comms) taken.value admitted)
     ∙ ap (λ (v : Value). tunnel_by (own_addr place) (own_addr place) v >>? λ fec. Some (record { route = route; fec = fec })) own
     ∙ ap (λ (o : Option Fec). o >>? λ fec. Some (record { route = route; fec = fec })) (tunnel_of place root_vrf number)
@@ -116,9 +109,9 @@ unlearned : (at : EdgePlace) (own : OwnVrf) (peer : NodeId) (key : Key) (taken :
 unlearned at own peer key taken = with_imported (imported_selective own.vrf (addr_of at.scenario peer) (key, taken))
   where
     with_imported : (o : Option ImportedSelective) → (elim o as (λ (o : Option ImportedSelective). Option LearnedRoute) [
-        | None ↦ None
-        | Some imported ↦ Some (record { pattern = record { source = imported.route.source; group = imported.route.group }; fec = imported.fec; since = taken.since; run = taken.run })
-      ]) ≡ as_learned taken o
+      | None ↦ None
+      | Some imported ↦ Some (record { pattern = record { source = imported.route.source; group = imported.route.group }; fec = imported.fec; since = taken.since; run = taken.run })
+    ]) ≡ as_learned taken o
     with_imported None = refl
     with_imported (Some imported) = refl
 
@@ -148,7 +141,7 @@ learned_of at own peer (Mcast afi (routes.Inter rd source_as)) taken route h = a
 learned_of at own peer (Mcast afi (routes.Selective rd source group originator)) taken route h =
     learned_as own.vrf afi rd source group originator taken route (is_passed_over afi source group) (is_admitted own.vrf taken.value.comms) (tunnel_by (addr_of at.scenario peer) originator taken.value) refl
     (sym (unlearned at own peer (Mcast afi (routes.Selective rd source group originator)) taken
-      ∙ read_is (addr_of at.scenario peer) (is_passed_over afi source group) (is_admitted own.vrf taken.value.comms) (record { rd = rd; source = source; group = group; originator = originator }) taken)
+    ∙ read_is (addr_of at.scenario peer) (is_passed_over afi source group) (is_admitted own.vrf taken.value.comms) (record { rd = rd; source = source; group = group; originator = originator }) taken)
     ∙ h)
 learned_of at own peer (Mcast afi (routes.Leaf key originator)) taken route h = absurd cc
 learned_of at own peer (Mcast afi (routes.Active rd source group)) taken route h = absurd cc

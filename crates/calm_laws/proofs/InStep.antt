@@ -1,28 +1,22 @@
 -- An egress is in step with the root on a calm session.
-use Rattle.std.proofs.Common.{◌≡◌, ℕ, ◌+◌, ◌≤◌, ◌==◌, Bool, true, false, cond, ◌⊎◌, inl, inr, List, [], ◌∷◌, map, Option, Some, None, refl, sym, ap, subst, ◌∙◌, arith, append-nil}
+use Rattle.std.proofs.Common.{◌≡◌, ℕ, ◌+◌, ◌≤◌, ◌==◌, Bool, true, false, cond, ◌⊎◌, inl, inr, List, [], ◌∷◌, Option, Some, None, refl, sym, ap, subst, ◌∙◌, append-nil}
 use Rattle.std.specs.List.{filter}
 use Rattle.std.specs.Ordering.{eq_by_cmp}
 use Rattle.std.specs.Cmp.{Equal-is}
 use Rattle.std.specs.FinMap as maps
 use Rattle.std.proofs.lemmas.Bool.{eq-eqb}
 use Rattle.mv_base.specs.declared.ids.NodeId.{NodeId}
-use Rattle.mv_base.specs.declared.ids.VrfId.{VrfId}
 use Rattle.mv_base.specs.declared.pattern.Pattern.{Pattern}
-use Rattle.mv_base.specs.declared.rd.Rd.{Rd}
-use Rattle.mv_base.specs.declared.addr.Addr.{Addr}
-use Rattle.mvpn_nlri.specs.declared.route.Afi.{Afi}
 use Rattle.mvpn_nlri.specs.declared.route.Route.TheVariants as routes
 use Rattle.bgp_attributes.specs.declared.key.Key.{Key}
-use Rattle.bgp_attributes.specs.declared.key.Key.TheVariants.{Mcast, Unicast}
+use Rattle.bgp_attributes.specs.declared.key.Key.TheVariants.{Mcast}
 use Rattle.scenario_defs.specs.Rules.{Rules}
-use Rattle.route_targets.specs.Targets.{shares, same}
+use Rattle.route_targets.specs.Targets.{same}
 use Rattle.route_targets.specs.declared.communities.ExtComm.{ExtComm}
 use Rattle.selective_defs.specs.Selective.{Among, IsDue, InStep}
 use Rattle.selective_defs.specs.declared.learned_route.LearnedRoute.{LearnedRoute}
 use Rattle.selective_defs.specs.declared.selection.Selection.{Selection}
-use Rattle.mldp_fec.specs.declared.fec.Fec.{Fec}
-use Rattle.edge_defs.specs.Edge.{VrfPattern, Selected, TakenRoute, Taken, Control}
-use Rattle.edge_defs.specs.Held.{held_for}
+use Rattle.edge_defs.specs.Edge.{VrfPattern, Selected, TakenRoute, Control}
 use Rattle.edge_defs.specs.Imported.{is_admitted, taken_from}
 use Rattle.edge_defs.specs.Keys.{Value, key_cmp}
 use Rattle.edge_defs.specs.Originated.{selective_key, tunnel_value, target_comms}
@@ -37,9 +31,10 @@ use Rattle.calm_laws.specs.Calm.{CalmSession, NoneDue, AreOfOneVpn}
 use Rattle.calm_laws.proofs.Lists.{map_among, among_map, among_filter, filter_among, found_among, among_found}
 use Rattle.calm_laws.proofs.Maps.{entry_get, get_entry}
 use Rattle.calm_laws.proofs.Tables.{held_taken, taken_held}
-use Rattle.calm_laws.proofs.Targets.{admitted_target, among_comms, shares_by, vpn_admits, same_back, same_through}
+use Rattle.calm_laws.proofs.Targets.{admitted_target, among_comms, shares_by, vpn_admits}
 use Rattle.calm_laws.proofs.Vrfs.{one_rd, one_in_vpn, own_rules, shared_vpn}
-use Rattle.calm_laws.proofs.Originated.{of_vrf, SelectiveHeld, selective_held, selective_value}
+use Rattle.calm_laws.proofs.Entries.{of_vrf}
+use Rattle.calm_laws.proofs.Originated.{SelectiveHeld, selective_held, selective_value}
 use Rattle.calm_laws.proofs.Imports.{learns, IsLearnedOf, learned_of}
 
 -- ---- selections
@@ -141,7 +136,7 @@ learned_here network root egress root_vrf own route key taken rule vpn a b h fro
     let same_vpn = admitted_vpn network root egress held.own own taken.value.comms rule.scenario held.among b (ap (λ (v : Value). v.comms) held.is) of.admitted in
     let one : held.own ≡ root_vrf = one_in_vpn place held.own root_vrf own.vrf rule.scenario held.among a same_vpn vpn in
     let keys : key ≡ selective_key place root_vrf.vrf route.pattern =
-        of.is ∙ (λ i. Mcast (held.family i) (routes.Selective (held.distinguisher i) route.pattern.source route.pattern.group (held.from i))) ∙ ap (λ (o : OwnVrf). selective_key place o.vrf route.pattern) one in
+    of.is ∙ (λ i. Mcast (held.family i) (routes.Selective (held.distinguisher i) route.pattern.source route.pattern.group (held.from i))) ∙ ap (λ (o : OwnVrf). selective_key place o.vrf route.pattern) one in
     let value : taken.value ≡ tunnel_value place root_vrf.vrf (tunnel_number root_vrf.vrf held.selected.number) = held.is ∙ ap (λ (o : OwnVrf). tunnel_value place o.vrf (tunnel_number o.vrf held.selected.number)) one in
     let read = learns place (place_of network egress) own root_vrf.vrf route.pattern (tunnel_number root_vrf.vrf held.selected.number) taken refl value (vpn_tunnel network root root_vrf own (tunnel_number root_vrf.vrf held.selected.number) rule.scenario a vpn) in
     let made : LearnedRoute = record { pattern = route.pattern; fec = lsp (own_addr place) (tunnel_number root_vrf.vrf held.selected.number); since = taken.since; run = taken.run } in
@@ -177,10 +172,13 @@ learned_selection network root egress root_vrf own pattern selected rule calm vp
     let place : EdgePlace = place_of network root in
     let number : ℕ = tunnel_number root_vrf.vrf selected.number in
     let by = held_taken network root egress (selective_key place root_vrf.vrf pattern) (tunnel_value place root_vrf.vrf number) rule calm (selective_value place (network.node root) egress root_vrf pattern selected rule.scenario a h) in
-    let route : LearnedRoute = record { pattern = pattern; fec = lsp (own_addr place) number; since = by.0.since; run = by.0.run } in
-    (route, among_found (learned_route (place_of network egress) own root) (selective_key place root_vrf.vrf pattern, by.0) route (maps.entries (taken_from (network.node egress) root))
-      (get_entry key_exact (taken_from (network.node egress) root) (selective_key place root_vrf.vrf pattern) by.0 by.1)
-      (learns place (place_of network egress) own root_vrf.vrf pattern number by.0 refl by.2 (vpn_tunnel network root root_vrf own number rule.scenario a vpn)), refl)
+    let route : LearnedRoute = record { pattern = pattern; fec = lsp (own_addr place) number; since = by.0.since; run = by.0.run } in (
+      route,
+      among_found (learned_route (place_of network egress) own root) (selective_key place root_vrf.vrf pattern, by.0) route (maps.entries (taken_from (network.node egress) root))
+          (get_entry key_exact (taken_from (network.node egress) root) (selective_key place root_vrf.vrf pattern) by.0 by.1)
+          (learns place (place_of network egress) own root_vrf.vrf pattern number by.0 refl by.2 (vpn_tunnel network root root_vrf own number rule.scenario a vpn)),
+      refl,
+    )
 
 -- ---- in step
 

@@ -1,25 +1,22 @@
 -- A flow of an egress whose upstream is the root is joined there.
-use Rattle.std.proofs.Common.{◌≡◌, ℕ, ◌==◌, ◌&&◌, Bool, true, false, cond, inl, inr, List, [], ◌∷◌, nat_eq, Option, Some, None, refl, sym, ap, subst, ◌∙◌}
-use Rattle.std.specs.List.{list_any}
+use Rattle.std.proofs.Common.{◌≡◌, ℕ, ◌==◌, ◌&&◌, Bool, true, false, cond, List, [], ◌∷◌, nat_eq, Option, Some, None, refl, sym, ap, ◌∙◌}
 use Rattle.std.specs.Cmp.Lexicographic.{pointwise, bytes_decides}
 use Rattle.std.specs.FinMap as maps
 use Rattle.std.proofs.lemmas.Bool.{and_from, eq-eqb, or_left}
 use Rattle.mv_base.specs.Address.{same_addr, same_addr_equiv}
-use Rattle.mv_base.specs.Number.{only_if}
 use Rattle.mv_base.specs.declared.addr.Addr.{Addr}
 use Rattle.mv_base.specs.declared.ids.NodeId.{NodeId}
 use Rattle.mv_base.specs.declared.rd.Rd.{Rd}
-use Rattle.mvpn_nlri.specs.declared.route.Afi.{Afi}
 use Rattle.mvpn_nlri.specs.declared.route.Route.TheVariants as routes
 use Rattle.bgp_attributes.specs.declared.key.Key.{Key}
 use Rattle.bgp_attributes.specs.declared.key.Key.TheVariants.{Mcast}
 use Rattle.route_targets.specs.declared.communities.ExtComm.{ExtComm}
 use Rattle.scenario_defs.specs.declared.scenario.Vrf.{Vrf}
 use Rattle.selective_defs.specs.Selective.{Among}
-use Rattle.edge_defs.specs.Edge.{VrfFlow, Import, Upstream, Remote, TakenRoute, Control}
+use Rattle.edge_defs.specs.Edge.{VrfFlow, Import, Upstream, Remote, TakenRoute}
 use Rattle.edge_defs.specs.Flows.{same_flow}
-use Rattle.edge_defs.specs.Held.{join_route, join_routes, held_for}
-use Rattle.edge_defs.specs.Imported.{FlowRoute, has_comm, imported_join, taken_from}
+use Rattle.edge_defs.specs.Held.{join_route, held_for}
+use Rattle.edge_defs.specs.Imported.{has_comm, imported_join, taken_from}
 use Rattle.edge_defs.specs.Keys.{Value}
 use Rattle.edge_defs.specs.Originated.{afi_of, import_target, own_import}
 use Rattle.edge_defs.specs.Place.{EdgePlace, OwnVrf, own_addr, own_vrfs}
@@ -28,12 +25,12 @@ use Rattle.edge_defs.proofs.KeyLemmas.{key_exact, flow_total, flow_exact}
 use Rattle.edge_laws.specs.Network.{EdgeNetwork, place_of}
 use Rattle.edge_laws.specs.Rule.{Rule}
 use Rattle.calm_laws.specs.Calm.{CalmSession, FlowsStand}
-use Rattle.calm_laws.proofs.Lists.{any_from, among_found}
+use Rattle.calm_laws.proofs.Lists.{passes, any_from, among_found}
 use Rattle.calm_laws.proofs.Maps.{entry_get, get_entry}
 use Rattle.calm_laws.proofs.Tables.{turned, held_taken, among_peers}
 use Rattle.calm_laws.proofs.Vrfs.{one_rd}
 use Rattle.calm_laws.proofs.Originated.{JoinHeld, join_held, some_join}
-use Rattle.calm_laws.proofs.Upstreams.{IsFlow, is_flow_of, RootVrf, root_of}
+use Rattle.calm_laws.proofs.Upstreams.{is_flow_of, root_of}
 
 -- ---- at the egress
 
@@ -50,7 +47,7 @@ join_stands network root egress flow rd import source_as h =
     let up : Option Upstream = Some (Remote root rd import source_as) in
     some_join place (network.node egress) root (join_key flow rd source_as) value
     (among_found (join_route place root) (flow, up) entry (maps.entries (network.node egress).flows) (get_entry flow_exact (network.node egress).flows flow up h)
-      (ap (λ (b : Bool). cond b (Some entry) None) (eq-eqb root.0 root.0 refl)))
+    (ap (λ (b : Bool). cond b (Some entry) None) (eq-eqb root.0 root.0 refl)))
 
 -- whichever flow has put the join, it names one VRF of the root
 one_target : (network : EdgeNetwork) (root egress : NodeId) (flow : VrfFlow) (rd : Rd) (source_as : ℕ) (root_vrf : OwnVrf) (value : Value) → Rule network → FlowsStand network → CalmSession network root egress
@@ -68,10 +65,6 @@ one_target network root egress flow rd source_as root_vrf value rule stand calm 
 
 -- ---- at the root
 
-passes : {A : Type 0} (b : Bool) (x : A) → b ≡ true → only_if b x ≡ Some x
-passes true x h = refl
-passes false x h = absurd (let bad : false ≡ true = h in cc)
-
 same_octets : (xs ys : List ℕ) → xs ≡ ys → pointwise nat_eq xs ys ≡ true
 same_octets xs ys e = (bytes_decides xs ys).1 e
 
@@ -83,8 +76,8 @@ join_imported : (place : EdgePlace) (vrf : Vrf) (flow : VrfFlow) (rd : Rd) (sour
 join_imported place vrf flow rd source_as taken e n c =
     passes (pointwise nat_eq rd.0 vrf.rd.0 && (source_as == place.scenario.system) && has_comm (import_target (own_import place vrf)) taken.value.comms) (record { source = flow.source; group = flow.group })
     (and_from (pointwise nat_eq rd.0 vrf.rd.0 && (source_as == place.scenario.system)) (has_comm (import_target (own_import place vrf)) taken.value.comms)
-      (and_from (pointwise nat_eq rd.0 vrf.rd.0) (source_as == place.scenario.system) (same_octets rd.0 vrf.rd.0 (ap (λ (r : Rd). r.0) e)) (eq-eqb source_as place.scenario.system n))
-      (has_it (import_target (own_import place vrf)) taken.value.comms c))
+    (and_from (pointwise nat_eq rd.0 vrf.rd.0) (source_as == place.scenario.system) (same_octets rd.0 vrf.rd.0 (ap (λ (r : Rd). r.0) e)) (eq-eqb source_as place.scenario.system n))
+    (has_it (import_target (own_import place vrf)) taken.value.comms c))
 
 own_flow : (source group : Addr) → same_flow source group (record { source = source; group = group }) ≡ true
 own_flow source group = and_from (same_addr source source) (same_addr group group) (same_addr_equiv.refl source) (same_addr_equiv.refl group)

@@ -1,11 +1,10 @@
 -- An egress is a leaf of the tunnel on which the root transmits a flow of its VPN.
-use Rattle.std.proofs.Common.{◌≡◌, ℕ, ◌+◌, ◌==◌, Bool, true, false, ◌⊎◌, inl, inr, List, [], ◌∷◌, ◌++◌, map, Option, Some, None, refl, sym, ap, subst, ◌∙◌}
-use Rattle.std.specs.List.{filter, flat_map}
+use Rattle.std.proofs.Common.{◌≡◌, ℕ, ◌==◌, true, List, Option, Some, None, refl, sym, ap, subst, ◌∙◌}
+use Rattle.std.specs.List.{flat_map}
 use Rattle.std.specs.Ordering.{eq_by_cmp}
 use Rattle.std.specs.FinMap as maps
 use Rattle.std.specs.FinSet as sets
 use Rattle.std.proofs.lemmas.Bool.{eq-eqb}
-use Rattle.mv_base.specs.declared.addr.Addr.{Addr}
 use Rattle.mv_base.specs.declared.ids.NodeId.{NodeId}
 use Rattle.mv_base.specs.declared.ids.VrfId.{VrfId}
 use Rattle.mv_base.specs.declared.pattern.Pattern.{Pattern}
@@ -21,8 +20,8 @@ use Rattle.selective_defs.proofs.WantedLemmas.{some_wanted}
 use Rattle.edge_defs.specs.Edge.{VrfFlow, Import, Upstream, Remote, Selected, Control}
 use Rattle.edge_defs.specs.Imported.{imported_inclusive, taken_from}
 use Rattle.edge_defs.specs.Originated.{inclusive_key, tunnel_value}
-use Rattle.edge_defs.specs.Place.{EdgePlace, OwnVrf, addr_of, own_addr, own_vrfs, lsp, tunnel_number}
-use Rattle.edge_defs.specs.Tunnels.{selections_of, number_by, transmit_tunnel, learned_routes, inclusive_tunnels, flow_tunnels, flows_of, tunnels_of, leaves}
+use Rattle.edge_defs.specs.Place.{EdgePlace, OwnVrf, own_addr, own_vrfs, lsp, tunnel_number}
+use Rattle.edge_defs.specs.Tunnels.{selections_of, number_by, learned_routes, inclusive_tunnels, flow_tunnels, flows_of, tunnels_of, leaves}
 use Rattle.edge_defs.proofs.KeyLemmas.{key_exact, flow_exact}
 use Rattle.edge_laws.specs.Network.{EdgeNetwork, place_of}
 use Rattle.edge_laws.specs.Rule.{Rule}
@@ -32,8 +31,8 @@ use Rattle.calm_laws.proofs.Maps.{get_entry}
 use Rattle.calm_laws.proofs.Tables.{held_taken, among_peers}
 use Rattle.calm_laws.proofs.Originated.{inclusive_value}
 use Rattle.calm_laws.proofs.Imports.{imports_inclusive}
-use Rattle.calm_laws.proofs.InStep.{key_at, is_selection, vpn_tunnel, one_selected, IsLearned, is_learned, in_step}
-use Rattle.calm_laws.proofs.Upstreams.{IsFlow, is_flow_of, RootVrf, root_of}
+use Rattle.calm_laws.proofs.InStep.{key_at, is_selection, vpn_tunnel, one_selected, is_learned, in_step}
+use Rattle.calm_laws.proofs.Upstreams.{is_flow_of, root_of}
 use Rattle.calm_laws.proofs.Joins.{joined}
 use Rattle.calm_laws.proofs.Vrfs.{one_number}
 
@@ -59,7 +58,7 @@ wants_inclusive network root egress root_vrf own rule calm a vpn =
     let read = imports_inclusive place own.vrf root_vrf.vrf number taken.0 taken.2 (vpn_tunnel network root root_vrf own number rule.scenario a vpn) in
     among_front fec (flat_map (inclusive_tunnels (place_of network egress) own) (maps.entries control.peers)) (flat_map (flow_tunnels (place_of network egress) control own) (flows_of control own.id))
     (among_flat_map (inclusive_tunnels (place_of network egress) own) (root, table) fec (maps.entries control.peers) (among_peers control root calm.far)
-      (among_found (imported_inclusive own.vrf (own_addr place)) (key, taken.0) fec (maps.entries table) (get_entry key_exact table key taken.0 taken.1) read))
+    (among_found (imported_inclusive own.vrf (own_addr place)) (key, taken.0) fec (maps.entries table) (get_entry key_exact table key taken.0 taken.1) read))
 
 -- ---- a selective tunnel
 
@@ -83,8 +82,8 @@ wants_selective network root egress root_vrf own flow rd import source_as select
     let of_vrf : Among (flow, up) (flows_of control own.id) = among_filter (λ (entry : VrfFlow × Option Upstream). entry.0.vrf.0 == own.id.0) (flow, up) (maps.entries control.flows) (eq-eqb flow.vrf.0 own.id.0 (ap (λ (v : VrfId). v.0) (sym id))) (get_entry flow_exact control.flows flow up h) in
     subst (λ (f : Fec). Among f (tunnels_of here control own)) fec
     (among_behind route.fec (flat_map (inclusive_tunnels here own) (maps.entries control.peers)) (flat_map (flow_tunnels here control own) (flows_of control own.id))
-      (among_flat_map (flow_tunnels here control own) (flow, up) route.fec (flows_of control own.id) of_vrf
-        (among_map (λ (r : LearnedRoute). r.fec) route (wanted learned flow.source flow.group) want.2)))
+    (among_flat_map (flow_tunnels here control own) (flow, up) route.fec (flows_of control own.id) of_vrf
+    (among_map (λ (r : LearnedRoute). r.fec) route (wanted learned flow.source flow.group) want.2)))
 
 -- ---- the tunnel on which the root transmits
 

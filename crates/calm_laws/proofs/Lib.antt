@@ -4,6 +4,7 @@ pub mod Flows
 pub mod Tables
 pub mod Targets
 pub mod Vrfs
+pub mod Entries
 pub mod Originated
 pub mod Imports
 pub mod InStep

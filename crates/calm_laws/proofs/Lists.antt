@@ -1,13 +1,19 @@
 -- What is among the lists that definitions make.
-use Rattle.std.proofs.Common.{◌≡◌, ℕ, Bool, true, false, cond, ◌||◌, ◌⊎◌, inl, inr, List, [], ◌∷◌, ◌++◌, map, Option, Some, None, refl, sym, ap, subst, ◌∙◌}
+use Rattle.std.proofs.Common.{◌≡◌, Bool, true, false, cond, ◌⊎◌, inl, inr, List, [], ◌∷◌, ◌++◌, map, Option, Some, None, refl, sym, ap, subst, ◌∙◌}
 use Rattle.std.specs.List.{filter, flat_map, list_any}
 use Rattle.std.proofs.lemmas.Bool.{or_cases, or_left, or_right}
+use Rattle.mv_base.specs.Number.{only_if}
 use Rattle.choice_defs.specs.Choice as choice
 use Rattle.selective_defs.specs.Selective.{Among}
-use Rattle.edge_defs.specs.Imported.{found_in, only_one}
+use Rattle.edge_defs.specs.Imported.{found_in}
 
 pub not_both : (b : Bool) → b ≡ true → b ≡ false → ⊥
 not_both b h k = absurd (let bad : true ≡ false = sym h ∙ k in cc)
+
+-- a value that passes a test goes on
+pub passes : {A : Type 0} (b : Bool) (x : A) → b ≡ true → only_if b x ≡ Some x
+passes true x h = refl
+passes false x h = absurd (let bad : false ≡ true = h in cc)
 
 pub among_choice : {X : Type 0} (x : X) (xs : List X) → choice.Among x xs → Among x xs
 among_choice x [] a = absurd a

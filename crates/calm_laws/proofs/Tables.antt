@@ -1,5 +1,5 @@
 -- The tables of a calm session.
-use Rattle.std.proofs.Common.{◌≡◌, ℕ, Bool, true, false, cond, inl, inr, List, [], ◌∷◌, map, is_some, Option, Some, None, option_map, refl, sym, ap, subst, ◌∙◌}
+use Rattle.std.proofs.Common.{◌≡◌, Bool, true, false, cond, List, [], map, is_some, Option, Some, None, refl, sym, ap, subst, ◌∙◌}
 use Rattle.std.specs.FinMap as maps
 use Rattle.mv_base.specs.declared.ids.NodeId.{NodeId}
 use Rattle.bgp_attributes.specs.declared.key.Key.{Key}
@@ -12,7 +12,6 @@ use Rattle.edge_defs.specs.Place.{EdgePlace}
 use Rattle.edge_defs.proofs.KeyLemmas.{key_total, key_exact}
 use Rattle.edge_laws.specs.Network.{EdgeNetwork, place_of}
 use Rattle.edge_laws.specs.Rule.{Rule, value_in, taken_values}
-use Rattle.label_defs.specs.Keys.{node_cmp}
 use Rattle.label_defs.proofs.KeyLemmas.{node_cmp_total, node_cmp_exact}
 use Rattle.selective_defs.specs.Selective.{Among}
 use Rattle.calm_laws.specs.Calm.{CalmSession}

@@ -1,7 +1,7 @@
 -- Sets of targets that are the same or share a member.
-use Rattle.std.proofs.Common.{◌≡◌, ℕ, ◌<◌, Bool, true, false, ◌&&◌, ◌⊎◌, inl, inr, List, [], ◌∷◌, ◌++◌, map, length, nat_eq, refl, sym, ap, subst, ◌∙◌, arith}
-use Rattle.std.specs.List.{list_any, list_all}
-use Rattle.std.specs.Cmp.Lexicographic.{pointwise, bytes_decides}
+use Rattle.std.proofs.Common.{◌≡◌, ◌<◌, Bool, true, inl, inr, List, [], ◌∷◌, ◌++◌, length, refl, sym, ap, subst, ◌∙◌, arith}
+use Rattle.std.specs.List.{list_all}
+use Rattle.std.specs.Cmp.Lexicographic.{bytes_decides}
 use Rattle.std.proofs.lemmas.Bool.{and_parts, and_from}
 use Rattle.route_targets.specs.Targets.{same_target, has, shares, same}
 use Rattle.route_targets.specs.declared.communities.ExtComm.{ExtComm}
@@ -10,7 +10,7 @@ use Rattle.scenario_defs.specs.declared.scenario.Vrf.{Vrf}
 use Rattle.selective_defs.specs.Selective.{Among}
 use Rattle.edge_defs.specs.Imported.{is_admitted}
 use Rattle.edge_defs.specs.Originated.{target_comms}
-use Rattle.calm_laws.proofs.Lists.{any_from, any_among, among_map, map_among, among_front, among_either}
+use Rattle.calm_laws.proofs.Lists.{any_from, any_among, among_map, map_among, among_front}
 
 one_target : (a b : Target) → a.0.0 ≡ b.0.0 → a ≡ b
 one_target a b e = λ i. record { 0 = record { 0 = e i } }

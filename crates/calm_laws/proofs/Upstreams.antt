@@ -1,8 +1,8 @@
 -- The upstream of a flow of an egress, and the VRF of the root that it is.
-use Rattle.std.proofs.Common.{◌≡◌, ℕ, ◌+◌, ◌≤◌, Bool, true, false, cond, ◌⊎◌, inl, inr, List, [], ◌∷◌, ◌++◌, map, Option, Some, None, refl, sym, ap, subst, ◌∙◌}
+use Rattle.std.proofs.Common.{◌≡◌, ℕ, true, inl, inr, List, map, Option, Some, None, refl, sym, ap, subst, ◌∙◌}
 use Rattle.std.specs.List.{filter, flat_map}
 use Rattle.std.specs.FinMap as maps
-use Rattle.std.specs.FinMap.{FinMap, find}
+use Rattle.std.specs.FinMap.{FinMap}
 use Rattle.std.proofs.lemmas.Option.{cond_some, same_Some}
 use Rattle.mv_base.specs.Number.{◌>>?◌, only_if}
 use Rattle.mv_base.specs.declared.addr.Addr.{Addr}
@@ -11,20 +11,16 @@ use Rattle.mv_base.specs.declared.prefix.Prefix.{Prefix}
 use Rattle.mv_base.specs.declared.rd.Rd.{Rd}
 use Rattle.bgp_attributes.specs.declared.key.Key.{Key}
 use Rattle.bgp_attributes.specs.declared.key.Key.TheVariants.{Mcast, Unicast}
-use Rattle.route_targets.specs.Targets.{same}
 use Rattle.scenario_defs.specs.Home.{local_routes}
 use Rattle.scenario_defs.specs.Rules.{Rules, IsTarget}
-use Rattle.scenario_defs.specs.declared.scenario.Route.{Route}
 use Rattle.scenario_defs.specs.declared.scenario.Vrf.{Vrf}
-use Rattle.choice_defs.specs.Choice as choice
 use Rattle.choice_defs.specs.Choice.{cost_by, best_route, of_site}
 use Rattle.choice_defs.specs.declared.known_route.KnownRoute.{KnownRoute}
 use Rattle.choice_defs.specs.declared.origin.Origin.{Origin}
 use Rattle.choice_defs.specs.declared.origin.Origin.TheVariants as origins
 use Rattle.choice_defs.proofs.BestLemmas.{Best, BestIs, best}
-use Rattle.label_defs.specs.Keys.{node_cmp}
 use Rattle.selective_defs.specs.Selective.{Among}
-use Rattle.edge_defs.specs.Edge.{VrfFlow, flow_cmp, Import, Upstream, Site, Remote, TakenRoute, Taken, Control}
+use Rattle.edge_defs.specs.Edge.{VrfFlow, flow_cmp, Import, Upstream, Remote, TakenRoute, Taken, Control}
 use Rattle.edge_defs.specs.Flows.{is_flow, possible_flows, with_upstream, vrf_flows, flows_at}
 use Rattle.edge_defs.specs.Imported.{is_admitted, JoinBy, join_by, taken_from, FlowRoute}
 use Rattle.edge_defs.specs.Keys.{Value}
@@ -35,12 +31,12 @@ use Rattle.edge_defs.proofs.KeyLemmas.{key_total, flow_total, flow_exact}
 use Rattle.edge_laws.specs.Network.{EdgeNetwork, place_of}
 use Rattle.edge_laws.specs.Rule.{Rule}
 use Rattle.calm_laws.specs.Calm.{CalmSession, FlowsStand, AreOfOneVpn}
-use Rattle.calm_laws.proofs.Lists.{among_choice, among_either, map_among, flat_map_among, filter_among, found_among}
+use Rattle.calm_laws.proofs.Lists.{among_choice, among_either, map_among, flat_map_among, found_among}
 use Rattle.calm_laws.proofs.Maps.{found_stands, entry_get}
 use Rattle.calm_laws.proofs.Tables.{peer_table, taken_held}
 use Rattle.calm_laws.proofs.Targets.{admitted_target, shares_by}
 use Rattle.calm_laws.proofs.Vrfs.{own_rules, shared_vpn}
-use Rattle.calm_laws.proofs.Originated.{UnicastHeld, unicast_held}
+use Rattle.calm_laws.proofs.Originated.{unicast_held}
 use Rattle.calm_laws.proofs.Comms.{all_of, joins_by, unicast_target}
 
 -- ---- chains
@@ -57,6 +53,16 @@ pub record IsFlow (network : EdgeNetwork) (n : NodeId) (flow : VrfFlow) (up : Op
   pub id : own.id ≡ flow.vrf
   pub is : up ≡ upstream_for (place_of network n) (network.node n) own flow.source
 
+flow_as : (network : EdgeNetwork) (n : NodeId) (flow : VrfFlow) (up : Option Upstream) (own : OwnVrf) (route : FlowRoute) → Among own (own_vrfs (place_of network n)) → (flow, up) ≡ with_upstream (place_of network n) (network.node n) own route → IsFlow network n flow up
+flow_as network n flow up own route a e =
+    let flows : flow ≡ record { vrf = own.id; source = route.source; group = route.group } = ap (λ (x : VrfFlow × Option Upstream). x.0) e in
+    record {
+      own = own;
+      among = a;
+      id = ap (λ (f : VrfFlow). f.vrf) (sym flows);
+      is = ap (λ (x : VrfFlow × Option Upstream). x.1) e ∙ ap (λ (f : VrfFlow). upstream_for (place_of network n) (network.node n) own f.source) (sym flows);
+    }
+
 flow_of : (network : EdgeNetwork) (n : NodeId) (flow : VrfFlow) (up : Option Upstream) (moment : ℕ) → maps.get (flows_at (place_of network n) moment (network.node n)) flow ≡ Some up → IsFlow network n flow up
 flow_of network n flow up moment h =
     let place : EdgePlace = place_of network n in
@@ -65,13 +71,7 @@ flow_of network n flow up moment h =
     let a : Among (flow, up) list = found_stands flow_exact flow up list (sym (maps.get-from_entries flow_total list flow) ∙ h) in
     let by = flat_map_among (vrf_flows place moment control) (flow, up) (own_vrfs place) a in
     let made = map_among (with_upstream place control by.0) (flow, up) (filter (is_flow place moment control by.0) (possible_flows place control by.0)) by.2 in
-    let flows : flow ≡ record { vrf = by.0.id; source = made.0.source; group = made.0.group } = ap (λ (e : VrfFlow × Option Upstream). e.0) made.2 in
-    record {
-      own = by.0;
-      among = by.1;
-      id = ap (λ (f : VrfFlow). f.vrf) (sym flows);
-      is = ap (λ (e : VrfFlow × Option Upstream). e.1) made.2 ∙ ap (λ (f : VrfFlow). upstream_for place control by.0 f.source) (sym flows);
-    }
+    flow_as network n flow up by.0 made.0 by.1 made.2
 
 pub is_flow_of : (network : EdgeNetwork) (n : NodeId) (flow : VrfFlow) (up : Option Upstream) → FlowsStand network → maps.get (network.node n).flows flow ≡ Some up → IsFlow network n flow up
 is_flow_of network n flow up stand h =

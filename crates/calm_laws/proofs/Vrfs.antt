@@ -1,9 +1,8 @@
 -- The VRFs of an edge, and which of those of two edges are of one VPN.
-use Rattle.std.proofs.Common.{◌≡◌, ℕ, ◌+◌, ◌<◌, ◌≤◌, ◌==◌, Bool, true, false, cond, ◌⊎◌, inl, inr, List, [], ◌∷◌, length, Some, None, refl, sym, ap, subst, ◌∙◌, arith, zero, suc}
+use Rattle.std.proofs.Common.{◌≡◌, ℕ, ◌+◌, ◌==◌, true, false, cond, inl, inr, List, [], ◌∷◌, Some, refl, sym, ap, subst, ◌∙◌, arith, zero, suc}
 use Rattle.std.specs.Prelude.{slice_get}
 use Rattle.std.proofs.lemmas.Bool.{cases_lt, eqb-true}
 use Rattle.mv_base.specs.declared.ids.NodeId.{NodeId}
-use Rattle.mv_base.specs.declared.ids.VrfId.{VrfId}
 use Rattle.route_targets.specs.Targets.{shares, same}
 use Rattle.scenario_defs.specs.declared.scenario.Vrf.{Vrf}
 use Rattle.scenario_defs.specs.declared.scenario.Scenario.{Scenario}
@@ -30,11 +29,11 @@ is_from me number (vrf ∷ vrfs) own a =
     elim (vrf.edge.0 == me.0) as (λ b. (vrf.edge.0 == me.0) ≡ b → Among own (cond b (record { id = record { 0 = number }; vrf = vrf } ∷ vrfs_from me (number + 1) vrfs) (vrfs_from me (number + 1) vrfs)) → IsFrom me number (vrf ∷ vrfs) own) [
       | true ↦ λ e b. elim b [
         | inl same ↦ record {
-            place = zero;
-            at = ap (λ (o : OwnVrf). Some o.vrf) (sym same);
-            id = ap (λ (o : OwnVrf). o.id.0) same ∙ omega arith;
-            edge = ap (λ (o : OwnVrf). o.vrf.edge.0) same ∙ eqb-true vrf.edge.0 me.0 e;
-          }
+          place = zero;
+          at = ap (λ (o : OwnVrf). Some o.vrf) (sym same);
+          id = ap (λ (o : OwnVrf). o.id.0) same ∙ omega arith;
+          edge = ap (λ (o : OwnVrf). o.vrf.edge.0) same ∙ eqb-true vrf.edge.0 me.0 e;
+        }
         | inr c ↦ one_later me number vrf vrfs own (is_from me (number + 1) vrfs own c)
       ]
       | false ↦ λ e b. one_later me number vrf vrfs own (is_from me (number + 1) vrfs own b)

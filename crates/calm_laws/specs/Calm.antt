@@ -1,12 +1,12 @@
 -- A pair of edges between which nothing is left to be done, and what holds of it (RFC 6513 sections 5.1 and 7, RFC 6514 sections 11 and 12).
-use Rattle.std.specs.Prelude.{◌≡◌, ◌≢◌, ℕ, ◌≤◌, true, false, [], Option, Some, None}
+use Rattle.std.specs.Prelude.{◌≡◌, ◌≢◌, ℕ, ◌≤◌, true, [], Some}
 use Rattle.std.specs.FinMap as maps
 use Rattle.std.specs.FinSet as sets
 use Rattle.mv_base.specs.declared.ids.NodeId.{NodeId}
 use Rattle.mv_base.specs.declared.rd.Rd.{Rd}
 use Rattle.route_targets.specs.Targets.{same}
 use Rattle.selective_defs.specs.Selective.{Among, IsDue}
-use Rattle.edge_defs.specs.Edge.{VrfPattern, Selected, VrfFlow, Import, Upstream, Remote, Control}
+use Rattle.edge_defs.specs.Edge.{VrfPattern, Selected, VrfFlow, Import}
 use Rattle.edge_defs.specs.Flows.{flows_at}
 use Rattle.edge_defs.specs.Originated.{own_import}
 use Rattle.edge_defs.specs.Place.{OwnVrf, own_vrfs}

@@ -1,11 +1,8 @@
 //! Laws of calm sessions.
-ghost use Rattle.std.specs.Prelude.{◌≡◌, ◌≢◌, ℕ, true, false, [], Some};
+ghost use Rattle.std.specs.Prelude.{◌≡◌, ℕ, false, List, [], Some};
 ghost use Rattle.std.specs.FinMap as maps;
-ghost use Rattle.std.specs.FinSet as sets;
 ghost use Rattle.mv_base.specs.declared.ids.NodeId.{NodeId};
 ghost use Rattle.mv_base.specs.declared.rd.Rd.{Rd};
-ghost use Rattle.mv_base.specs.declared.addr.Addr.{Addr};
-ghost use Rattle.std.specs.Prelude.{List};
 ghost use Rattle.scenario_defs.specs.declared.scenario.Scenario.{Scenario};
 ghost use Rattle.selective_defs.specs.Selective.{Among, InStep};
 ghost use Rattle.edge_defs.specs.Edge.{VrfFlow, Import, Remote, no_control};
@@ -17,7 +14,7 @@ ghost use Rattle.edge_laws.specs.Network.{EdgeNetwork, place_of};
 ghost use Rattle.edge_laws.specs.Rule.{Rule, taken_values};
 ghost use Rattle.calm_laws.specs.Calm.{CalmSession, NoneDue, FlowsStand, AreOfOneVpn, CalmFlow};
 
-/// The flows of each edge are those that were asked for at its last step, with the upstreams that its VRFs choose now.
+/// The flows of each edge are those that were asked for at some clock so far, with the upstreams that its VRFs choose now.
 pub fn flows_stand()
     ensures start { (scenario : Scenario) (core : Core) →
         FlowsStand (record { clock = 0; scenario = scenario; core = core; node = λ n. no_control; direction = λ a b. record { joined = false; transit = [] } }) }

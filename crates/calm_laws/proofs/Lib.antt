@@ -1,0 +1,14 @@
+pub mod Lists
+pub mod Maps
+pub mod Flows
+pub mod Tables
+pub mod Targets
+pub mod Vrfs
+pub mod Entries
+pub mod Originated
+pub mod Imports
+pub mod InStep
+pub mod Comms
+pub mod Upstreams
+pub mod Joins
+pub mod Leaves

@@ -1,0 +1,37 @@
+//! Laws of an edge.
+ghost use Rattle.std.specs.Prelude.{◌≡◌, ◌≢◌, []};
+ghost use Rattle.std.specs.Ordering.{nat_cmp};
+ghost use Rattle.std.specs.Cmp.Lexicographic.{slice_cmp};
+ghost use Rattle.std.specs.declared.cmp.Ordering.TheVariants.{Less, Equal};
+ghost use Rattle.std.specs.FinMap.{IsAntisymmetric};
+ghost use Rattle.mv_base.specs.declared.prefix.Prefix.{Prefix};
+ghost use Rattle.mv_base.specs.declared.rd.Rd.{Rd};
+ghost use Rattle.mvpn_nlri.specs.declared.route.Afi.{Afi};
+ghost use Rattle.mvpn_nlri.specs.declared.route.Afi.TheVariants.{Ipv4, Ipv6};
+ghost use Rattle.mvpn_nlri.specs.declared.route.Route.{Route};
+ghost use Rattle.mvpn_nlri.specs.Spelling.{written};
+ghost use Rattle.bgp_attributes.specs.declared.key.Key.TheVariants.{Mcast, Unicast};
+ghost use Rattle.bgp_update.specs.Written.{vpn_text};
+ghost use Rattle.table_laws.specs.Words.{IsExact};
+ghost use Rattle.edge_defs.specs.Edge.{flow_cmp, note_cmp, pattern_cmp};
+ghost use Rattle.edge_defs.specs.Keys.{key_cmp, same_value};
+
+/// Keys, notes, patterns and flows that tie are equal, and so are values that compare as equal.
+pub fn keys_are_told()
+    ensures keys { IsAntisymmetric key_cmp }
+    ensures notes { IsAntisymmetric note_cmp }
+    ensures patterns { IsAntisymmetric pattern_cmp }
+    ensures flows { IsAntisymmetric flow_cmp }
+    ensures exact { IsExact same_value }
+{}
+
+/// Unicast keys stand before multicast keys, those of AFI 1 before those of AFI 2, and two keys of one kind in the order of the
+/// octets that spell them, the label aside.
+pub fn keys_are_in_order()
+    ensures unicast { (rd : Rd) (prefix : Prefix) (afi : Afi) (route : Route) → key_cmp (Unicast rd prefix) (Mcast afi route) ≡ Less }
+    ensures families { (own other : Route) → key_cmp (Mcast Ipv4 own) (Mcast Ipv6 other) ≡ Less }
+    ensures routes { (afi : Afi) (own other : Route) → slice_cmp nat_cmp (written own) (written other) ≢ Equal →
+        key_cmp (Mcast afi own) (Mcast afi other) ≡ slice_cmp nat_cmp (written own) (written other) }
+    ensures prefixes { (rd other_rd : Rd) (prefix other : Prefix) → slice_cmp nat_cmp (vpn_text [] rd prefix) (vpn_text [] other_rd other) ≢ Equal →
+        key_cmp (Unicast rd prefix) (Unicast other_rd other) ≡ slice_cmp nat_cmp (vpn_text [] rd prefix) (vpn_text [] other_rd other) }
+{}

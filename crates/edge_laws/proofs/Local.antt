@@ -38,7 +38,7 @@ picked_past : (clock : ℕ) (near : Bool) (old new : Option Selected) (change : 
     → (selected : Selected) → new ≡ Some selected → selected.since ≤ clock
 picked_past clock near old new change picks h selected is =
     elim (picks selected is) [
-      | inl before ↦ subst (λ n. n ≤ clock) before.1.1 (h before.0 before.1.0)
+      | inl before ↦ subst (λ n. n ≤ clock) before.2 (h before.0 before.1)
       | inr e ↦ e.0
     ]
 
@@ -46,13 +46,13 @@ picked_timely : (clock : ℕ) (old new : Option Selected) (change : List (Option
     → (selected : Selected) → new ≡ Some selected → selected.since ≤ since
 picked_timely clock old new change since picks none h selected is =
     elim (picks selected is) [
-      | inl before ↦ subst (λ n. n ≤ since) before.1.1 (h before.0 before.1.0)
+      | inl before ↦ subst (λ n. n ≤ since) before.2 (h before.0 before.1)
       | inr e ↦ absurd (e.1 refl none)
     ]
 
 -- The sender's end, what it told and its selections change, and the change of what it told is put.
 pub near_view : (clock delay : ℕ) (joined near new far : Bool) (out next : Option Value) (picked other : Option Selected) (taken : Option TakenRoute) (pending change : List (Option Value))
-    → Picks clock near picked other (difference same_value out next) → (near ≡ false → out ≡ None) → (new ≡ true → change ≡ difference same_value out next) → (new ≡ false → change ≡ [])
+    → Picks clock (near && new) picked other (difference same_value out next) → (near ≡ false → out ≡ None) → (new ≡ true → change ≡ difference same_value out next) → (new ≡ false → change ≡ [])
     → (new ≡ false → (near ≡ false) ⊎ (joined ≡ false))
     → View clock delay joined near far out picked taken pending → View clock delay joined new far next other taken (cond joined (pending ++ change) pending)
 near_view clock delay true true true far out next picked other taken pending change picks before is none ends h = record {
@@ -95,7 +95,7 @@ near_view clock delay false near new far out next picked other taken pending cha
   blank = λ e. absurd cc;
   quiet = h.quiet;
   off = h.off;
-  past = picked_past clock near picked other (difference same_value out next) picks h.past;
+  past = picked_past clock (near && new) picked other (difference same_value out next) picks h.past;
   timely = λ selected route e. absurd cc;
   due = h.due;
 }

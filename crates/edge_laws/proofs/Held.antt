@@ -194,7 +194,7 @@ module _ (place : EdgePlace) (afi : Afi) (rd : Rd) (source group : Option Addr) 
   other_join peer (flow, Some (Remote edge own import source_as)) = other_cond route_key (edge.0 == peer.0) _ (λ e. absurd cc)
 
   -- the table has the key exactly where a selection has it
-  held_has : (control : Control) (peer : NodeId) → is_some (maps.get (held_for place control peer) route_key) ≡ is_some (selected_at place control route_key)
+  pub held_has : (control : Control) (peer : NodeId) → is_some (maps.get (held_for place control peer) route_key) ≡ is_some (selected_at place control route_key)
   held_has control peer =
       ap is_some (get-from_entries key_total (originated place control ++ join_routes place control peer) route_key)
       ∙ has_both route_key (originated place control) (join_routes place control peer)

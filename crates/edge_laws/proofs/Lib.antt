@@ -3,3 +3,5 @@ pub mod Selections
 pub mod Held
 pub mod Picks
 pub mod Frames
+pub mod Taken
+pub mod Steps

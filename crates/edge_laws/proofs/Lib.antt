@@ -5,3 +5,5 @@ pub mod Picks
 pub mod Frames
 pub mod Taken
 pub mod Steps
+pub mod Deliver
+pub mod Sessions

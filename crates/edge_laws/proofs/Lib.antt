@@ -7,3 +7,6 @@ pub mod Taken
 pub mod Steps
 pub mod Deliver
 pub mod Sessions
+pub mod Runs
+pub mod Start
+pub mod Tables

@@ -1,6 +1,6 @@
 -- The views of a network in which one edge has changed, and what it puts.
-use Rattle.std.proofs.Common.{◌≡◌, ◌≢◌, ℕ, ◌==◌, Bool, true, false, cond, if◌then◌else◌, ◌&&◌, ◌⊎◌, inl, inr, List, [], ◌∷◌, ◌++◌, Option, Some, None, refl, sym, ap, subst, ◌∙◌}
-use Rattle.std.proofs.lemmas.Bool.{cond-true, cond-false, cases_Bool}
+use Rattle.std.proofs.Common.{◌≡◌, ◌≢◌, ◌==◌, Bool, true, false, cond, if◌then◌else◌, ◌&&◌, ◌⊎◌, inl, inr, List, [], ◌++◌, None, refl, sym, ap, subst, ◌∙◌}
+use Rattle.std.proofs.lemmas.Bool.{cond-true, cond-false}
 use Rattle.std.specs.FinMap as maps
 use Rattle.std.specs.FinMap.{get-empty}
 use Rattle.mv_base.specs.declared.ids.NodeId.{NodeId}
@@ -9,13 +9,13 @@ use Rattle.scenario_defs.specs.Rules.{Rules}
 use Rattle.table_defs.specs.declared.change.Change.{Change}
 use Rattle.table_defs.specs.Changes.{changes, difference, values_at}
 use Rattle.table_laws.proofs.KeyLemmas.{values_at-append, values_at-changes}
-use Rattle.label_defs.proofs.KeyLemmas.{node_equal, node_itself, node_apart, node_cases}
-use Rattle.edge_defs.specs.Edge.{TakenRoute, Control}
+use Rattle.label_defs.proofs.KeyLemmas.{node_itself, node_apart, node_cases}
+use Rattle.edge_defs.specs.Edge.{Control}
 use Rattle.edge_defs.specs.Held.{held_for, told, put_to}
 use Rattle.edge_defs.specs.Imported.{taken_from}
 use Rattle.edge_defs.specs.Keys.{Value, Table, key_cmp, same_value}
 use Rattle.edge_defs.proofs.KeyLemmas.{key_total}
-use Rattle.edge_laws.specs.Network.{Direction, EdgeNetwork, place_of, at_node, behind}
+use Rattle.edge_laws.specs.Network.{EdgeNetwork, place_of, at_node, behind}
 use Rattle.edge_laws.specs.Acts.{is_up}
 use Rattle.edge_laws.specs.Rule.{View, ViewAt, Rule, selected_at}
 use Rattle.edge_laws.proofs.Local.{along, near_view}
@@ -53,18 +53,18 @@ node_views network n new near far other a b key ne =
           let here = node_here n new network.node in
           let there = node_there n new network.node b (λ i. apart (sym i)) in
           along refl (ap (λ (control : Control). is_up control b) here) (ap (λ (control : Control). is_up control n) there) (ap (λ (control : Control). maps.get (told (place_of network n) control b) key) here)
-            (ap (λ (control : Control). selected_at (place_of network n) control key) here) (ap (λ (control : Control). maps.get (taken_from control n) key) there) refl (near b key apart))
+          (ap (λ (control : Control). selected_at (place_of network n) control key) here) (ap (λ (control : Control). maps.get (taken_from control n) key) there) refl (near b key apart))
       | inr e ↦
           (let stays = node_there n new network.node a e in
           elim (node_cases b n) [
             | inl f ↦ subst (λ x. ViewAt after a x key) (sym f)
                 (let here = node_here n new network.node in
                 along refl (ap (λ (control : Control). is_up control n) stays) (ap (λ (control : Control). is_up control a) here) (ap (λ (control : Control). maps.get (told (place_of network a) control n) key) stays)
-                  (ap (λ (control : Control). selected_at (place_of network a) control key) stays) (ap (λ (control : Control). maps.get (taken_from control a) key) here) refl (far a key e))
+                (ap (λ (control : Control). selected_at (place_of network a) control key) stays) (ap (λ (control : Control). maps.get (taken_from control a) key) here) refl (far a key e))
             | inr f ↦
                 (let there = node_there n new network.node b f in
                 along refl (ap (λ (control : Control). is_up control b) stays) (ap (λ (control : Control). is_up control a) there) (ap (λ (control : Control). maps.get (told (place_of network a) control b) key) stays)
-                  (ap (λ (control : Control). selected_at (place_of network a) control key) stays) (ap (λ (control : Control). maps.get (taken_from control a) key) there) refl (other a b key ne e f))
+                (ap (λ (control : Control). selected_at (place_of network a) control key) stays) (ap (λ (control : Control). maps.get (taken_from control a) key) there) refl (other a b key ne e f))
           ])
     ]
 
@@ -117,10 +117,10 @@ pub record Follow (network : EdgeNetwork) (n : NodeId) (new : Control) : Type 0 
 pub near_put : (network : EdgeNetwork) (n : NodeId) (new : Control) → Rules network.scenario → Follow network n new → (b : NodeId) (key : Key) → n ≢ b → ViewAt network n b key → NearView (put_in network n new) n new b key
 near_put network n new rules follow b key ne view =
     along refl refl refl refl refl refl (put_here network n new b key)
-      (near_view network.clock network.scenario.delay (network.direction n b).joined (is_up (network.node n) b) (is_up new b) (is_up (network.node b) n)
-        (maps.get (told (place_of network n) (network.node n) b) key) (maps.get (told (place_of network n) new b) key) (selected_at (place_of network n) (network.node n) key) (selected_at (place_of network n) new key)
-        (maps.get (taken_from (network.node b) n) key) (values_at key_cmp key (network.direction n b).transit) (values_at key_cmp key (put_to (place_of network n) (network.node n) new b))
-        (picks (place_of network n) (network.node n) new network.clock b rules follow.selections key) (told_down network n (network.node n) b key) (put_up network n new b key) (put_down network n new b key) (follow.ends b ne) view)
+    (near_view network.clock network.scenario.delay (network.direction n b).joined (is_up (network.node n) b) (is_up new b) (is_up (network.node b) n)
+    (maps.get (told (place_of network n) (network.node n) b) key) (maps.get (told (place_of network n) new b) key) (selected_at (place_of network n) (network.node n) key) (selected_at (place_of network n) new key)
+    (maps.get (taken_from (network.node b) n) key) (values_at key_cmp key (network.direction n b).transit) (values_at key_cmp key (put_to (place_of network n) (network.node n) new b))
+    (picks (place_of network n) (network.node n) new network.clock b rules follow.selections key) (told_down network n (network.node n) b key) (put_up network n new b key) (put_down network n new b key) (follow.ends b ne) view)
 
 -- the views behind a step, from those of what the edge takes
 pub behind_views : (network : EdgeNetwork) (n : NodeId) (new : Control) → Rules network.scenario → Follow network n new
@@ -129,9 +129,9 @@ pub behind_views : (network : EdgeNetwork) (n : NodeId) (new : Control) → Rule
     → (a b : NodeId) (key : Key) → a ≢ b → ViewAt (behind network n new) a b key
 behind_views network n new rules follow near far other =
     node_views (put_in network n new) n new
-      (λ b key ne. near_put network n new rules follow b key ne (near b key ne))
-      (λ a key ne. along refl refl refl refl refl refl (put_there network n new a n key ne) (far a key ne))
-      (λ a b key ne e f. along refl refl refl refl refl refl (put_there network n new a b key e) (other a b key ne e f))
+    (λ b key ne. near_put network n new rules follow b key ne (near b key ne))
+    (λ a key ne. along refl refl refl refl refl refl (put_there network n new a n key ne) (far a key ne))
+    (λ a b key ne e f. along refl refl refl refl refl refl (put_there network n new a b key e) (other a b key ne e f))
 
 -- a step of an edge of a network that meets the rule
 pub behind_rule : (network : EdgeNetwork) (n : NodeId) (new : Control) → Rule network → Follow network n new → ((a : NodeId) (key : Key) → a ≢ n → FarView network n new a key) → Rule (behind network n new)

@@ -1,11 +1,11 @@
 -- An edge holds a selective route exactly for each selection, and what it tells changes where a selection is new.
-use Rattle.std.proofs.Common.{◌≡◌, ◌≢◌, ℕ, ◌==◌, ◌≤◌, Bool, true, false, cond, ◌&&◌, ◌||◌, ◌⊎◌, inl, inr, List, [], ◌∷◌, ◌++◌, Option, Some, None, refl, sym, ap, subst, ◌∙◌}
-use Rattle.std.proofs.lemmas.Bool.{cases_Bool, cond-true, cond-false, eqb-true, eq-eqb, and_parts}
+use Rattle.std.proofs.Common.{◌≡◌, ◌≢◌, ◌==◌, Bool, true, false, cond, ◌&&◌, ◌||◌, inl, inr, List, [], ◌∷◌, ◌++◌, Option, Some, None, refl, sym, ap, ◌∙◌}
+use Rattle.std.proofs.lemmas.Bool.{cases_Bool, eqb-true, eq-eqb}
 use Rattle.std.specs.Prelude.{map, is_some}
 use Rattle.std.specs.List.{filter, flat_map}
 use Rattle.std.specs.Ordering.{eq_by_cmp}
 use Rattle.std.specs.FinMap as maps
-use Rattle.std.specs.FinMap.{find, get-entries, get-from_entries, get-empty}
+use Rattle.std.specs.FinMap.{find, get-entries, get-from_entries}
 use Rattle.mv_base.specs.declared.addr.Addr.{Addr}
 use Rattle.mv_base.specs.declared.ids.NodeId.{NodeId}
 use Rattle.mv_base.specs.declared.pattern.Pattern.{Pattern}
@@ -14,21 +14,16 @@ use Rattle.mvpn_nlri.specs.declared.route.Afi.{Afi}
 use Rattle.mvpn_nlri.specs.declared.route.Route.TheVariants as routes
 use Rattle.bgp_attributes.specs.declared.key.Key.{Key}
 use Rattle.bgp_attributes.specs.declared.key.Key.TheVariants.{Mcast, Unicast}
-use Rattle.scenario_defs.specs.Rules.{Rules}
 use Rattle.scenario_defs.specs.Home.{local_routes}
-use Rattle.table_defs.specs.Changes.{difference}
 use Rattle.table_laws.proofs.CompareLemmas.{own_key, one_key, other_key}
 use Rattle.edge_defs.specs.Edge.{VrfPattern, pattern_cmp, Selected, VrfFlow, Upstream, Site, Remote, Control}
-use Rattle.edge_defs.specs.Held.{held_for, told, join_route, join_routes}
+use Rattle.edge_defs.specs.Held.{held_for, join_route, join_routes}
 use Rattle.edge_defs.specs.Imported.{found_in}
-use Rattle.edge_defs.specs.Keys.{Value, key_cmp, same_value}
+use Rattle.edge_defs.specs.Keys.{Value, key_cmp}
 use Rattle.edge_defs.specs.Originated.{selective_key, tunnel_value, plain_value, unicast_value, active_key, inclusive_route, unicast_routes, selective_routes, active_routes, routes_of, originated, notes_of}
 use Rattle.edge_defs.specs.Place.{EdgePlace, OwnVrf, own_vrfs, tunnel_number}
 use Rattle.edge_defs.proofs.KeyLemmas.{key_total, key_exact, pattern_total, pattern_exact}
-use Rattle.edge_laws.specs.Acts.{is_up}
 use Rattle.edge_laws.specs.Rule.{selected_in, first_selected, selected_at}
-use Rattle.edge_laws.proofs.Local.{Picks}
-use Rattle.edge_laws.proofs.Selections.{Follows, AllFollow, own_distinct, first_follows, none_selected}
 
 -- ---- whether a list has a key
 
@@ -164,13 +159,13 @@ module _ (place : EdgePlace) (afi : Afi) (rd : Rd) (source group : Option Addr) 
   own_has : (control : Control) (own : OwnVrf) → has route_key (routes_of place control own) ≡ is_some (selected_in place control route_key own)
   own_has control own =
       ap (λ b. is_some (cond b (Some (inclusive_route place own).1) (find key_cmp route_key (unicast_routes place own ++ (selective_routes place control own ++ active_routes place control own)))))
-        (other_key key_exact route_key (inclusive_route place own).0 (λ e. absurd cc))
+      (other_key key_exact route_key (inclusive_route place own).0 (λ e. absurd cc))
       ∙ has_both route_key (unicast_routes place own) (selective_routes place control own ++ active_routes place control own)
       ∙ ap (λ b. b || has route_key (selective_routes place control own ++ active_routes place control own))
-        (none_mapped route_key (λ route. (Unicast own.vrf.rd route.prefix, unicast_value place own.vrf)) (λ route e. absurd cc) (local_routes place.scenario own.id))
+      (none_mapped route_key (λ route. (Unicast own.vrf.rd route.prefix, unicast_value place own.vrf)) (λ route e. absurd cc) (local_routes place.scenario own.id))
       ∙ has_both route_key (selective_routes place control own) (active_routes place control own)
       ∙ ap (λ b. has route_key (selective_routes place control own) || b)
-        (none_mapped route_key (λ note. (active_key own.vrf note.source note.group, plain_value place own.vrf)) (λ note e. absurd cc) (notes_of place control own.id))
+      (none_mapped route_key (λ note. (active_key own.vrf note.source note.group, plain_value place own.vrf)) (λ note e. absurd cc) (notes_of place control own.id))
       ∙ or_nothing (has route_key (selective_routes place control own))
       ∙ selective_has own (maps.entries control.selections)
       ∙ ap (λ o. is_of own pattern && is_some o) (sym (get-entries control.selections (at own)))

@@ -3,7 +3,6 @@ use Rattle.std.proofs.Common.{arith, ◌≡◌, ◌≢◌, ℕ, ◌+◌, ◌≤�
 use Rattle.std.proofs.lemmas.Bool.{or_cases, and_parts, leb-true}
 use Rattle.std.specs.Prelude.{nat_le, option_map}
 use Rattle.table_defs.specs.Changes.{Leads, difference}
-use Rattle.table_laws.specs.Words.{IsExact}
 use Rattle.table_laws.proofs.PendingLemmas.{leads_on, difference_leads}
 use Rattle.edge_defs.specs.Edge.{Selected, TakenRoute}
 use Rattle.edge_defs.specs.Keys.{Value, same_value}
@@ -71,8 +70,8 @@ near_view clock delay true false true far out next picked other taken pending ch
     let b = h.blank refl refl in record {
       leads = λ _ _. subst (λ values. Leads (value_in taken) (pending ++ values) next) (sym (is refl))
           (leads_on (value_in taken) out next pending (difference same_value out next)
-            (subst (λ value. Leads (value_in taken) pending value) (sym (before refl)) (subst (λ values. Leads (value_in taken) values None) (sym b.0) (ap value_in b.1)))
-            (difference_leads same_value value_exact out next));
+          (subst (λ value. Leads (value_in taken) pending value) (sym (before refl)) (subst (λ values. Leads (value_in taken) values None) (sym b.0) (ap value_in b.1)))
+          (difference_leads same_value value_exact out next));
       blank = λ _ e. absurd cc;
       quiet = λ e. absurd cc;
       off = h.off;
@@ -159,13 +158,27 @@ pub far_up : (clock delay : ℕ) (joined near : Bool) (out : Option Value) (pick
 far_up clock delay joined near out picked taken pending h =
     let e = h.off refl in
     let i = along refl refl refl refl refl (sym e) refl h in record {
-      leads = i.leads; blank = i.blank; quiet = i.quiet; off = λ x. absurd cc; past = i.past; timely = i.timely; due = i.due }
+      leads = i.leads;
+      blank = i.blank;
+      quiet = i.quiet;
+      off = λ x. absurd cc;
+      past = i.past;
+      timely = i.timely;
+      due = i.due;
+    }
 
 -- where the session is not joined, the receiver's end goes down, and nothing is taken any more
 pub far_down : (clock delay : ℕ) (near far new : Bool) (out : Option Value) (picked : Option Selected) (taken : Option TakenRoute) (pending : List (Option Value))
     → View clock delay false near far out picked taken pending → View clock delay false near new out picked None pending
 far_down clock delay near far new out picked taken pending h = record {
-  leads = λ e. absurd cc; blank = λ e. absurd cc; quiet = h.quiet; off = λ _. refl; past = h.past; timely = λ selected route e. absurd cc; due = λ route e. absurd cc }
+  leads = λ e. absurd cc;
+  blank = λ e. absurd cc;
+  quiet = h.quiet;
+  off = λ _. refl;
+  past = h.past;
+  timely = λ selected route e. absurd cc;
+  due = λ route e. absurd cc;
+}
 
 -- a route whose delay may be over
 abbrev pub run_by : ℕ → ℕ → Bool → TakenRoute → TakenRoute
@@ -176,29 +189,51 @@ pub far_run : (clock delay : ℕ) (joined near far : Bool) (out : Option Value) 
     → View clock delay joined near far out picked taken pending → View clock delay joined near far out picked (option_map (λ route. run_by clock delay (used route) route) taken) pending
 far_run clock delay joined near far out picked None pending used h = h
 far_run clock delay joined near far out picked (Some old) pending used h = record {
-  leads = h.leads; quiet = h.quiet; past = h.past;
+  leads = h.leads;
+  quiet = h.quiet;
+  past = h.past;
   blank = λ a b. (let e = (h.blank a b).1 in absurd cc);
   off = λ a. (let e = h.off a in absurd cc);
   timely = λ selected route a b c e f. (let i : route.since ≡ old.since = cc in let x = h.timely selected old a b c e refl in omega arith);
   due = λ route e r. (let i : route.since ≡ old.since = cc in let j : (old.run || (used old && nat_le (old.since + delay) clock)) ≡ true = cc in
-      let x : old.since + delay ≤ clock = elim (or_cases old.run (used old && nat_le (old.since + delay) clock) j) [ inl z ↦ h.due old refl z | inr z ↦ leb-true (old.since + delay) clock (and_parts (used old) (nat_le (old.since + delay) clock) z).1 ] in omega arith) }
+      let x : old.since + delay ≤ clock = elim (or_cases old.run (used old && nat_le (old.since + delay) clock) j) [ inl z ↦ h.due old refl z | inr z ↦ leb-true (old.since + delay) clock (and_parts (used old) (nat_le (old.since + delay) clock) z).1 ] in omega arith);
+}
 
 -- ---- both sides
 
 pub cut_view : (clock delay : ℕ) (joined near far : Bool) (out : Option Value) (picked : Option Selected) (taken : Option TakenRoute) (pending : List (Option Value))
     → View clock delay joined near far out picked taken pending → View clock delay false near far out picked taken []
 cut_view clock delay joined near far out picked taken pending h = record {
-  leads = λ e. absurd cc; blank = λ e. absurd cc; quiet = λ _. refl; off = h.off; past = h.past; timely = λ selected route e. absurd cc; due = h.due }
+  leads = λ e. absurd cc;
+  blank = λ e. absurd cc;
+  quiet = λ _. refl;
+  off = h.off;
+  past = h.past;
+  timely = λ selected route e. absurd cc;
+  due = h.due;
+}
 
 pub join_view : (clock delay : ℕ) (joined : Bool) (out : Option Value) (picked : Option Selected) (taken : Option TakenRoute) (pending : List (Option Value))
     → View clock delay joined false false out picked taken pending → View clock delay true false false out picked taken pending
 join_view clock delay true out picked taken pending h = h
 join_view clock delay false out picked taken pending h = record {
-  leads = λ _ e. absurd cc; blank = λ _ _. (h.quiet refl, h.off refl); quiet = λ e. absurd cc; off = h.off; past = h.past; timely = λ selected route _ e. absurd cc; due = h.due }
+  leads = λ _ e. absurd cc;
+  blank = λ _ _. (h.quiet refl, h.off refl);
+  quiet = λ e. absurd cc;
+  off = h.off;
+  past = h.past;
+  timely = λ selected route _ e. absurd cc;
+  due = h.due;
+}
 
 pub tick_view : (clock ticks delay : ℕ) (joined near far : Bool) (out : Option Value) (picked : Option Selected) (taken : Option TakenRoute) (pending : List (Option Value))
     → View clock delay joined near far out picked taken pending → View (clock + ticks) delay joined near far out picked taken pending
 tick_view clock ticks delay joined near far out picked taken pending h = record {
-  leads = h.leads; blank = h.blank; quiet = h.quiet; off = h.off; timely = h.timely;
+  leads = h.leads;
+  blank = h.blank;
+  quiet = h.quiet;
+  off = h.off;
+  timely = h.timely;
   past = λ selected e. (let x = h.past selected e in omega arith);
-  due = λ route e r. (let x = h.due route e r in omega arith) }
+  due = λ route e r. (let x = h.due route e r in omega arith);
+}

@@ -1,5 +1,5 @@
 -- The selection of a key changes together with what is told at the key.
-use Rattle.std.proofs.Common.{◌≡◌, ◌≢◌, ℕ, Bool, true, false, cond, ◌&&◌, inl, inr, List, [], ◌∷◌, Option, Some, None, refl, sym, ap, ◌∙◌}
+use Rattle.std.proofs.Common.{◌≡◌, ◌≢◌, ℕ, Bool, true, false, ◌&&◌, inl, inr, List, [], Option, Some, None, refl, ap, ◌∙◌}
 use Rattle.std.proofs.lemmas.Bool.{cond-true, and_parts}
 use Rattle.std.specs.Prelude.{is_some}
 use Rattle.std.specs.FinMap as maps
@@ -14,7 +14,7 @@ use Rattle.edge_defs.specs.Held.{held_for, told}
 use Rattle.edge_defs.specs.Keys.{Value, Table, same_value}
 use Rattle.edge_defs.specs.Place.{EdgePlace, own_vrfs}
 use Rattle.edge_laws.specs.Acts.{is_up}
-use Rattle.edge_laws.specs.Rule.{selected_in, first_selected, selected_at}
+use Rattle.edge_laws.specs.Rule.{selected_in, selected_at}
 use Rattle.edge_laws.proofs.Local.{Picks}
 use Rattle.edge_laws.proofs.Selections.{AllFollow, own_distinct, first_follows, none_selected}
 use Rattle.edge_laws.proofs.Held.{held_has}
@@ -40,11 +40,14 @@ module _ (place : EdgePlace) (old new : Control) (clock : ℕ) (peer : NodeId) (
       let key : Key = Mcast afi (routes.Selective rd source group originator) in
       elim (first_follows place afi rd source group originator clock old new (own_vrfs place) (own_distinct place.me place.scenario.vrfs rules.vrfs.apart 0) follow selected e) [
         | inl before ↦ inl before
-        | inr anew ↦ inr (anew.1, λ both.
-            (let up = and_parts (is_up old peer) (is_up new peer) both in
-            appears (maps.get (told place old peer) key) (maps.get (told place new peer) key)
+        | inr anew ↦ inr (
+          anew.1,
+          λ both.
+              (let up = and_parts (is_up old peer) (is_up new peer) both in
+              appears (maps.get (told place old peer) key) (maps.get (told place new peer) key)
               (ap is_some (told_up place old peer key up.0) ∙ held_has place afi rd source group originator old peer ∙ ap is_some anew.0)
-              (ap is_some (told_up place new peer key up.1) ∙ held_has place afi rd source group originator new peer ∙ ap is_some e)))
+              (ap is_some (told_up place new peer key up.1) ∙ held_has place afi rd source group originator new peer ∙ ap is_some e)),
+        )
       ]
   picks (Mcast afi (routes.Intra rd originator)) selected e = none_at (Mcast afi (routes.Intra rd originator)) (λ own. refl) selected e
   picks (Mcast afi (routes.Inter rd source_as)) selected e = none_at (Mcast afi (routes.Inter rd source_as)) (λ own. refl) selected e

@@ -1,5 +1,5 @@
 -- How the selections of an edge may change, and so the selection whose route has a key.
-use Rattle.std.proofs.Common.{arith, ◌≡◌, ◌≢◌, ℕ, zero, suc, ◌+◌, ◌<◌, ◌≤◌, ◌==◌, Bool, true, false, cond, ◌⊎◌, inl, inr, List, [], ◌∷◌, length, Option, Some, None, refl, sym, ap, subst, ◌∙◌}
+use Rattle.std.proofs.Common.{arith, ◌≡◌, ◌≢◌, ℕ, zero, suc, ◌+◌, ◌≤◌, ◌==◌, Bool, true, false, cond, ◌⊎◌, inl, inr, List, [], ◌∷◌, Option, Some, None, refl, sym, ap, subst, ◌∙◌}
 use Rattle.std.specs.Prelude.{map, option_map, All, AllPairs}
 use Rattle.std.specs.List.{AllByRecursion}
 use Rattle.std.specs.Ordering.{eq_by_cmp}
@@ -15,7 +15,7 @@ use Rattle.mv_base.specs.declared.rd.Rd.{Rd}
 use Rattle.mvpn_nlri.specs.declared.route.Afi.{Afi}
 use Rattle.mvpn_nlri.specs.declared.route.Route.TheVariants as routes
 use Rattle.bgp_attributes.specs.declared.key.Key.{Key}
-use Rattle.bgp_attributes.specs.declared.key.Key.TheVariants.{Mcast, Unicast}
+use Rattle.bgp_attributes.specs.declared.key.Key.TheVariants.{Mcast}
 use Rattle.scenario_defs.specs.declared.scenario.Vrf.{Vrf}
 use Rattle.scenario_defs.specs.Rules.{AreApart}
 use Rattle.table_laws.proofs.CompareLemmas.{equal, one_key}
@@ -53,7 +53,7 @@ selects clock vrf pattern old none own =
     let at : VrfPattern = record { vrf = vrf; pattern = pattern } in
     let new : Selected = record { number = free_number vrf (maps.entries old) (maps.len old) 1; since = clock; run = false } in
     subst (Follows clock (maps.get old own)) (sym (get-insert pattern_total old at new own))
-      (made clock (maps.get old own) new (eq_by_cmp pattern_cmp own at) refl (λ e. sym (get_tied pattern_total old own at (equal (pattern_cmp own at) e)) ∙ none))
+    (made clock (maps.get old own) new (eq_by_cmp pattern_cmp own at) refl (λ e. sym (get_tied pattern_total old own at (equal (pattern_cmp own at) e)) ∙ none))
 
 removed : (clock : ℕ) (old : Option Selected) (b : Bool) → Follows clock old (cond b None old)
 removed clock old true = gone clock old None refl
@@ -83,7 +83,7 @@ pub runs : (clock delay now : ℕ) (old : FinMap pattern_cmp Selected) → AllFo
 runs clock delay now old own =
     subst (Follows clock (maps.get old own))
     (sym (get-from_entries pattern_total (map (λ (entry : VrfPattern × Selected). (entry.0, selection_run delay now entry.1)) (maps.entries old)) own ∙ find_run delay now own (maps.entries old)
-      ∙ ap (option_map (selection_run delay now)) (sym (get-entries old own))))
+    ∙ ap (option_map (selection_run delay now)) (sym (get-entries old own))))
     (runs_one clock delay now (maps.get old own))
 
 pub empties : (clock : ℕ) (old : FinMap pattern_cmp Selected) → AllFollow clock old maps.empty
@@ -147,13 +147,13 @@ module _ (place : EdgePlace) (afi : Afi) (rd : Rd) (source group : Option Addr) 
   first_follows clock old new (own ∷ more) distinct follow =
       let at : VrfPattern = record { vrf = own.id; pattern = pattern } in
       elim (is_of own) as (λ b. is_of own ≡ b →
-        Follows clock (elim (cond b (maps.get old.selections at) None) [ None ↦ first_selected place old route_key more | Some found ↦ Some found ])
-          (elim (cond b (maps.get new.selections at) None) [ None ↦ first_selected place new route_key more | Some found ↦ Some found ])) [
+      Follows clock (elim (cond b (maps.get old.selections at) None) [ None ↦ first_selected place old route_key more | Some found ↦ Some found ])
+      (elim (cond b (maps.get new.selections at) None) [ None ↦ first_selected place new route_key more | Some found ↦ Some found ])) [
         | false ↦ λ e. first_follows clock old new more distinct.1 follow
         | true ↦ λ e.
             (let h : Follows clock (elim (maps.get old.selections at) [ None ↦ None | Some found ↦ Some found ]) (elim (maps.get new.selections at) [ None ↦ None | Some found ↦ Some found ]) =
-                subst (λ o. Follows clock o (elim (maps.get new.selections at) [ None ↦ None | Some found ↦ Some found ])) (sym (or_none (maps.get old.selections at)))
-                (subst (Follows clock (maps.get old.selections at)) (sym (or_none (maps.get new.selections at))) (follow at)) in
+            subst (λ o. Follows clock o (elim (maps.get new.selections at) [ None ↦ None | Some found ↦ Some found ])) (sym (or_none (maps.get old.selections at)))
+            (subst (Follows clock (maps.get old.selections at)) (sym (or_none (maps.get new.selections at))) (follow at)) in
             subst (λ o. Follows clock (elim (maps.get old.selections at) [ None ↦ o | Some found ↦ Some found ]) (elim (maps.get new.selections at) [ None ↦ first_selected place new route_key more | Some found ↦ Some found ])) (sym (none_among old own e more distinct.0))
             (subst (λ o. Follows clock (elim (maps.get old.selections at) [ None ↦ None | Some found ↦ Some found ]) (elim (maps.get new.selections at) [ None ↦ o | Some found ↦ Some found ])) (sym (none_among new own e more distinct.0)) h))
       ] refl

@@ -1,5 +1,5 @@
 -- Sessions are lost, joined and raised, edges restart, and time passes.
-use Rattle.std.proofs.Common.{◌≡◌, ◌≢◌, ℕ, ◌+◌, ◌==◌, Bool, true, false, not, cond, ◌&&◌, ◌||◌, ◌⊎◌, inl, inr, List, [], ◌∷◌, ◌++◌, Option, Some, None, refl, sym, ap, subst, ◌∙◌}
+use Rattle.std.proofs.Common.{◌≡◌, ◌≢◌, ℕ, ◌+◌, ◌==◌, Bool, true, false, not, cond, ◌&&◌, ◌||◌, ◌⊎◌, inl, inr, List, [], Option, refl, sym, ap, ◌∙◌}
 use Rattle.std.proofs.lemmas.Bool.{and_parts, or_cases}
 use Rattle.std.specs.Prelude.{is_some}
 use Rattle.std.specs.FinMap as maps
@@ -10,7 +10,7 @@ use Rattle.scenario_defs.specs.declared.event.Kind.TheVariants as kinds
 use Rattle.table_defs.specs.declared.change.Change.{Change}
 use Rattle.table_defs.specs.Changes.{values_at}
 use Rattle.label_defs.specs.Keys.{node_cmp}
-use Rattle.label_defs.proofs.KeyLemmas.{node_equal, node_itself, node_cases}
+use Rattle.label_defs.proofs.KeyLemmas.{node_equal, node_itself}
 use Rattle.edge_defs.specs.Edge.{Taken, Control, no_control}
 use Rattle.edge_defs.specs.Held.{told}
 use Rattle.edge_defs.specs.Imported.{taken_from}
@@ -54,7 +54,7 @@ at_turned a u v = or_turned (u.0 == a.0) (v.0 == a.0)
 
 cut_at : (network : EdgeNetwork) (u v : NodeId) (key : Key) (joined hit : Bool) (transit : List (Change Key Value)) → (network.direction u v).joined ≡ joined → (network.direction u v).transit ≡ transit → ViewAt network u v key
     → View network.clock network.scenario.delay (joined && not hit) (is_up (network.node u) v) (is_up (network.node v) u) (maps.get (told (place_of network u) (network.node u) v) key)
-      (selected_at (place_of network u) (network.node u) key) (maps.get (taken_from (network.node v) u) key) (values_at key_cmp key (cond hit [] transit))
+    (selected_at (place_of network u) (network.node u) key) (maps.get (taken_from (network.node v) u) key) (values_at key_cmp key (cond hit [] transit))
 cut_at network u v key true false transit e f view = along (sym e) refl refl refl refl refl (ap (values_at key_cmp key) (sym f)) view
 cut_at network u v key false false transit e f view = along (sym e) refl refl refl refl refl (ap (values_at key_cmp key) (sym f)) view
 cut_at network u v key true true transit e f view = cut_view _ _ _ _ _ _ _ _ _ view
@@ -83,7 +83,7 @@ notice_rule network a b false true e rule = (let off = none_left (network.direct
 
 join_at : (network : EdgeNetwork) (u v : NodeId) (key : Key) (joined hit : Bool) → (network.direction u v).joined ≡ joined → (hit ≡ true → (is_up (network.node u) v ≡ false) × (is_up (network.node v) u ≡ false)) → ViewAt network u v key
     → View network.clock network.scenario.delay (joined || hit) (is_up (network.node u) v) (is_up (network.node v) u) (maps.get (told (place_of network u) (network.node u) v) key)
-      (selected_at (place_of network u) (network.node u) key) (maps.get (taken_from (network.node v) u) key) (values_at key_cmp key (network.direction u v).transit)
+    (selected_at (place_of network u) (network.node u) key) (maps.get (taken_from (network.node v) u) key) (values_at key_cmp key (network.direction u v).transit)
 join_at network u v key true hit e off view = along (sym e) refl refl refl refl refl refl view
 join_at network u v key false false e off view = along (sym e) refl refl refl refl refl refl view
 join_at network u v key false true e off view =
@@ -154,17 +154,17 @@ module _ (network : EdgeNetwork) (n : NodeId) (rule : Rule network) where
   near : (b : NodeId) (key : Key) → n ≢ b → NearView cut n no_control b key
   near b key ne =
       along (off_from b) refl refl refl refl refl refl
-        (near_view network.clock network.scenario.delay false (is_up (network.node n) b) (is_up no_control b) (is_up (network.node b) n) (maps.get (told (place_of network n) (network.node n) b) key)
-          (maps.get (told (place_of network n) no_control b) key) (selected_at (place_of network n) (network.node n) key) (selected_at (place_of network n) no_control key)
-          (maps.get (taken_from (network.node b) n) key) (values_at key_cmp key (cut.direction n b).transit) []
-          (picks (place_of network n) (network.node n) no_control network.clock b rule.scenario (empties network.clock (network.node n).selections) key) (told_down network n (network.node n) b key)
-          (λ e. (let f = down b in absurd cc)) (λ e. refl) (λ e. inr refl)
-          (along (sym (off_from b)) refl refl refl refl refl refl (cut_kept.view n b key ne)))
+      (near_view network.clock network.scenario.delay false (is_up (network.node n) b) (is_up no_control b) (is_up (network.node b) n) (maps.get (told (place_of network n) (network.node n) b) key)
+      (maps.get (told (place_of network n) no_control b) key) (selected_at (place_of network n) (network.node n) key) (selected_at (place_of network n) no_control key)
+      (maps.get (taken_from (network.node b) n) key) (values_at key_cmp key (cut.direction n b).transit) []
+      (picks (place_of network n) (network.node n) no_control network.clock b rule.scenario (empties network.clock (network.node n).selections) key) (told_down network n (network.node n) b key)
+      (λ e. (let f = down b in absurd cc)) (λ e. refl) (λ e. inr refl)
+      (along (sym (off_from b)) refl refl refl refl refl refl (cut_kept.view n b key ne)))
 
   far : (a : NodeId) (key : Key) → a ≢ n → FarView cut n no_control a key
   far a key ne =
       along (off_to a) refl refl refl refl (ap (λ (o : Option Taken). maps.get (table_in o) key) (get-empty node_cmp a) ∙ get-empty key_cmp key) refl
-        (far_down _ _ _ _ (is_up no_control a) _ _ _ _ (along (sym (off_to a)) refl refl refl refl refl refl (cut_kept.view a n key ne)))
+      (far_down _ _ _ _ (is_up no_control a) _ _ _ _ (along (sym (off_to a)) refl refl refl refl refl refl (cut_kept.view a n key ne)))
 
   pub restart_rule : Rule (record cut { node = at_node n no_control cut.node })
   restart_rule = record {

@@ -1,7 +1,7 @@
 -- What the rule says of whole tables.
-use Rattle.std.proofs.Common.{◌≡◌, ◌≢◌, Bool, true, false, cond, List, [], ◌∷◌, ◌++◌, Option, Some, None, refl, sym, ap, subst, ◌∙◌}
+use Rattle.std.proofs.Common.{◌≡◌, ◌≢◌, Bool, true, false, cond, List, [], ◌∷◌, ◌++◌, Option, Some, refl, sym, ap, subst, ◌∙◌}
 use Rattle.std.proofs.lemmas.Bool.{cond-true}
-use Rattle.std.specs.Prelude.{map, option_map}
+use Rattle.std.specs.Prelude.{map}
 use Rattle.std.specs.Ordering.{eq_by_cmp}
 use Rattle.std.specs.FinMap as maps
 use Rattle.std.specs.FinMap.{find, get-entries, get-from_entries}
@@ -37,7 +37,7 @@ pub tables_lead : (network : EdgeNetwork) (a b : NodeId) → Rule network → a 
 tables_lead network a b rule ne joined up key =
     subst (λ value. Leads value (values_at key_cmp key (network.direction a b).transit) (maps.get (held_for (place_of network a) (network.node a) b) key)) (sym (get-taken_values (network.node b) a key))
     (subst (λ (table : Table). Leads (value_in (maps.get (taken_from (network.node b) a) key)) (values_at key_cmp key (network.direction a b).transit) (maps.get table key))
-      (cond-true (is_up (network.node a) b) (held_for (place_of network a) (network.node a) b) maps.empty up) ((rule.view a b key ne).leads joined up))
+    (cond-true (is_up (network.node a) b) (held_for (place_of network a) (network.node a) b) maps.empty up) ((rule.view a b key ne).leads joined up))
 
 pub tables_reached : (network : EdgeNetwork) (a b : NodeId) → Rule network → a ≢ b → (network.direction a b).joined ≡ true → is_up (network.node a) b ≡ true →
     applied_all (taken_values (network.node b) a) (network.direction a b).transit ≡ held_for (place_of network a) (network.node a) b

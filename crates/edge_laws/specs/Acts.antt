@@ -1,5 +1,5 @@
 -- What may happen in a network of edges, and its runs (RFC 4271 section 3.1; RFC 6514).
-use Rattle.std.specs.Prelude.{ℕ, ◌+◌, ◌==◌, ◌&&◌, ◌||◌, not, Bool, true, false, List, [], ◌∷◌, is_some, Option, Some, None, if◌then◌else◌}
+use Rattle.std.specs.Prelude.{ℕ, ◌+◌, ◌==◌, ◌&&◌, ◌||◌, not, Bool, true, false, List, [], ◌∷◌, is_some, if◌then◌else◌}
 use Rattle.std.specs.FinMap as maps
 use Rattle.mv_base.specs.declared.addr.Addr.{Addr}
 use Rattle.mv_base.specs.declared.ids.IfaceId.{IfaceId}

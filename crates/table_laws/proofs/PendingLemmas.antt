@@ -12,7 +12,7 @@ use Rattle.table_laws.proofs.TableLemmas.{get-applied, get-applied_all}
 use Rattle.table_laws.proofs.KeyLemmas.{values_at-append, values_at-changes}
 
 module _ {V : Type 0} where
-  leads_on : (from middle to : Option V) (front behind : List (Option V)) → Leads from front middle → Leads middle behind to → Leads from (front ++ behind) to
+  pub leads_on : (from middle to : Option V) (front behind : List (Option V)) → Leads from front middle → Leads middle behind to → Leads from (front ++ behind) to
   leads_on from middle to [] behind h i = subst (λ value. Leads value behind to) (sym h) i
   leads_on from middle to (value ∷ front) behind h i = (h.0, leads_on value middle to front behind h.1 i)
 
@@ -32,7 +32,7 @@ module _ {V : Type 0} where
   other_value same is value next e i = (let own : value ≡ next = cc in let j = (is value next).1 own in absurd cc)
 
   -- the difference of two values leads from the one to the other
-  difference_leads : (same : V → V → Bool) → IsExact same → (old new : Option V) → Leads old (difference same old new) new
+  pub difference_leads : (same : V → V → Bool) → IsExact same → (old new : Option V) → Leads old (difference same old new) new
   difference_leads same is None None = refl
   difference_leads same is (Some value) None = (λ e. absurd cc, refl)
   difference_leads same is None (Some next) = (λ e. absurd cc, refl)

@@ -1,0 +1,12 @@
+pub mod Local
+pub mod Selections
+pub mod Held
+pub mod Picks
+pub mod Frames
+pub mod Taken
+pub mod Steps
+pub mod Deliver
+pub mod Sessions
+pub mod Runs
+pub mod Start
+pub mod Tables

@@ -225,10 +225,6 @@ def update_written(change):
     return message_text(attributes_of(change))
 
 
-def update_of(change):
-    return Update((change.advert,), ()) if isinstance(change, Reach) else Update((), (change.key,))
-
-
 # ---- label messages (RFC 5036 sections 3.1 and 3.5)
 
 @dataclass(frozen=True)

@@ -1,0 +1,118 @@
+"""The nodes of a network, what they do with messages and at calls, and what their steps put (world_defs: Nodes, System, Puts).
+A node's state is an `EdgeData`, or the `LabelData` of a core node."""
+
+from dataclasses import dataclass, replace
+
+from . import labels, place as edge_place
+from .base import flat_map, slice_get
+from .held import put_to
+from .label_steps import effect, label_step, next_id
+from .octets import Update, Other, pdu_written, update_written
+from .place import EdgeData, EdgePlace, addr_of, label_place
+from .scenario import Core, Scenario, edges
+from .sessions import Direction, Put, Stepped, System
+from .steps import LabelStep, edge_step, own_label_call
+
+
+@dataclass(frozen=True)
+class Nodes:
+    scenario: Scenario
+    core: Core
+    clock: int
+    node: tuple
+
+
+def is_edge(scenario, number):
+    found = slice_get(scenario.nodes, number)
+    return found is not None and found.edge
+
+
+def fresh_node(scenario, number):
+    return edge_place.fresh(scenario.labels) if is_edge(scenario, number) else labels.fresh(scenario.labels)
+
+
+def start_nodes(scenario, core):
+    return Nodes(scenario, core, 0, tuple(fresh_node(scenario, number) for number in range(len(scenario.nodes))))
+
+
+def with_node(nodes, at, new):
+    return replace(nodes, node=nodes.node[:at] + (new,) + nodes.node[at + 1:])
+
+
+def place_of(nodes, number):
+    return EdgePlace(nodes.scenario, nodes.core, number)
+
+
+def part_of(state):
+    return state.part if isinstance(state, EdgeData) else state
+
+
+# ---- what steps put
+
+def bgp_puts(place, old, new):
+    """Each change of a table goes in an UPDATE message of its own."""
+    return flat_map(
+        lambda peer: [Put(Direction('bgp', place.me, peer), update_written(change)) for change in put_to(place, old, new, peer)],
+        edges(place.scenario))
+
+
+def numbered_puts(me, addr, ids, puts):
+    """Each label message goes in a PDU of its own; the ids to each neighbour grow by one."""
+    found = ()
+    for put in puts:
+        number = ids.get(put.to)
+        if number is not None:
+            found += (Put(Direction('ldp', me, put.to), pdu_written(addr, number, put.message)),)
+            ids = ids.insert(put.to, next_id(number))
+    return found
+
+
+def label_puts(me, addr, place, now, step):
+    own, _ = effect(place, now, step.old, step.call)
+    return numbered_puts(me, addr, own.part.ids, step.new.puts)
+
+
+# ---- steps of a node
+
+def puts_of(nodes, number, row):
+    at = label_place(nodes.scenario, nodes.core, number)
+    return flat_map(lambda step: label_puts(number, addr_of(nodes.scenario, number), at, nodes.clock, step), row)
+
+
+def edge_stepped(nodes, number, edge, call):
+    new = edge_step(place_of(nodes, number), nodes.clock, edge, call)
+    if new is None:
+        return None
+    puts = bgp_puts(place_of(nodes, number), edge.control, new.edge.control) + puts_of(nodes, number, new.row)
+    return Stepped(with_node(nodes, number, new.edge), puts)
+
+
+def core_stepped(nodes, number, part, call):
+    new = label_step(label_place(nodes.scenario, nodes.core, number), nodes.clock, part, call)
+    return None if new is None else Stepped(with_node(nodes, number, new.part), puts_of(nodes, number, (LabelStep(part, call, new),)))
+
+
+def node_called(nodes, number, call):
+    state = nodes.node[number]
+    if isinstance(state, EdgeData):
+        return edge_stepped(nodes, number, state, call)
+    own = own_label_call(call)
+    return Stepped(nodes, ()) if own is None else core_stepped(nodes, number, state, own)
+
+
+def call_of(sender, message):
+    return ('update' if isinstance(message, (Update, Other)) else 'label', sender, message)
+
+
+def nodes_called(call, nodes):
+    """Calls are 'own' node call, 'elapse' ticks, and 'reset' node."""
+    match call:
+        case ('own', number, own):
+            return node_called(nodes, number, own)
+        case ('elapse', ticks):
+            return Stepped(replace(nodes, clock=nodes.clock + ticks), ())
+        case ('reset', number):
+            return Stepped(with_node(nodes, number, fresh_node(nodes.scenario, number)), ())
+
+
+SYSTEM = System(lambda direction, message, nodes: node_called(nodes, direction.end, call_of(direction.start, message)), nodes_called)

@@ -41,12 +41,12 @@ events
 '''
 
 # the same, and a second customer with the same addresses
-TWO_CUSTOMERS = TWO_EDGES.replace('events\n', '''vrf W1 E1 2 65000:2 65000:2 highest
-vrf W2 E2 2 65000:2 65000:2 highest
+TWO_CUSTOMERS = TWO_EDGES.replace('events\n', '''vrf V3 E1 2 65000:2 65000:2 highest
+vrf V4 E2 2 65000:2 65000:2 highest
 site P 10.1.0.0/24
 site Q 10.2.0.0/24
-iface P1 W1 P 10.1.0.1
-iface Q1 W2 Q 10.2.0.1
+iface P1 V3 P 10.1.0.1
+iface Q1 V4 Q 10.2.0.1
 events
 ''')
 
@@ -196,7 +196,7 @@ CASES = [
     Case(
         'a label that is used again', TWO_CUSTOMERS,
         'begin; join Y1 FLOW; join Q1 FLOW; settle; select V1 FLOW; settle; tick 3; settle; send X FLOW aabb; hop E1 C 1; unselect V1 FLOW; '
-        'settle; select W1 FLOW; settle; state; hop C E2 1; state; send X FLOW aabb; drain',
+        'settle; select V3 FLOW; settle; state; hop C E2 1; state; send X FLOW aabb; drain',
         'state 0 1 1 0 0; state 0 0 0 0 0; out 2 Y1 PACKET'),
     Case(
         'a node that restarts', TWO_EDGES,

@@ -24,7 +24,7 @@ appears None None e f none = absurd cc
 appears None (Some value) e f none = absurd cc
 appears (Some value) new e f none = absurd cc
 
-told_up : (place : EdgePlace) (control : Control) (peer : NodeId) (key : Key) → is_up control peer ≡ true → maps.get (told place control peer) key ≡ maps.get (held_for place control peer) key
+pub told_up : (place : EdgePlace) (control : Control) (peer : NodeId) (key : Key) → is_up control peer ≡ true → maps.get (told place control peer) key ≡ maps.get (held_for place control peer) key
 told_up place control peer key up = ap (λ (table : Table). maps.get table key) (cond-true (is_up control peer) (held_for place control peer) maps.empty up)
 
 no_pick : (clock : ℕ) (near : Bool) (old new : Option Selected) (change : List (Option Value)) → new ≡ None → Picks clock near old new change

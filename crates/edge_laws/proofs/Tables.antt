@@ -27,7 +27,7 @@ find_values : (key : Key) (es : List (Key × TakenRoute)) → find key_cmp key (
 find_values key [] = refl
 find_values key (e ∷ es) = ap (cond (eq_by_cmp key_cmp key e.0) (Some e.1.value)) (find_values key es) ∙ value_head (eq_by_cmp key_cmp key e.0) e.1 (find key_cmp key es)
 
-get-taken_values : (control : Control) (peer : NodeId) (key : Key) → maps.get (taken_values control peer) key ≡ value_in (maps.get (taken_from control peer) key)
+pub get-taken_values : (control : Control) (peer : NodeId) (key : Key) → maps.get (taken_values control peer) key ≡ value_in (maps.get (taken_from control peer) key)
 get-taken_values control peer key =
     get-from_entries key_total (map (λ (entry : Key × TakenRoute). (entry.0, entry.1.value)) (maps.entries (taken_from control peer))) key
     ∙ find_values key (maps.entries (taken_from control peer)) ∙ ap value_in (sym (get-entries (taken_from control peer) key))

@@ -30,11 +30,11 @@ def branches_of(part, fec):
 
 # ---- a datagram that enters
 
-def is_site(site, upstream):
+def is_from_site(site, upstream):
     return isinstance(upstream, Site) and upstream.site == site
 
 
-def is_edge(edge, upstream):
+def is_from_edge(edge, upstream):
     return isinstance(upstream, Remote) and upstream.edge == edge
 
 
@@ -43,8 +43,8 @@ def is_outside(scenario, site, iface):
     return found is not None and not is_of_site(site, found)
 
 
-def entered(place, now, edge, own, site, source, group):
-    if not is_site(site, upstream_for(place, edge.control, own, source)):
+def entering_fate(place, now, edge, own, site, source, group):
+    if not is_from_site(site, upstream_for(place, edge.control, own, source)):
         return DISCARDED
     outs = tuple(iface for iface in asking_ifaces(place, now, edge.control, own, source, group) if is_outside(place.scenario, site, iface))
     is_sent_on = is_joined_in(place, edge.control, own, source, group)
@@ -70,21 +70,21 @@ def is_imported_from(place, own, fec, peer, taken):
     return any(is_route_of(place, own, peer, fec, entry) for entry in taken.entries)
 
 
-def delivered_from(place, now, control, own, fec, source, group, peer, taken):
+def outs_from(place, now, control, own, fec, source, group, peer, taken):
     """Delivered at a VRF that imports a route of the tunnel, where its upstream for the source is the tunnel's root."""
-    if is_imported_from(place, own, fec, peer, taken) and is_edge(peer, upstream_for(place, control, own, source)):
+    if is_imported_from(place, own, fec, peer, taken) and is_from_edge(peer, upstream_for(place, control, own, source)):
         return asking_ifaces(place, now, control, own, source, group)
     return ()
 
 
-def delivered_at(place, now, control, fec, source, group, own):
-    return flat_map(lambda peer: delivered_from(place, now, control, own, fec, source, group, *peer), control.peers.entries)
+def outs_at(place, now, control, fec, source, group, own):
+    return flat_map(lambda peer: outs_from(place, now, control, own, fec, source, group, *peer), control.peers.entries)
 
 
-def delivered(place, now, edge, fec, source, group):
+def outs_of(place, now, edge, fec, source, group):
     if not edge.part.leaves.contains(fec):
         return ()
-    return flat_map(lambda own: delivered_at(place, now, edge.control, fec, source, group, own), own_vrfs(place))
+    return flat_map(lambda own: outs_at(place, now, edge.control, fec, source, group, own), own_vrfs(place))
 
 
 def tree_of(sender, usage):
@@ -92,11 +92,11 @@ def tree_of(sender, usage):
     return usage.fec if isinstance(usage, Mapped) and usage.upstream == sender else None
 
 
-def arrived(place, now, edge, sender, label, source, group):
+def arriving_fate(place, now, edge, sender, label, source, group):
     fec = tree_of(sender, use_of(edge.part, label))
     if fec is None:
         return DISCARDED
-    return Fate(delivered(place, now, edge, fec, source, group), branches_of(edge.part, fec))
+    return Fate(outs_of(place, now, edge, fec, source, group), branches_of(edge.part, fec))
 
 
 # ---- timers that are due

@@ -5,7 +5,7 @@ from dataclasses import dataclass, replace
 
 from . import datagrams, labels, report
 from .base import flat_map, slice_get
-from .datagrams import DISCARDED, Fate, arrived, branches_of, entered, tree_of
+from .datagrams import DISCARDED, Fate, arriving_fate, branches_of, entering_fate, tree_of
 from .labels import use_of
 from .nodes import SYSTEM, part_of, place_of, start_nodes
 from .place import EdgeData, OwnVrf, label_place
@@ -196,7 +196,7 @@ def entering(world, number):
     state = None if vrf is None else world.network.state.node[vrf.edge]
     if datagram is None or not isinstance(state, EdgeData):
         return Acted(world, ())
-    fate = entered(
+    fate = entering_fate(
         place_of(world.network.state, vrf.edge), clock_of(world), state, OwnVrf(number, vrf), datagram.site, datagram.source, datagram.group)
     return fated(world, vrf.edge, 255, len(world.datagrams), datagram.octets, (), fate)
 
@@ -204,7 +204,7 @@ def entering(world, number):
 def fate_at(world, number, sender, label, datagram):
     state = world.network.state.node[number]
     if isinstance(state, EdgeData):
-        return arrived(place_of(world.network.state, number), clock_of(world), state, sender, label, datagram.source, datagram.group)
+        return arriving_fate(place_of(world.network.state, number), clock_of(world), state, sender, label, datagram.source, datagram.group)
     fec = tree_of(sender, use_of(state, label))
     return DISCARDED if fec is None else Fate((), branches_of(state, fec))
 

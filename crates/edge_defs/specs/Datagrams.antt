@@ -38,13 +38,13 @@ branches_of part fec = filter (λ branch. same_fec branch.fec fec) (sets.items p
 -- ---- a datagram that enters
 
 -- whether the upstream is that site, and whether it is that edge
-abbrev pub is_site : SiteId → Option Upstream → Bool
-is_site site (Some (Site own)) = own.0 == site.0
-is_site site other = false
+abbrev pub is_from_site : SiteId → Option Upstream → Bool
+is_from_site site (Some (Site own)) = own.0 == site.0
+is_from_site site other = false
 
-abbrev pub is_edge : NodeId → Option Upstream → Bool
-is_edge edge (Some (Remote own rd import source_as)) = own.0 == edge.0
-is_edge edge other = false
+abbrev pub is_from_edge : NodeId → Option Upstream → Bool
+is_from_edge edge (Some (Remote own rd import source_as)) = own.0 == edge.0
+is_from_edge edge other = false
 
 -- whether the interface belongs to another site
 abbrev pub is_outside : Scenario → SiteId → IfaceId → Bool
@@ -52,9 +52,9 @@ is_outside scenario site iface = elim (slice_get scenario.ifaces iface.0) [ None
 
 -- A datagram of a site enters at a VRF only where the VRF's upstream for its source is that site. It leaves at each interface outside
 -- the site that asks for it; and where another edge has joined the flow, a copy goes on each branch of the tunnel that is transmitted on.
-abbrev pub entered : EdgePlace → ℕ → EdgeData → OwnVrf → SiteId → Addr → Addr → Fate
-entered place now edge own site source group =
-    if is_site site (upstream_for place edge.control own source)
+abbrev pub entering_fate : EdgePlace → ℕ → EdgeData → OwnVrf → SiteId → Addr → Addr → Fate
+entering_fate place now edge own site source group =
+    if is_from_site site (upstream_for place edge.control own source)
     then record {
       outs = filter (is_outside place.scenario site) (asking_ifaces place now edge.control own source group);
       branches = if is_joined_in place edge.control own source group then branches_of edge.part (transmit_tunnel place edge.control own source group) else [];
@@ -82,17 +82,17 @@ is_imported_from place own fec peer = list_any (is_route_of place own peer.0 fec
 
 -- The copy is delivered at a VRF that imports a route of the tunnel, where the VRF's upstream for the source is the tunnel's root: it
 -- leaves at each interface that asks for it.
-abbrev pub delivered_from : EdgePlace → ℕ → Control → OwnVrf → Fec → Addr → Addr → NodeId × Taken → List IfaceId
-delivered_from place now control own fec source group peer =
-    if is_imported_from place own fec peer && is_edge peer.0 (upstream_for place control own source) then asking_ifaces place now control own source group else []
+abbrev pub outs_from : EdgePlace → ℕ → Control → OwnVrf → Fec → Addr → Addr → NodeId × Taken → List IfaceId
+outs_from place now control own fec source group peer =
+    if is_imported_from place own fec peer && is_from_edge peer.0 (upstream_for place control own source) then asking_ifaces place now control own source group else []
 
-abbrev pub delivered_at : EdgePlace → ℕ → Control → Fec → Addr → Addr → OwnVrf → List IfaceId
-delivered_at place now control fec source group own = flat_map (delivered_from place now control own fec source group) (maps.entries control.peers)
+abbrev pub outs_at : EdgePlace → ℕ → Control → Fec → Addr → Addr → OwnVrf → List IfaceId
+outs_at place now control fec source group own = flat_map (outs_from place now control own fec source group) (maps.entries control.peers)
 
 -- at a leaf, VRF by VRF
-abbrev pub delivered : EdgePlace → ℕ → EdgeData → Fec → Addr → Addr → List IfaceId
-delivered place now edge fec source group =
-    if sets.contains edge.part.leaves fec then flat_map (delivered_at place now edge.control fec source group) (own_vrfs place) else []
+abbrev pub outs_of : EdgePlace → ℕ → EdgeData → Fec → Addr → Addr → List IfaceId
+outs_of place now edge fec source group =
+    if sets.contains edge.part.leaves fec then flat_map (outs_at place now edge.control fec source group) (own_vrfs place) else []
 
 -- the tree to which a label is mapped towards the neighbour that a copy came from
 abbrev pub tree_of : NodeId → Option LabelUse → Option Fec
@@ -101,8 +101,8 @@ tree_of from other = None
 
 -- A copy under a label that is mapped towards the neighbour from which it came is delivered at a leaf, and goes on each branch of the
 -- tree. Any other is discarded.
-abbrev pub arrived : EdgePlace → ℕ → EdgeData → NodeId → ℕ → Addr → Addr → Fate
-arrived place now edge from label source group = elim (tree_of from (use_of edge.part label)) [
+abbrev pub arriving_fate : EdgePlace → ℕ → EdgeData → NodeId → ℕ → Addr → Addr → Fate
+arriving_fate place now edge from label source group = elim (tree_of from (use_of edge.part label)) [
   | None ↦ discarded
-  | Some fec ↦ record { outs = delivered place now edge fec source group; branches = branches_of edge.part fec }
+  | Some fec ↦ record { outs = outs_of place now edge fec source group; branches = branches_of edge.part fec }
 ]

@@ -15,7 +15,7 @@ use Rattle.session_defs.specs.Octets as octets
 use Rattle.session_defs.specs.Octets.{OctetAct, octet_run}
 use Rattle.session_defs.specs.System.{Put, Behind, octets_over}
 use Rattle.session_defs.specs.declared.direction.Direction.{Direction}
-use Rattle.edge_defs.specs.Datagrams.{Fate, discarded, branches_of, tree_of, entered, arrived}
+use Rattle.edge_defs.specs.Datagrams.{Fate, discarded, branches_of, tree_of, entering_fate, arriving_fate}
 use Rattle.edge_defs.specs.Place.{OwnVrf}
 use Rattle.edge_defs.specs.Steps as steps
 use Rattle.world_defs.specs.Counts.{direction, directions, state_line}
@@ -108,7 +108,7 @@ datagram_at world number = slice_get world.datagrams (number - 1)
 -- the last datagram enters at a VRF of an edge
 abbrev pub enters_at : World → OwnVrf → NodeState → Datagram → Acted
 enters_at world own (Edge edge) datagram =
-    fated world own.vrf.edge 255 (length world.datagrams) datagram.octets [] (entered (place_of world.network.state own.vrf.edge) (clock_of world) edge own datagram.site datagram.source datagram.group)
+    fated world own.vrf.edge 255 (length world.datagrams) datagram.octets [] (entering_fate (place_of world.network.state own.vrf.edge) (clock_of world) edge own datagram.site datagram.source datagram.group)
 enters_at world own (CoreNode part) datagram = record { world = world; lines = [] }
 
 abbrev pub entering : World → VrfId → Option Vrf → Option Datagram → Acted
@@ -117,7 +117,7 @@ entering world id vrf datagram = record { world = world; lines = [] }
 
 -- what a node does with a copy of a datagram that comes from a neighbour under a label
 abbrev pub fate_at : World → NodeId → NodeState → NodeId → ℕ → Datagram → Fate
-fate_at world n (Edge edge) from label datagram = arrived (place_of world.network.state n) (clock_of world) edge from label datagram.source datagram.group
+fate_at world n (Edge edge) from label datagram = arriving_fate (place_of world.network.state n) (clock_of world) edge from label datagram.source datagram.group
 fate_at world n (CoreNode part) from label datagram = elim (tree_of from (use_of part label)) [ None ↦ discarded | Some fec ↦ record { outs = []; branches = branches_of part fec } ]
 
 -- a copy whose TTL is 1 is not sent on
@@ -147,7 +147,7 @@ abbrev pub with_aged : Result Acted NodeId → Result Acted NodeId
 with_aged (Err node) = Err node
 with_aged (Ok new) = Ok (record new { world = aged new.world })
 
--- the network behind an act, or the node that lacks a label
+-- The network behind an act, or the node that lacks a label. Time passes at no node, and never lacks one.
 abbrev pub act : World → Act → Result Acted NodeId
 act world (Tick ticks) = with_aged (at_node world (record { 0 = 0 }) [] (octets.Call (Elapse ticks) ∷ []))
 act world (Timers n) = at_node world n [] (octets.Call (Own n steps.Timers) ∷ [])

@@ -1,1 +1,5 @@
 pub mod OneRun
+pub mod Nothing
+pub mod Idle
+pub mod Small
+pub mod Example

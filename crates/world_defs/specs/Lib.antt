@@ -9,3 +9,4 @@ pub mod Acts
 pub mod Events
 pub mod Run
 pub mod Local
+pub mod Example

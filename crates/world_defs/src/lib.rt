@@ -4,4 +4,4 @@
 
 mod laws;
 
-pub use laws::{a_refused_event_changes_nothing, a_script_has_one_run};
+pub use laws::{a_refused_event_changes_nothing, a_script_has_one_run, label_sessions_come_up};

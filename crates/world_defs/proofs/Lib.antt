@@ -2,4 +2,6 @@ pub mod OneRun
 pub mod Nothing
 pub mod Idle
 pub mod Small
+pub mod Readings
+pub mod Comings
 pub mod Example

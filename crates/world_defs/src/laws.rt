@@ -11,7 +11,8 @@ ghost use Rattle.world_defs.specs.Refusals.{refusal};
 ghost use Rattle.world_defs.specs.Run.{Traced, Run, outcome};
 ghost use Rattle.world_defs.specs.World.{World};
 
-/// A script has at most one run: what happens in it, and the network behind it, are told by the script and the core.
+/// Events have at most one run from the start of a network: the scenario, the core and the events tell what happens in them, and the
+/// network behind them.
 pub fn a_script_has_one_run()
     ensures { (core : Core) (script : Script) (events : List Timed) (trace other : List Traced) (new last : World) → Run core script events trace new → Run core script events other last → (trace ≡ other) × (new ≡ last) }
 {}

@@ -1,10 +1,6 @@
 -- Two edges and a core node between them: their LDP sessions come up, and one of them is lost.
-use Rattle.std.specs.Prelude.{ℕ, ◌==◌, ◌||◌, true, false, List, [], ◌∷◌, Option, None, Some, if◌then◌else◌}
-use Rattle.mv_base.specs.declared.addr.Addr.TheVariants.{V4}
+use Rattle.std.specs.Prelude.{ℕ, List, [], ◌∷◌, None, Some}
 use Rattle.mv_base.specs.declared.ids.NodeId.{NodeId}
-use Rattle.mv_base.specs.declared.rd.Rd.{Rd}
-use Rattle.mv_base.specs.declared.rd.Rule.TheVariants.{Highest}
-use Rattle.route_targets.specs.declared.communities.Target.{Target}
 use Rattle.scenario_defs.specs.declared.event.Event.{Event}
 use Rattle.scenario_defs.specs.declared.event.Event.TheVariants as events
 use Rattle.scenario_defs.specs.declared.event.Kind.TheVariants.{Ldp}
@@ -13,6 +9,7 @@ use Rattle.scenario_defs.specs.declared.report.Refusal.TheVariants as refusals
 use Rattle.scenario_defs.specs.declared.report.ReportLine.{ReportLine}
 use Rattle.scenario_defs.specs.declared.report.ReportLine.TheVariants as lines
 use Rattle.scenario_defs.specs.declared.scenario.Scenario.{Scenario}
+use Rattle.edge_defs.specs.Example as edges
 use Rattle.edge_defs.specs.Place.{Core}
 use Rattle.world_defs.specs.Acts.{Act, Tick, Timers, Lose, Notice, RaiseFirst, RaiseSecond, Tell}
 use Rattle.world_defs.specs.Run.{Traced, Runs}
@@ -21,57 +18,20 @@ use Rattle.world_defs.specs.World.{World, start}
 -- ---- the network
 
 abbrev pub first_edge : NodeId
-first_edge = record { 0 = 0 }
+first_edge = edges.first
 
 abbrev pub second_edge : NodeId
-second_edge = record { 0 = 1 }
+second_edge = edges.second
 
 abbrev pub core_node : NodeId
-core_node = record { 0 = 2 }
+core_node = edges.middle
 
--- 65000:1, and the Route Target of that AS and number
-abbrev pub distinguisher : Rd
-distinguisher = record { 0 = 0 ∷ 0 ∷ 253 ∷ 232 ∷ 0 ∷ 0 ∷ 0 ∷ 1 ∷ [] }
-
-abbrev pub target : Target
-target = record { 0 = record { 0 = 0 ∷ 2 ∷ 253 ∷ 232 ∷ 0 ∷ 0 ∷ 0 ∷ 1 ∷ [] } }
-
--- The nodes E1, E2 and C, with links from E1 and E2 to C; a VRF at each edge, of one VPN; a site at each VRF.
+-- the network of the worked edges: two edges with links to a core node, and a VRF of one VPN at each; with few labels
 abbrev pub network : Scenario
-network = record {
-  life = 2;
-  delay = 3;
-  labels = 4;
-  system = 65000;
-  nodes =
-      record { name = 69 ∷ 49 ∷ []; addr = V4 (192 ∷ 0 ∷ 2 ∷ 1 ∷ []); edge = true }
-      ∷ record { name = 69 ∷ 50 ∷ []; addr = V4 (192 ∷ 0 ∷ 2 ∷ 2 ∷ []); edge = true }
-      ∷ record { name = 67 ∷ []; addr = V4 (192 ∷ 0 ∷ 2 ∷ 9 ∷ []); edge = false }
-      ∷ [];
-  links = record { a = first_edge; b = core_node; cost = 1 } ∷ record { a = second_edge; b = core_node; cost = 1 } ∷ [];
-  vrfs =
-      record { name = 86 ∷ 49 ∷ []; edge = first_edge; number = 1; rd = distinguisher; targets = target ∷ []; rule = Highest }
-      ∷ record { name = 86 ∷ 50 ∷ []; edge = second_edge; number = 1; rd = distinguisher; targets = target ∷ []; rule = Highest }
-      ∷ [];
-  sites =
-      record { name = 88 ∷ []; prefixes = record { addr = V4 (10 ∷ 1 ∷ 0 ∷ 0 ∷ []); bits = 24 } ∷ [] }
-      ∷ record { name = 89 ∷ []; prefixes = record { addr = V4 (10 ∷ 2 ∷ 0 ∷ 0 ∷ []); bits = 24 } ∷ [] }
-      ∷ [];
-  ifaces =
-      record { name = 88 ∷ 49 ∷ []; vrf = record { 0 = 0 }; site = record { 0 = 0 }; addr = V4 (10 ∷ 1 ∷ 0 ∷ 1 ∷ []) }
-      ∷ record { name = 89 ∷ 49 ∷ []; vrf = record { 0 = 1 }; site = record { 0 = 1 }; addr = V4 (10 ∷ 2 ∷ 0 ∷ 1 ∷ []) }
-      ∷ [];
-}
-
--- costs and neighbours: each edge reaches the other one by C
-abbrev pub cost : NodeId → NodeId → ℕ
-cost from to = if from.0 == to.0 then 0 else if (from.0 == 2) || (to.0 == 2) then 1 else 2
-
-abbrev pub toward : NodeId → NodeId → Option NodeId
-toward from to = if from.0 == to.0 then None else if from.0 == 2 then Some to else Some core_node
+network = record edges.scenario { labels = 4 }
 
 abbrev pub core : Core
-core = record { cost = cost; toward = toward }
+core = (edges.place_of edges.first).core
 
 -- ---- events, and what happens at them
 

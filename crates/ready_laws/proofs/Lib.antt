@@ -1,0 +1,11 @@
+pub mod Ends
+pub mod Nodes
+pub mod Octets
+pub mod ActsStand
+pub mod Outcomes
+pub mod Alike
+pub mod TimersAlike
+pub mod EventsStand
+pub mod EventsTell
+pub mod RunsTell
+pub mod Counted

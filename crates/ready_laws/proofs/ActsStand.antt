@@ -16,14 +16,14 @@ use Rattle.session_defs.specs.Octets as octets
 use Rattle.session_defs.specs.Octets.{OctetNetwork, OctetAct, octet_act, octet_run}
 use Rattle.session_defs.specs.System.{Put, Behind, octets_over}
 use Rattle.session_defs.specs.declared.direction.Direction.{Direction}
-use Rattle.edge_defs.specs.Datagrams.{Fate, entered}
+use Rattle.edge_defs.specs.Datagrams.{Fate, entering_fate}
 use Rattle.edge_defs.specs.Place.{OwnVrf}
 use Rattle.edge_defs.specs.Steps as steps
 use Rattle.world_defs.specs.Acts.{Act, Tick, Timers, Move, Lose, Notice, RaiseFirst, RaiseSecond, Restart, At, Enter, Land, Drop, Tell, Acted, put_line, put_lines, with_network, at_node, is_of_session, is_at, leads_to, is_from_peer, with_branches, copy_on, hop_line, fated, datagram_at, enters_at, entering, fate_at, with_ttl, landed, without_copy, landing, with_aged, act}
 use Rattle.world_defs.specs.Counts.{direction, directions}
 use Rattle.world_defs.specs.Nodes.{NodeState, Edge, CoreNode, Nodes, place_of}
 use Rattle.world_defs.specs.System.{NodeCall, Own, Elapse, Reset, system}
-use Rattle.world_defs.specs.Unready.{SessionsStand, is_that}
+use Rattle.ready_laws.specs.Unready.{SessionsStand, is_that}
 use Rattle.world_defs.specs.World.{World, Datagram, LinkCopy, scenario_of, clock_of, with_copies}
 use Rattle.ready_laws.proofs.Nodes.{call_stand, reset_stand}
 use Rattle.ready_laws.proofs.Octets.{Stands, Leads, run_then, call_stands, reset_stands, later, elapse_stands, move_stands, lost, lose_stands, forget_stands, joins, join_stands}
@@ -96,7 +96,7 @@ fated_gives P world node ttl number bytes before fate b p = (
 
 enters_gives : (P : OctetNetwork Nodes → Type 0) (world : World) (own : OwnVrf) (node : NodeState) (datagram : Datagram) → P world.network → Gives (λ new. P new.network) (Ok (enters_at world own node datagram))
 enters_gives P world own (Edge edge) datagram p =
-    fated_gives P world own.vrf.edge 255 (length world.datagrams) datagram.octets [] (entered (place_of world.network.state own.vrf.edge) (clock_of world) edge own datagram.site datagram.source datagram.group) refl p
+    fated_gives P world own.vrf.edge 255 (length world.datagrams) datagram.octets [] (entering_fate (place_of world.network.state own.vrf.edge) (clock_of world) edge own datagram.site datagram.source datagram.group) refl p
 enters_gives P world own (CoreNode part) datagram p = (refl, p)
 
 entering_gives : (P : OctetNetwork Nodes → Type 0) (world : World) (id : VrfId) (vrf : Option Vrf) (datagram : Option Datagram) → P world.network → Gives (λ new. P new.network) (Ok (entering world id vrf datagram))

@@ -14,7 +14,7 @@ use Rattle.net_defs.specs.declared.session.Session.{Session}
 use Rattle.session_defs.specs.Message.{same_kind}
 use Rattle.world_defs.specs.Acts.{RaiseFirst, RaiseSecond, Notice}
 use Rattle.world_defs.specs.Events.{is_session_of}
-use Rattle.world_defs.specs.Unready.{SessionsStand, is_that, raised}
+use Rattle.ready_laws.specs.Unready.{SessionsStand, is_that, raised}
 use Rattle.ready_laws.proofs.Ends.{new_end}
 use Rattle.ready_laws.proofs.ActsStand.{act_stand}
 

@@ -21,7 +21,7 @@ use Rattle.session_defs.specs.Message.{same_kind}
 use Rattle.edge_defs.specs.Place.{Core}
 use Rattle.world_defs.specs.Counts.{is_joined, are_held, is_ready, unready}
 use Rattle.world_defs.specs.Run.{Traced, Run, report_of}
-use Rattle.world_defs.specs.Unready.{SessionsStand, none_joined, sessions_stand, is_held, is_ready_in, unready_behind}
+use Rattle.ready_laws.specs.Unready.{SessionsStand, none_joined, sessions_stand, is_held, is_ready_in, unready_behind}
 use Rattle.world_defs.specs.World.{World, start}
 use Rattle.ready_laws.proofs.Nodes.{end_of, fresh_end}
 use Rattle.ready_laws.proofs.TimersAlike.{HasNodes}

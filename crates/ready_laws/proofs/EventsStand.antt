@@ -14,7 +14,7 @@ use Rattle.world_defs.specs.Acts.{Act, Notice}
 use Rattle.world_defs.specs.Counts.{is_joined, is_up}
 use Rattle.world_defs.specs.Events.{Outcome, Done, and_then, row, each, times, raise_acts, is_session_of, raises, notices, turn, settled, landings, drain_round, drained, sent, at_edge, with_message, done}
 use Rattle.world_defs.specs.Events as by_acts
-use Rattle.world_defs.specs.Unready.{SessionsStand, is_that, raised, healed}
+use Rattle.ready_laws.specs.Unready.{SessionsStand, is_that, raised, healed}
 use Rattle.world_defs.specs.World.{World}
 use Rattle.ready_laws.proofs.ActsStand.{WorldStands}
 use Rattle.ready_laws.proofs.Outcomes.{Comes, then_comes, comes_as, acts_stand, row_comes}

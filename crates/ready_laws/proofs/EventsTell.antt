@@ -24,7 +24,7 @@ use Rattle.world_defs.specs.Counts.{directions, link_ways}
 use Rattle.world_defs.specs.Events.{Done, row, each, times, turn, settled, landings, drain_round, drained, sent, at_edge, with_message, done}
 use Rattle.world_defs.specs.Packets.{source_in, group_in}
 use Rattle.world_defs.specs.Refusals.{edge_of_vrf}
-use Rattle.world_defs.specs.Unready.{SessionsStand, is_that, timed, behind}
+use Rattle.ready_laws.specs.Unready.{SessionsStand, is_that, timed, behind}
 use Rattle.world_defs.specs.World.{World, scenario_of}
 use Rattle.ready_laws.proofs.Nodes.{KeepsEnds}
 use Rattle.ready_laws.proofs.ActsStand.{WorldStands, act_stand}

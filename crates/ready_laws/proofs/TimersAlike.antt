@@ -13,7 +13,7 @@ use Rattle.net_defs.specs.Sessions.{sessions}
 use Rattle.net_defs.specs.declared.session.Session.{Session}
 use Rattle.world_defs.specs.Acts.{Act, Timers}
 use Rattle.world_defs.specs.Counts.{node_ids}
-use Rattle.world_defs.specs.Unready.{SessionsStand, timed}
+use Rattle.ready_laws.specs.Unready.{SessionsStand, timed}
 use Rattle.ready_laws.proofs.Ends.{end_run}
 use Rattle.ready_laws.proofs.ActsStand.{act_stand}
 use Rattle.ready_laws.proofs.Outcomes.{acts_stand}

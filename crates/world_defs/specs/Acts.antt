@@ -18,7 +18,7 @@ use Rattle.session_defs.specs.declared.direction.Direction.{Direction}
 use Rattle.edge_defs.specs.Datagrams.{Fate, discarded, branches_of, tree_of, entering_fate, arriving_fate}
 use Rattle.edge_defs.specs.Place.{OwnVrf}
 use Rattle.edge_defs.specs.Steps as steps
-use Rattle.world_defs.specs.Counts.{direction, directions, state_line}
+use Rattle.world_defs.specs.Counts.{direction, is_between, directions, state_line}
 use Rattle.world_defs.specs.Nodes.{NodeState, Edge, CoreNode, Nodes, place_of}
 use Rattle.world_defs.specs.System.{NodeCall, Own, Elapse, Reset, system}
 use Rattle.world_defs.specs.World.{World, Datagram, LinkCopy, scenario_of, clock_of, with_copies}
@@ -67,7 +67,7 @@ at_node world node before acts = with_network world before (octet_run system wor
 
 -- whether a direction is one of the session, and whether it is one of the node
 abbrev pub is_of_session : Kind → NodeId → NodeId → Direction → Bool
-is_of_session kind a b over = same_kind kind over.kind && (((over.from.0 == a.0) && (over.to.0 == b.0)) || ((over.from.0 == b.0) && (over.to.0 == a.0)))
+is_of_session kind a b over = same_kind kind over.kind && is_between a b over.from over.to
 
 abbrev pub is_at : NodeId → Direction → Bool
 is_at node over = (over.from.0 == node.0) || (over.to.0 == node.0)

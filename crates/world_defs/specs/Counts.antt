@@ -1,5 +1,5 @@
 -- What `state` counts.
-use Rattle.std.specs.Prelude.{ℕ, zero, suc, ◌+◌, ◌==◌, ◌&&◌, Bool, true, false, not, List, [], ◌∷◌, length, sum_by, count_by, if◌then◌else◌}
+use Rattle.std.specs.Prelude.{ℕ, zero, suc, ◌+◌, ◌==◌, ◌&&◌, ◌||◌, Bool, true, false, not, List, [], ◌∷◌, length, sum_by, count_by, if◌then◌else◌}
 use Rattle.std.specs.List.{flat_map, list_any}
 use Rattle.std.specs.FinMap as maps
 use Rattle.mv_base.specs.declared.ids.NodeId.{NodeId}
@@ -21,6 +21,10 @@ use Rattle.world_defs.specs.World.{World, LinkCopy, scenario_of}
 
 abbrev pub direction : Kind → NodeId → NodeId → Direction
 direction kind from to = record { kind = kind; from = from; to = to }
+
+-- whether both are these two nodes, either way round
+abbrev pub is_between : NodeId → NodeId → NodeId → NodeId → Bool
+is_between a b u n = ((u.0 == a.0) && (n.0 == b.0)) || ((u.0 == b.0) && (n.0 == a.0))
 
 -- both directions of a session, that from its first end first
 abbrev pub directions_of : Session → List Direction

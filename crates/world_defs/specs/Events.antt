@@ -18,7 +18,7 @@ use Rattle.session_defs.specs.Message.{same_kind}
 use Rattle.session_defs.specs.declared.direction.Direction.{Direction}
 use Rattle.edge_defs.specs.Steps as steps
 use Rattle.world_defs.specs.Acts.{Act, Tick, Timers, Move, Lose, Notice, RaiseFirst, RaiseSecond, Restart, At, Enter, Land, Drop, Tell, act}
-use Rattle.world_defs.specs.Counts.{directions, link_ways, all_nodes, is_joined, is_up}
+use Rattle.world_defs.specs.Counts.{directions, link_ways, all_nodes, is_joined, is_up, is_between}
 use Rattle.world_defs.specs.Packets.{source_in, group_in}
 use Rattle.world_defs.specs.Refusals.{edge_of_vrf}
 use Rattle.world_defs.specs.World.{World, scenario_of}
@@ -68,7 +68,7 @@ raise_acts session = RaiseFirst session.kind session.a session.b ∷ RaiseSecond
 
 -- whether the session is that of the two nodes, whichever is named first
 abbrev pub is_session_of : Kind → NodeId → NodeId → Session → Bool
-is_session_of kind a b session = same_kind kind session.kind && (((session.a.0 == a.0) && (session.b.0 == b.0)) || ((session.a.0 == b.0) && (session.b.0 == a.0)))
+is_session_of kind a b session = same_kind kind session.kind && is_between a b session.a session.b
 
 abbrev pub raises : List Session → Kind → NodeId → NodeId → List Act
 raises all kind a b = elim (find (is_session_of kind a b) all) [ None ↦ [] | Some session ↦ raise_acts session ]

@@ -10,5 +10,4 @@ pub mod Events
 pub mod Run
 pub mod Local
 pub mod LabelRule
-pub mod Unready
 pub mod Example

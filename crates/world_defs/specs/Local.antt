@@ -24,15 +24,12 @@ use Rattle.session_defs.specs.Message.{same_kind}
 use Rattle.edge_defs.specs.Imported.{lsp_of, is_admitted, has_comm}
 use Rattle.edge_defs.specs.Originated.{import_target}
 use Rattle.edge_defs.specs.Place.{addr_of, lsp, tunnel_number}
+use Rattle.world_defs.specs.Counts.{is_between}
 use Rattle.world_defs.specs.Acts.{Act, RaiseFirst, RaiseSecond, Notice, Restart, Enter, Land}
 use Rattle.world_defs.specs.Run.{Traced}
 use Rattle.world_defs.specs.World.{Datagram}
 
 -- ---- octets since the last raise
-
--- whether both are these two, either way round
-abbrev pub is_between : NodeId → NodeId → NodeId → NodeId → Bool
-is_between a b u n = ((u.0 == a.0) && (n.0 == b.0)) || ((u.0 == b.0) && (n.0 == a.0))
 
 -- whether the act is the first one of a raise of the session
 abbrev pub is_raise : Kind → NodeId → NodeId → Option Act → Bool

@@ -13,6 +13,7 @@ use Rattle.mvpn_model.specs.Past.{Past, is_accepted}
 use Rattle.net_defs.specs.Sessions.{sessions}
 use Rattle.net_defs.specs.declared.session.Session.{Session}
 use Rattle.session_defs.specs.Message.{same_kind}
+use Rattle.world_defs.specs.Counts.{is_between}
 
 -- Where the sessions stand behind some events: the clock, whether the session of two nodes is joined, and the end of a node's session
 -- with a peer, where it is up.
@@ -27,9 +28,9 @@ none_joined = record { clock = 0; joined = λ kind a b. false; end = λ kind n p
 
 -- whether the session is that of the two nodes, either way round
 abbrev pub is_that : Kind → NodeId → NodeId → Kind → NodeId → NodeId → Bool
-is_that kind a b own u n = same_kind kind own && (((u.0 == a.0) && (n.0 == b.0)) || ((u.0 == b.0) && (n.0 == a.0)))
+is_that kind a b own u n = same_kind kind own && is_between a b u n
 
--- the session is joined, and both its ends come up
+-- The session is joined, and both its ends come up. Two nodes without a session have no part in what is counted.
 abbrev pub raised : Kind → NodeId → NodeId → SessionsStand → SessionsStand
 raised kind a b old =
     record old {

@@ -1,0 +1,3 @@
+pub mod BgpKeys
+pub mod BgpMaps
+pub mod BgpOctets

@@ -1,3 +1,4 @@
 pub mod BgpKeys
 pub mod BgpMaps
 pub mod BgpOctets
+pub mod BgpTexts

@@ -76,7 +76,7 @@ hop_length : (f : Family) (addr : Addr) → IsHost addr → length (hop_of f add
 hop_length (families.Mcast afi) addr h = omega (arith, host_length addr h)
 hop_length families.VpnIpv4 addr h = omega (arith, host_length addr h, length-append (replicate 8 0) (addr_octets addr))
 
-host_addr : (addr : Addr) → IsHost addr → IsAddr addr
+pub host_addr : (addr : Addr) → IsHost addr → IsAddr addr
 host_addr (V4 octets) h = h.0
 host_addr (V6 octets) h = absurd h
 

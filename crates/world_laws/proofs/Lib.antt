@@ -4,3 +4,4 @@ pub mod BgpOctets
 pub mod BgpTexts
 pub mod BgpRoutes
 pub mod BgpValues
+pub mod BgpPlaces

@@ -5,3 +5,5 @@ pub mod BgpTexts
 pub mod BgpRoutes
 pub mod BgpValues
 pub mod BgpPlaces
+pub mod BgpHeld
+pub mod BgpPuts

@@ -1,15 +1,10 @@
 -- Each entry of the table that an edge holds for a peer fits.
-use Rattle.std.proofs.Common.{◌≡◌, ℕ, ◌+◌, ◌==◌, ◌<◌, ◌≤◌, Bool, true, false, cond, List, [], ◌∷◌, ◌++◌, length, map, Option, Some, None, refl, sym, ap, subst, ◌∙◌, arith}
-use Rattle.std.specs.List.{AllByRecursion, filter, flat_map}
+use Rattle.std.proofs.Common.{◌≡◌, ℕ, ◌==◌, ◌≤◌, Bool, true, false, cond, List, [], ◌∷◌, ◌++◌, length, Option, Some, None, sym, ◌∙◌, arith}
+use Rattle.std.specs.List.{AllByRecursion, filter}
 use Rattle.std.specs.FinMap as maps
 use Rattle.std.specs.FinSet as sets
 use Rattle.std.proofs.lemmas.List.{length-append, length-map}
-use Rattle.mv_base.specs.declared.addr.Addr.{Addr}
 use Rattle.mv_base.specs.declared.ids.NodeId.{NodeId}
-use Rattle.mv_base.specs.declared.ids.VrfId.{VrfId}
-use Rattle.mv_base.specs.declared.pattern.Pattern.{Pattern}
-use Rattle.mv_base.specs.declared.prefix.Prefix.{Prefix}
-use Rattle.mv_base.specs.declared.rd.Rd.{Rd}
 use Rattle.route_targets.specs.declared.communities.ExtComm.{ExtComm}
 use Rattle.route_targets.specs.declared.communities.Target.{Target}
 use Rattle.bgp_attributes.specs.declared.key.Key.{Key}
@@ -22,14 +17,14 @@ use Rattle.scenario_defs.specs.declared.scenario.Vrf.{Vrf}
 use Rattle.edge_defs.specs.Edge.{Note, VrfPattern, Selected, VrfFlow, Import, Upstream, Site, Remote, Control}
 use Rattle.edge_defs.specs.Held.{join_route, join_routes, held_for}
 use Rattle.edge_defs.specs.Keys.{Value}
-use Rattle.edge_defs.specs.Originated.{target_comms, import_comm, source_as_comm, import_target, own_import, afi_of, selective_key, active_key, plain_value, unicast_value, tunnel_value, inclusive_route, unicast_routes, is_iface_of, notes_of, active_routes, selective_routes, routes_of, originated}
+use Rattle.edge_defs.specs.Originated.{target_comms, import_comm, source_as_comm, import_target, own_import, afi_of, selective_key, active_key, plain_value, unicast_value, tunnel_value, unicast_routes, is_iface_of, notes_of, active_routes, selective_routes, routes_of, originated}
 use Rattle.edge_defs.specs.Place.{EdgePlace, OwnVrf, own_addr, own_vrfs, tunnel_number}
 use Rattle.world_laws.specs.Sound.{IsHost, IsFlow, AreEight, SoundScenario, SoundPattern, SoundUpstream, SoundControl}
 use Rattle.world_laws.proofs.BgpKeys.{key_total, key_exact, note_total, pattern_total, flow_total}
 use Rattle.world_laws.proofs.BgpMaps.{all_append, all_map, all_flat_map, all_filter, all_weaker, IfFound, all_found, found_is, all_entries, all_items}
-use Rattle.world_laws.proofs.BgpPlaces.{FitsVrf, FitsPrefix, own_host, own_fit, local_fit}
+use Rattle.world_laws.proofs.BgpPlaces.{FitsVrf, FitsPrefix, own_fit, local_fit}
 use Rattle.world_laws.proofs.BgpRoutes.{intra_fits, selective_fits, active_fits, join_fits, unicast_fits}
-use Rattle.world_laws.proofs.BgpTexts.{FitsKey, FitsTunnel, FitsValue}
+use Rattle.world_laws.proofs.BgpTexts.{FitsKey, FitsValue}
 use Rattle.world_laws.proofs.BgpValues.{import_eight, target_eight, source_as_eight, no_tunnel, lsp_tunnel}
 
 abbrev pub Fits : Key → Value → Type 0
@@ -79,7 +74,7 @@ join_one place peer host flow None is up = tt
 join_one place peer host flow (Some (Site site)) is up = tt
 join_one place peer host flow (Some (Remote edge rd import source_as)) is up =
     if_found (edge.0 == peer.0) (keys.Mcast (afi_of flow.source) (routes.SourceJoin rd source_as flow.source flow.group), record { next_hop = own_addr place; comms = import_target import ∷ []; pmsi = None })
-      (join_fits rd source_as flow.source flow.group up.0 up.3 is.0 is.1, join_value_fits place import host up.1)
+    (join_fits rd source_as flow.source flow.group up.0 up.3 is.0 is.1, join_value_fits place import host up.1)
 
 -- ---- the routes of a VRF
 
@@ -88,7 +83,7 @@ module _ (place : EdgePlace) (control : Control) (scenario_is : SoundScenario pl
   unicast_fit own fits =
       let local : List Route = local_routes place.scenario own.id in
       let each = all_weaker (λ (route : Route). FitsPrefix route.prefix) (λ (route : Route). Fits (Unicast own.vrf.rd route.prefix) (unicast_value place own.vrf))
-        (λ route p. (unicast_fits own.vrf.rd route.prefix fits.rd p.is p.octets, unicast_value_fits place own.vrf host fits)) local (local_fit place.scenario scenario_is own.id) in
+      (λ route p. (unicast_fits own.vrf.rd route.prefix fits.rd p.is p.octets, unicast_value_fits place own.vrf host fits)) local (local_fit place.scenario scenario_is own.id) in
       all_map FitsEntry (λ (route : Route). (Unicast own.vrf.rd route.prefix, unicast_value place own.vrf)) local each
 
   abbrev selective_entry : OwnVrf → VrfPattern × Selected → Key × Value
@@ -99,8 +94,8 @@ module _ (place : EdgePlace) (control : Control) (scenario_is : SoundScenario pl
       let all : List (VrfPattern × Selected) = maps.entries control.selections in
       let of_vrf : VrfPattern × Selected → Bool = λ (entry : VrfPattern × Selected). entry.0.vrf.0 == own.id.0 in
       let each : AllByRecursion (λ (entry : VrfPattern × Selected). FitsEntry (selective_entry own entry)) all = all_entries pattern_total (λ (key : VrfPattern) (selected : Selected). FitsEntry (selective_entry own (key, selected))) control.selections
-        (λ key selected h. (let is : SoundPattern key.pattern = control_is.selections key selected h in
-          (selective_fits own.vrf.rd key.pattern.source key.pattern.group (own_addr place) fits.rd is.0 is.1 host, tunnel_fits place own.vrf (tunnel_number own.vrf selected.number) host fits))) in
+      (λ key selected h. (let is : SoundPattern key.pattern = control_is.selections key selected h in
+      (selective_fits own.vrf.rd key.pattern.source key.pattern.group (own_addr place) fits.rd is.0 is.1 host, tunnel_fits place own.vrf (tunnel_number own.vrf selected.number) host fits))) in
       all_map FitsEntry (selective_entry own) (filter of_vrf all) (all_filter (λ (entry : VrfPattern × Selected). FitsEntry (selective_entry own entry)) of_vrf all each)
 
   abbrev active_entry : OwnVrf → Note → Key × Value
@@ -110,15 +105,15 @@ module _ (place : EdgePlace) (control : Control) (scenario_is : SoundScenario pl
   active_fit own fits =
       let of_vrf : Note → Bool = λ (note : Note). is_iface_of place.scenario own.id note.iface in
       let each : AllByRecursion (λ (note : Note). FitsEntry (active_entry own note)) (sets.items control.notes) = all_items note_total (λ (note : Note). FitsEntry (active_entry own note)) control.notes
-        (λ note h. (let is : IsFlow note.source note.group = control_is.notes note h in
-          (active_fits own.vrf.rd note.source note.group fits.rd is.0 is.1, plain_fits place own.vrf host fits))) in
+      (λ note h. (let is : IsFlow note.source note.group = control_is.notes note h in
+      (active_fits own.vrf.rd note.source note.group fits.rd is.0 is.1, plain_fits place own.vrf host fits))) in
       all_map FitsEntry (active_entry own) (notes_of place control own.id) (all_filter (λ (note : Note). FitsEntry (active_entry own note)) of_vrf (sets.items control.notes) each)
 
   own_routes_fit : (own : OwnVrf) → FitsVrf own.vrf → AllByRecursion FitsEntry (routes_of place control own)
   own_routes_fit own fits = (
     (intra_fits own.vrf.rd (own_addr place) fits.rd host, tunnel_fits place own.vrf (tunnel_number own.vrf 0) host fits),
     all_append FitsEntry (unicast_routes place own) (selective_routes place control own ++ active_routes place control own) (unicast_fit own fits)
-      (all_append FitsEntry (selective_routes place control own) (active_routes place control own) (selective_fit own fits) (active_fit own fits)),
+        (all_append FitsEntry (selective_routes place control own) (active_routes place control own) (selective_fit own fits) (active_fit own fits)),
   )
 
   originated_fit : AllByRecursion FitsEntry (originated place control)
@@ -128,7 +123,7 @@ module _ (place : EdgePlace) (control : Control) (scenario_is : SoundScenario pl
   joins_fit : (peer : NodeId) → AllByRecursion FitsEntry (join_routes place control peer)
   joins_fit peer = all_found FitsEntry (join_route place peer) (maps.entries control.flows)
       (all_entries flow_total (λ (flow : VrfFlow) (found : Option Upstream). IfFound FitsEntry (join_route place peer (flow, found))) control.flows
-        (λ flow found h. (let is = control_is.flows flow found h in join_one place peer host flow found is.0 is.1)))
+      (λ flow found h. (let is = control_is.flows flow found h in join_one place peer host flow found is.0 is.1)))
 
   -- what is held at a key
   pub held_fits : (peer : NodeId) (key : Key) (value : Value) → maps.get (held_for place control peer) key ≡ Some value → Fits key value

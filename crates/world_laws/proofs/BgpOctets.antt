@@ -1,5 +1,5 @@
 -- The octets of messages: each part is octets, and how many it has.
-use Rattle.std.proofs.Common.{◌≡◌, ℕ, zero, suc, ◌+◌, ◌-◌, ◌*◌, ◌/◌, ◌%◌, ◌<◌, ◌≤◌, Bool, true, false, cond, ltb, inl, inr, List, [], ◌∷◌, ◌++◌, length, replicate, refl, sym, ap, ◌∙◌, arith}
+use Rattle.std.proofs.Common.{◌≡◌, ℕ, zero, suc, ◌+◌, ◌-◌, ◌*◌, ◌/◌, ◌%◌, ◌<◌, ◌≤◌, Bool, true, false, cond, ltb, inl, inr, List, [], ◌∷◌, ◌++◌, length, replicate, refl, arith}
 use Rattle.std.specs.List.{AllByRecursion}
 use Rattle.std.specs.Int.{w16, w32, to_be_bytes}
 use Rattle.std.specs.Int.Bits.{bit_or}

@@ -1,5 +1,5 @@
 -- What the scenario says of an edge's address, of its VRFs and of their local routes.
-use Rattle.std.proofs.Common.{◌≡◌, ℕ, ◌+◌, ◌==◌, ◌<◌, ◌≤◌, Bool, true, false, cond, inl, inr, List, [], ◌∷◌, ◌++◌, length, map, Option, Some, None, refl, sym, ap, subst, ◌∙◌, arith}
+use Rattle.std.proofs.Common.{◌≡◌, ℕ, ◌+◌, ◌==◌, ◌<◌, ◌≤◌, Bool, true, false, cond, inl, inr, List, [], ◌∷◌, length, Option, Some, None, subst, arith}
 use Rattle.std.specs.Prelude.{slice_get}
 use Rattle.std.specs.List.{All, AllByRecursion}
 use Rattle.std.proofs.lemmas.List.Elements.{All-get_or, recursion_from_All}
@@ -23,7 +23,7 @@ use Rattle.scenario_defs.specs.declared.scenario.Site.{Site}
 use Rattle.scenario_defs.specs.declared.scenario.Vrf.{Vrf}
 use Rattle.edge_defs.specs.Place.{EdgePlace, OwnVrf, addr_of, own_addr, vrfs_from, own_vrfs}
 use Rattle.world_laws.specs.Sound.{IsHost, AreEight, SoundScenario}
-use Rattle.world_laws.proofs.BgpMaps.{all_append, all_map, all_weaker}
+use Rattle.world_laws.proofs.BgpMaps.{all_append, all_map}
 
 pub all_both : {X : Type 0} (P Q S : X → Type 0) → ((x : X) → P x → Q x → S x) → (xs : List X) → AllByRecursion P xs → AllByRecursion Q xs → AllByRecursion S xs
 all_both P Q S f [] a b = tt
@@ -74,7 +74,7 @@ vrfs_fit scenario sound =
     let targets = recursion_from_All (λ (vrf : Vrf). All (λ (target : Target). IsOctets target.0.0) vrf.targets) scenario.vrfs sound.octets.targets in
     let both = all_both (IsVrf scenario) (λ (vrf : Vrf). IsOctets vrf.rd.0) (λ (vrf : Vrf). IsVrf scenario vrf × IsOctets vrf.rd.0) (λ vrf a b. (a, b)) scenario.vrfs is rds in
     all_both (λ (vrf : Vrf). IsVrf scenario vrf × IsOctets vrf.rd.0) (λ (vrf : Vrf). All (λ (target : Target). IsOctets target.0.0) vrf.targets) FitsVrf
-      (λ vrf a b. vrf_fits scenario vrf a.0 a.1 b) scenario.vrfs both targets
+    (λ vrf a b. vrf_fits scenario vrf a.0 a.1 b) scenario.vrfs both targets
 
 abbrev FitsOwn : OwnVrf → Type 0
 FitsOwn own = FitsVrf own.vrf
@@ -120,8 +120,8 @@ routes_fit passes number (site ∷ more) h =
     let id : SiteId = record { 0 = number } in
     let own : List Route = routes_of_site id site.prefixes in
     all_append FitsRoute (cond (passes id) own []) (routes_from passes (number + 1) more)
-      (if_passes (passes id) own (all_map FitsRoute (λ (prefix : Prefix). record { prefix = prefix; site = id }) site.prefixes h.0))
-      (routes_fit passes (number + 1) more h.1)
+    (if_passes (passes id) own (all_map FitsRoute (λ (prefix : Prefix). record { prefix = prefix; site = id }) site.prefixes h.0))
+    (routes_fit passes (number + 1) more h.1)
 
 pub local_fit : (scenario : Scenario) → SoundScenario scenario → (vrf : VrfId) → AllByRecursion (λ (route : Route). FitsPrefix route.prefix) (local_routes scenario vrf)
 local_fit scenario sound vrf = routes_fit (is_attached_at scenario vrf) 0 scenario.sites (sites_fit scenario sound)

@@ -1,8 +1,8 @@
 -- What an edge puts over BGP is put well: UPDATE messages, spelled in octets.
-use Rattle.std.proofs.Common.{◌≡◌, ◌<◌, Bool, true, false, cond, List, [], ◌∷◌, ◌++◌, length, map, Option, Some, None, sym, ◌∙◌}
+use Rattle.std.proofs.Common.{◌≡◌, ◌<◌, Bool, true, false, cond, List, [], length, map, Some, None, sym, ◌∙◌}
 use Rattle.std.specs.Prelude.{is_some, is_none, not}
 use Rattle.std.specs.Option.{option_eq}
-use Rattle.std.specs.List.{AllByRecursion, flat_map}
+use Rattle.std.specs.List.{AllByRecursion}
 use Rattle.std.specs.FinMap as maps
 use Rattle.mv_base.specs.declared.ids.NodeId.{NodeId}
 use Rattle.bgp_attributes.specs.declared.key.Key.{Key}
@@ -55,13 +55,13 @@ withdrawn_put : (old new : Table) → IsTable old → AllByRecursion IsBgpPut (w
 withdrawn_put old new is =
     all_map IsBgpPut (λ (entry : Key × Value). Unreach entry.0) (maps.entries (lost old new))
     (all_entries key_total (λ (key : Key) (value : Value). IsBgpPut (Unreach key)) (lost old new)
-      (λ key value h. (is key value (kept_is key_exact old (λ (own : Key). is_none (maps.get new own)) key value h)).1))
+    (λ key value h. (is key value (kept_is key_exact old (λ (own : Key). is_none (maps.get new own)) key value h)).1))
 
 advertised_put : (old new : Table) → IsTable new → AllByRecursion IsBgpPut (advertisements (news same_value old new))
 advertised_put old new is =
     all_map IsBgpPut (λ (entry : Key × Value). Reach entry.0 entry.1) (maps.entries (news same_value old new))
     (all_entries key_total (λ (key : Key) (value : Value). IsBgpPut (Reach key value)) (news same_value old new)
-      (λ key value h. (is key value (kept_is key_exact new (λ (own : Key). not (option_eq same_value (maps.get old own) (maps.get new own))) key value h)).0))
+    (λ key value h. (is key value (kept_is key_exact new (λ (own : Key). not (option_eq same_value (maps.get old own) (maps.get new own))) key value h)).0))
 
 changes_put : (old new : Table) → IsTable old → IsTable new → AllByRecursion IsBgpPut (changes same_value old new)
 changes_put old new is behind = all_append IsBgpPut (withdrawals (lost old new)) (advertisements (news same_value old new)) (withdrawn_put old new is) (advertised_put old new behind)
@@ -75,7 +75,7 @@ puts_by false all h = tt
 put_to_put : (place : EdgePlace) (old new : Control) (peer : NodeId) → SoundScenario place.scenario → SoundControl old → SoundControl new → place.me.0 < length place.scenario.nodes → AllByRecursion IsBgpPut (put_to place old new peer)
 put_to_put place old new peer scenario_is old_is new_is lt =
     puts_by (is_some (maps.get new.peers peer)) (changes same_value (told place old peer) (told place new peer))
-      (changes_put (told place old peer) (told place new peer) (told_table place old peer scenario_is old_is lt) (told_table place new peer scenario_is new_is lt))
+    (changes_put (told place old peer) (told place new peer) (told_table place old peer scenario_is old_is lt) (told_table place new peer scenario_is new_is lt))
 
 -- What a step of an edge puts to its peers is put well.
 pub bgp_puts_are_put : (place : EdgePlace) (old new : Control) → SoundScenario place.scenario → SoundControl old → SoundControl new → place.me.0 < length place.scenario.nodes

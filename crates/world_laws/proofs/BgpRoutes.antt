@@ -1,37 +1,29 @@
 -- The keys and values of each kind of route that an edge originates fit.
-use Rattle.std.proofs.Common.{◌≡◌, ℕ, ◌+◌, ◌<◌, ◌≤◌, ◌^◌, false, List, [], ◌∷◌, ◌++◌, length, take, Option, Some, None, refl, arith}
-use Rattle.std.specs.Int.{w16, w32, to_be_bytes}
-use Rattle.std.specs.List.{AllByRecursion, flat_map}
-use Rattle.std.proofs.lemmas.List.{append-nil, length-append, length-take}
+use Rattle.std.proofs.Common.{◌≡◌, ℕ, ◌+◌, ◌<◌, ◌≤◌, ◌^◌, List, [], ◌∷◌, ◌++◌, length, take, Option, Some, None, refl, arith}
+use Rattle.std.specs.Int.{w32, to_be_bytes}
+use Rattle.std.proofs.lemmas.List.{length-append, length-take}
 use Rattle.mv_base.proofs.Fields.{octets_before}
-use Rattle.mv_base.specs.Address.{addr_octets, IsAddr}
+use Rattle.mv_base.specs.Address.{addr_octets}
 use Rattle.mv_base.specs.Octets.{IsOctets}
 use Rattle.mv_base.specs.Prefix.{IsPrefixOf}
 use Rattle.mv_base.specs.declared.addr.Addr.{Addr}
 use Rattle.mv_base.specs.declared.addr.Addr.TheVariants.{V4, V6}
 use Rattle.mv_base.specs.declared.prefix.Prefix.{Prefix}
 use Rattle.mv_base.specs.declared.rd.Rd.{Rd}
-use Rattle.mldp_fec.specs.Spelling as fecs
-use Rattle.mldp_fec.specs.Spelling.{plain, IsOpaque}
-use Rattle.pmsi_attr.specs.declared.pmsi.Tunnel.TheVariants as tunnels
-use Rattle.pmsi_attr.specs.Spelling as pmsis
 use Rattle.mvpn_nlri.specs.Spelling as spelling
 use Rattle.mvpn_nlri.specs.Spelling.{IsMulticast, IsSource, IsGroup, IsAnyOr, IsRoute, sized, any_or_sized, fields}
 use Rattle.mvpn_nlri.specs.declared.route.Afi.{Afi}
-use Rattle.mvpn_nlri.specs.declared.route.Afi.TheVariants.{Ipv4, Ipv6}
+use Rattle.mvpn_nlri.specs.declared.route.Afi.TheVariants.{Ipv4}
 use Rattle.mvpn_nlri.specs.declared.route.Route.{Route}
 use Rattle.mvpn_nlri.specs.declared.route.Route.TheVariants as routes
-use Rattle.route_targets.specs.declared.communities.ExtComm.{ExtComm}
 use Rattle.bgp_attributes.specs.Spelling.{octets_for}
 use Rattle.bgp_attributes.specs.declared.key.Key.TheVariants.{Mcast, Unicast}
-use Rattle.bgp_update.specs.Written.{attribute, advertised, withdrawn, vpn_text, IsVpnPrefix}
+use Rattle.bgp_update.specs.Written.{advertised, withdrawn, vpn_text, IsVpnPrefix}
 use Rattle.scenario_defs.specs.Rules.{IsIpv4, IsSitePrefix}
-use Rattle.edge_defs.specs.Edge.{Import}
-use Rattle.edge_defs.specs.Originated.{afi_of, afi_by, import_comm, source_as_comm, import_target}
-use Rattle.edge_defs.specs.Place.{lsp, lsp_opaque}
+use Rattle.edge_defs.specs.Originated.{afi_of, afi_by}
 use Rattle.world_laws.specs.Sound.{IsHost, IsGroupAddr, AreEight}
-use Rattle.world_laws.proofs.BgpOctets.{no_octets, octets_cons, octets_append, one_octet, octets_of_16, octets_of_32, host_octets, host_length, attribute_fits, attribute_length}
-use Rattle.world_laws.proofs.BgpTexts.{FitsKey, FitsTunnel, host_addr}
+use Rattle.world_laws.proofs.BgpOctets.{octets_cons, octets_append, one_octet, octets_of_32, host_octets, host_length}
+use Rattle.world_laws.proofs.BgpTexts.{FitsKey, host_addr}
 
 -- ---- fields
 
@@ -103,8 +95,16 @@ selective_fits rd source group originator r s g o =
     (octets_append rd.0 (s_text ++ (g_text ++ o_text)) r.1
     (octets_append s_text (g_text ++ o_text) (word_fits source s)
     (octets_append g_text o_text (word_fits group (group_word group g)) (host_octets originator o))))
-    (omega (arith, length-append rd.0 (s_text ++ (g_text ++ o_text)), length-append s_text (g_text ++ o_text), length-append g_text o_text, r.0,
-      word_length source s, word_length group (group_word group g), host_length originator o))
+    (omega (
+      arith,
+      length-append rd.0 (s_text ++ (g_text ++ o_text)),
+      length-append s_text (g_text ++ o_text),
+      length-append g_text o_text,
+      r.0,
+      word_length source s,
+      word_length group (group_word group g),
+      host_length originator o,
+    ))
 
 pub active_fits : (rd : Rd) (source group : Addr) → AreEight rd.0 → IsHost source → IsGroupAddr group → FitsKey (Mcast (afi_of source) (routes.Active rd source group))
 active_fits rd source group r s g =
@@ -121,8 +121,16 @@ join_fits rd source_as source group r a s g =
     route_fits (afi_of source) (routes.SourceJoin rd source_as source group) (r.0, (below, (source_is source source s s, group_is source group s g))) (omega arith)
     (octets_append rd.0 (number ++ (sized source ++ sized group)) r.1
     (octets_append number (sized source ++ sized group) (octets_of_32 source_as) (octets_append (sized source) (sized group) (sized_fits source s) (sized_fits group g.0))))
-    (omega (arith, length-append rd.0 (number ++ (sized source ++ sized group)), length-append number (sized source ++ sized group), length-append (sized source) (sized group), size, r.0,
-      sized_length source s, sized_length group g.0))
+    (omega (
+      arith,
+      length-append rd.0 (number ++ (sized source ++ sized group)),
+      length-append number (sized source ++ sized group),
+      length-append (sized source) (sized group),
+      size,
+      r.0,
+      sized_length source s,
+      sized_length group g.0,
+    ))
 
 -- ---- keys of unicast routes
 

@@ -1,5 +1,5 @@
 -- A key and a value whose parts are octets within bounds: the UPDATE messages that announce and withdraw them are put.
-use Rattle.std.proofs.Common.{◌≡◌, ℕ, ◌+◌, ◌*◌, ◌<◌, ◌≤◌, List, [], ◌∷◌, ◌++◌, length, replicate, map, Option, Some, None, refl, arith}
+use Rattle.std.proofs.Common.{◌≡◌, ℕ, ◌+◌, ◌≤◌, List, [], ◌∷◌, ◌++◌, length, replicate, Option, refl, arith}
 use Rattle.std.specs.List.{AllByRecursion}
 use Rattle.std.specs.Int.{w16, w32, to_be_bytes}
 use Rattle.std.proofs.lemmas.List.{length-append}
@@ -10,15 +10,14 @@ use Rattle.mv_base.specs.declared.addr.Addr.TheVariants.{V4, V6}
 use Rattle.mvpn_nlri.specs.declared.route.Afi.TheVariants.{Ipv4, Ipv6}
 use Rattle.route_targets.specs.declared.communities.ExtComm.{ExtComm}
 use Rattle.pmsi_attr.specs.declared.pmsi.Pmsi.{Pmsi}
-use Rattle.bgp_attributes.specs.Spelling.{pair, safi_of, afi_of, AreComms}
+use Rattle.bgp_attributes.specs.Spelling.{pair, AreComms}
 use Rattle.bgp_attributes.specs.declared.family.Family.{Family}
 use Rattle.bgp_attributes.specs.declared.family.Family.TheVariants as families
 use Rattle.bgp_attributes.specs.declared.key.Key.{Key}
 use Rattle.bgp_attributes.specs.declared.update.Advert.{Advert}
 use Rattle.bgp_attributes.specs.declared.update.Change as updates
 use Rattle.bgp_attributes.specs.declared.update.Message.TheVariants as messages
-use Rattle.bgp_update.specs.Table.{key_of}
-use Rattle.bgp_update.specs.Written.{attribute, path_text, family_of, hop_of, key_text, advertised, withdrawn, comms_octets, reach_value, unreach_value, tunnel_text, advert_text, attributes_of, message_text, written, update_of, IsWritableKey, IsWritable, HasOctets, IsTunnel}
+use Rattle.bgp_update.specs.Written.{attribute, path_text, family_of, hop_of, key_text, advertised, withdrawn, comms_octets, reach_value, tunnel_text, advert_text, message_text, written, update_of, IsWritableKey, IsWritable, HasOctets, IsTunnel}
 use Rattle.bgp_update.proofs.Appending.{message_octets}
 use Rattle.bgp_update.proofs.ReadsBack.{written_spells}
 use Rattle.table_defs.specs.declared.change.Change.{Change}
@@ -122,8 +121,17 @@ module _ (key : Key) (value : Value) (k : FitsKey key) (v : FitsValue value) whe
   advert_length =
       let reach : List ℕ = attribute 0x80 14 (reach_value advert) in
       let comms : List ℕ = attribute 0xC0 16 (comms_octets value.comms) in
-      omega (arith, length-append reach (comms ++ tunnel_text value.pmsi), length-append comms (tunnel_text value.pmsi), attribute_length 0x80 14 (reach_value advert), value_length,
-        attribute_length 0xC0 16 (comms_octets value.comms), comms_length value.comms v.comms, v.few, v.tunnel.few)
+      omega (
+        arith,
+        length-append reach (comms ++ tunnel_text value.pmsi),
+        length-append comms (tunnel_text value.pmsi),
+        attribute_length 0x80 14 (reach_value advert),
+        value_length,
+        attribute_length 0xC0 16 (comms_octets value.comms),
+        comms_length value.comms v.comms,
+        v.few,
+        v.tunnel.few,
+      )
 
   -- what announces it
   pub reach_put : IsBgpPut (Reach key value)

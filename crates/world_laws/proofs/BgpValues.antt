@@ -1,29 +1,22 @@
 -- The values of each kind of route that an edge originates fit.
-use Rattle.std.proofs.Common.{◌≡◌, ◌≢◌, ℕ, ◌+◌, ◌*◌, ◌<◌, ◌≤◌, ◌^◌, false, List, [], ◌∷◌, ◌++◌, length, map, Option, Some, None, refl, sym, arith}
+use Rattle.std.proofs.Common.{◌≡◌, ℕ, ◌<◌, false, List, [], ◌∷◌, ◌++◌, length, Some, None, refl, arith}
 use Rattle.std.specs.Int.{w16, w32, to_be_bytes}
-use Rattle.std.specs.List.{AllByRecursion, flat_map}
-use Rattle.std.proofs.lemmas.List.{append-nil, length-append, length-map}
+use Rattle.std.proofs.lemmas.List.{length-append}
 use Rattle.mv_base.specs.Address.{addr_octets}
 use Rattle.mv_base.specs.Octets.{IsOctets}
 use Rattle.mv_base.specs.declared.addr.Addr.{Addr}
 use Rattle.mv_base.specs.declared.addr.Addr.TheVariants.{V4, V6}
 use Rattle.mldp_fec.specs.Spelling as fecs
 use Rattle.mldp_fec.specs.Spelling.{Tlv, plain, tlv, IsTlv, IsOpaque}
-use Rattle.mldp_fec.specs.declared.fec.Fec.{Fec}
 use Rattle.pmsi_attr.specs.declared.pmsi.Pmsi.{Pmsi}
 use Rattle.pmsi_attr.specs.declared.pmsi.Tunnel.TheVariants as tunnels
 use Rattle.pmsi_attr.specs.Spelling as pmsis
-use Rattle.route_targets.specs.declared.communities.ExtComm.{ExtComm}
-use Rattle.route_targets.specs.declared.communities.Target.{Target}
-use Rattle.bgp_update.specs.Written.{attribute}
 use Rattle.edge_defs.specs.Edge.{Import}
-use Rattle.edge_defs.specs.Keys.{Value}
 use Rattle.edge_defs.specs.Originated.{import_comm, source_as_comm, import_target}
 use Rattle.edge_defs.specs.Place.{lsp, lsp_opaque}
 use Rattle.world_laws.specs.Sound.{IsHost, AreEight}
-use Rattle.world_laws.proofs.BgpMaps.{all_append, all_map}
-use Rattle.world_laws.proofs.BgpOctets.{no_octets, octets_cons, octets_append, one_octet, octets_of_16, octets_of_32, host_octets, host_length, attribute_fits, attribute_length}
-use Rattle.world_laws.proofs.BgpTexts.{FitsTunnel, FitsValue, host_addr}
+use Rattle.world_laws.proofs.BgpOctets.{no_octets, octets_cons, octets_append, octets_of_16, octets_of_32, host_octets, host_length, attribute_fits, attribute_length}
+use Rattle.world_laws.proofs.BgpTexts.{FitsTunnel, host_addr}
 
 -- ---- communities
 
@@ -40,7 +33,7 @@ pub source_as_eight : (number : ℕ) → AreEight (source_as_comm number).0
 source_as_eight number = (
   refl,
   octets_cons 0x00 (0x09 ∷ (to_be_bytes w16 number ++ 0 ∷ 0 ∷ 0 ∷ 0 ∷ [])) (omega arith) (octets_cons 0x09 (to_be_bytes w16 number ++ 0 ∷ 0 ∷ 0 ∷ 0 ∷ []) (omega arith)
-  (octets_append (to_be_bytes w16 number) (0 ∷ 0 ∷ 0 ∷ 0 ∷ []) (octets_of_16 number) (octets_of_32 0))),
+      (octets_append (to_be_bytes w16 number) (0 ∷ 0 ∷ 0 ∷ 0 ∷ []) (octets_of_16 number) (octets_of_32 0))),
 )
 
 -- ---- tunnels
@@ -68,7 +61,7 @@ root_length (V6 octets) h = absurd h
 abbrev pmsi_of : Addr → ℕ → Pmsi
 pmsi_of root number = record { leaf_info = false; tunnel = tunnels.Mldp (lsp root number); label = None }
 
-lsp_fits : (root : Addr) (number : ℕ) → IsHost root → IsOctets (fecs.written (lsp root number))
+pub lsp_fits : (root : Addr) (number : ℕ) → IsHost root → IsOctets (fecs.written (lsp root number))
 lsp_fits root number h =
     octets_cons 6 (fecs.root root ++ (to_be_bytes w16 7 ++ lsp_opaque number)) (omega arith)
     (octets_append (fecs.root root) (to_be_bytes w16 7 ++ lsp_opaque number) (root_fits root h)

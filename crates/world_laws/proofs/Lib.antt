@@ -1,0 +1,9 @@
+pub mod BgpKeys
+pub mod BgpMaps
+pub mod BgpOctets
+pub mod BgpTexts
+pub mod BgpRoutes
+pub mod BgpValues
+pub mod BgpPlaces
+pub mod BgpHeld
+pub mod BgpPuts

@@ -1,0 +1,4 @@
+pub mod ControlMaps
+pub mod ControlKeys
+pub mod ControlEntries
+pub mod ControlFlows

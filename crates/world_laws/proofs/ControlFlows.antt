@@ -1,5 +1,5 @@
 -- The flows of an edge are sound where its entries, its notes and the routes that it took are.
-use Rattle.std.proofs.Common.{◌≡◌, ◌<◌, ℕ, Bool, true, false, cond, ◌&&◌, List, [], ◌∷◌, ◌++◌, length, map, take, drop, Option, Some, None, refl, sym, ap, subst, ◌∙◌, arith}
+use Rattle.std.proofs.Common.{◌≡◌, ◌<◌, ℕ, Bool, true, false, ◌&&◌, [], ◌∷◌, length, map, take, drop, Option, Some, None, refl, sym, subst, ◌∙◌, arith}
 use Rattle.std.specs.Prelude.{nat_eq, if◌then◌else◌}
 use Rattle.std.specs.Int.{w16, from_be_bytes}
 use Rattle.std.specs.List.{AllByRecursion, filter, flat_map}
@@ -12,7 +12,6 @@ use Rattle.mv_base.specs.Number.{◌>>?◌, only_if}
 use Rattle.mv_base.specs.Octets.{IsOctets}
 use Rattle.mv_base.specs.declared.addr.Addr.{Addr}
 use Rattle.mv_base.specs.declared.addr.Addr.TheVariants.{V4, V6}
-use Rattle.mv_base.specs.declared.ids.IfaceId.{IfaceId}
 use Rattle.mv_base.specs.declared.ids.NodeId.{NodeId}
 use Rattle.mv_base.proofs.Fields.{octets_before, octets_behind, wide16}
 use Rattle.mv_base.specs.declared.prefix.Prefix.{Prefix}
@@ -29,7 +28,6 @@ use Rattle.scenario_defs.specs.declared.event.JoinEntry.TheVariants as entries
 use Rattle.pim_defs.proofs.KeyLemmas.{entry_cmp_total, entry_cmp_exact}
 use Rattle.label_defs.proofs.KeyLemmas.{node_cmp_total, node_cmp_exact}
 use Rattle.choice_defs.specs.Choice.{cost_by, best_route}
-use Rattle.choice_defs.specs.declared.known_route.KnownRoute.{KnownRoute}
 use Rattle.choice_defs.specs.declared.origin.Origin.{Origin}
 use Rattle.choice_defs.specs.declared.origin.Origin.TheVariants as origins
 use Rattle.edge_defs.specs.Edge.{Note, VrfFlow, Import, Upstream, Site, Remote, TakenRoute, Taken, Control}
@@ -39,7 +37,7 @@ use Rattle.edge_defs.specs.Keys.{Value, key_cmp}
 use Rattle.edge_defs.specs.Originated.{is_iface_of, notes_of}
 use Rattle.edge_defs.specs.Place.{EdgePlace, OwnVrf, own_vrfs}
 use Rattle.edge_defs.specs.Upstream.{known_routes, upstream_by, upstream_for}
-use Rattle.world_laws.specs.Sound.{IsHost, IsGroupAddr, IsFlow, AreEight, SoundEntry, SoundUpstream, SoundKey, SoundValue, SoundTaken}
+use Rattle.world_laws.specs.Sound.{IsHost, IsFlow, AreEight, SoundEntry, SoundUpstream, SoundKey, SoundValue, SoundTaken}
 use Rattle.world_laws.proofs.ControlMaps.{all_of, all_weaker, all_append, all_map, all_flat, all_filtered, all_found, only_meets, passing, Each, AllEntries, made_meets, entries_meet, items_meet}
 use Rattle.world_laws.proofs.ControlKeys.{key_total, key_exact, note_total, note_exact, flow_total, flow_exact}
 use Rattle.world_laws.proofs.ControlEntries.{SoundAt, asked_group}
@@ -115,9 +113,9 @@ by_origin control prefix (origins.Local site) sound = tt
 by_origin control prefix (origins.Remote edge address rd) sound =
     bind_meets SoundUpstream tt (maps.get (taken_from control edge) (Unicast rd prefix)) (λ taken. join_by address taken.value >>? λ by. Some (Remote edge rd by.import by.source_as))
     (λ taken e.
-        let route = taken_from_sound control edge sound (Unicast rd prefix) taken e in
-        bind_meets SoundUpstream tt (join_by address taken.value) (λ by. Some (Remote edge rd by.import by.source_as))
-        (λ by f. let met = join_sound address taken.value by route.1 f in (route.0, met.0, met.1, met.2)))
+    let route = taken_from_sound control edge sound (Unicast rd prefix) taken e in
+    bind_meets SoundUpstream tt (join_by address taken.value) (λ by. Some (Remote edge rd by.import by.source_as))
+    (λ by f. let met = join_sound address taken.value by route.1 f in (route.0, met.0, met.1, met.2)))
 
 -- The upstream of a source is that of a route that was taken.
 pub upstream_sound : (place : EdgePlace) (control : Control) (own : OwnVrf) (source : Addr) → Each SoundPeer control.peers → SoundUpstream (upstream_for place control own source)

@@ -1,5 +1,5 @@
 -- What holds of each element of a list, and of each entry of a map.
-use Rattle.std.proofs.Common.{◌≡◌, Bool, true, false, cond, not, ◌&&◌, ◌||◌, inl, inr, List, [], ◌∷◌, ◌++◌, map, Option, Some, None, refl, sym, ap, subst, ◌∙◌}
+use Rattle.std.proofs.Common.{◌≡◌, Bool, true, false, cond, not, ◌&&◌, inl, inr, List, [], ◌∷◌, ◌++◌, map, Option, Some, None, refl, sym, ap, subst, ◌∙◌}
 use Rattle.std.specs.Prelude.{◌⊎◌, T}
 use Rattle.std.specs.List.{AllByRecursion, filter, flat_map, list_any}
 use Rattle.std.specs.Ordering.{eq_by_cmp, is_eq, is_lt}
@@ -11,7 +11,7 @@ use Rattle.std.specs.FinMap.{FinMap, IsAntisymmetric, find, is_sorted}
 use Rattle.std.specs.FinMap.Entries.{below_all}
 use Rattle.std.specs.FinSet as sets
 use Rattle.std.specs.FinSet.{FinSet}
-use Rattle.std.proofs.lemmas.Bool.{cases_Bool, or_cases, or_left, or_right, and_parts}
+use Rattle.std.proofs.lemmas.Bool.{or_cases, or_left, or_right, and_parts}
 use Rattle.edge_defs.specs.Imported.{found_in, only_one}
 
 -- ---- lists
@@ -146,9 +146,10 @@ module _ {K X : Type 0} {R : K → K → Ordering} (total : IsTotalOrder R) (exa
 module _ {K : Type 0} {R : K → K → Ordering} (total : IsTotalOrder R) (exact : IsAntisymmetric R) (P : K → Type 0) where
   listed_meet : (xs : List K) → ((k : K) → list_any (eq_by_cmp R k) xs ≡ true → P k) → AllByRecursion P xs
   listed_meet [] h = tt
-  listed_meet (x ∷ xs) h =
-      (h x (or_left (eq_by_cmp R x x) (list_any (eq_by_cmp R x) xs) (ap is_eq (tied_itself total x))),
-      listed_meet xs (λ k e. h k (or_right (eq_by_cmp R k x) (list_any (eq_by_cmp R k) xs) e)))
+  listed_meet (x ∷ xs) h = (
+    h x (or_left (eq_by_cmp R x x) (list_any (eq_by_cmp R x) xs) (ap is_eq (tied_itself total x))),
+    listed_meet xs (λ k e. h k (or_right (eq_by_cmp R k x) (list_any (eq_by_cmp R k) xs) e)),
+  )
 
   pub items_meet : (s : FinSet R) → ((k : K) → sets.contains s k ≡ true → P k) → AllByRecursion P (sets.items s)
   items_meet s h = listed_meet (sets.items s) (λ k e. h k (sets.contains-items s k ∙ e))

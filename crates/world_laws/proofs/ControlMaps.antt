@@ -122,7 +122,7 @@ module _ {K X : Type 0} {R : K → K → Ordering} (total : IsTotalOrder R) (exa
       parts true e t rest = ap (λ c. cond c (Some x.1) (find R q es)) (first_less (R q x.0) e) ∙ rest t
       parts false e t rest = absurd t
 
-  -- what stands behind a key that is below all of them stands in the whole list
+  -- what is found behind an entry whose own key is not found there is found in the whole list
   later : (x : K × X) (es : List (K × X)) → find R x.0 es ≡ None → (q : K) (v : X) → find R q es ≡ Some v → (b : Bool) → eq_by_cmp R q x.0 ≡ b → cond b (Some x.1) (find R q es) ≡ Some v
   later x es none q v f false e = f
   later x es none q v f true e =

@@ -34,8 +34,8 @@ pub control_stays_sound : (place : EdgePlace) (now : ℕ) (old : Control) (call 
 control_stays_sound place now old call scenario h heard = stepped_sound place now (effect place now old call) (is_vrf_step call) (effect_sound place now old call h heard)
 
 -- A message of a peer that is spelled in octets.
-pub update_stays_sound : (place : EdgePlace) (now : ℕ) (old : Control) (peer : NodeId) (message : Message) (text : List ℕ) → SoundScenario place.scenario → SoundControl old → SpellsMessage (message ∷ []) text → IsOctets text →
-    SoundControl (control_step place now old (steps.Update peer message))
+pub update_stays_sound : (place : EdgePlace) (now : ℕ) (old : Control) (peer : NodeId) (message : Message) (text : List ℕ) → SoundScenario place.scenario → SoundControl old →
+    SpellsMessage (message ∷ []) text → IsOctets text → SoundControl (control_step place now old (steps.Update peer message))
 update_stays_sound place now old peer message text scenario h spelled fits =
     refreshed_sound place now (with_update now peer message old) (updated_sound now peer message old h (changes_sound message text spelled fits))
 

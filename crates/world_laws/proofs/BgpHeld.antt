@@ -20,7 +20,7 @@ use Rattle.edge_defs.specs.Keys.{Value}
 use Rattle.edge_defs.specs.Originated.{target_comms, import_comm, source_as_comm, import_target, own_import, afi_of, selective_key, active_key, plain_value, unicast_value, tunnel_value, unicast_routes, is_iface_of, notes_of, active_routes, selective_routes, routes_of, originated}
 use Rattle.edge_defs.specs.Place.{EdgePlace, OwnVrf, own_addr, own_vrfs, tunnel_number}
 use Rattle.world_laws.specs.Sound.{IsHost, IsFlow, AreEight, SoundScenario, SoundPattern, SoundUpstream, SoundControl}
-use Rattle.world_laws.proofs.BgpKeys.{key_total, key_exact, note_total, pattern_total, flow_total}
+use Rattle.edge_defs.proofs.KeyLemmas.{key_total, key_exact, note_total, pattern_total, flow_total}
 use Rattle.world_laws.proofs.BgpMaps.{all_append, all_map, all_flat_map, all_filter, all_weaker, IfFound, all_found, found_is, all_entries, all_items}
 use Rattle.world_laws.proofs.BgpPlaces.{FitsVrf, FitsPrefix, own_fit, local_fit}
 use Rattle.world_laws.proofs.BgpRoutes.{intra_fits, selective_fits, active_fits, join_fits, unicast_fits}

@@ -19,7 +19,7 @@ use Rattle.net_defs.specs.Sessions.{edges}
 use Rattle.world_defs.specs.Puts.{bgp_put, bgp_puts}
 use Rattle.world_laws.specs.Sound.{SoundScenario, SoundControl}
 use Rattle.world_laws.proofs.BgpHeld.{held_fits}
-use Rattle.world_laws.proofs.BgpKeys.{key_total, key_exact}
+use Rattle.edge_defs.proofs.KeyLemmas.{key_total, key_exact}
 use Rattle.world_laws.proofs.BgpMaps.{all_append, all_map, all_flat_map, all_each, all_entries, kept_is}
 use Rattle.world_laws.proofs.BgpPlaces.{own_host}
 use Rattle.world_laws.proofs.BgpTexts.{IsBgpPut, reach_put, unreach_put}

@@ -1,4 +1,3 @@
-pub mod BgpKeys
 pub mod BgpMaps
 pub mod BgpOctets
 pub mod BgpTexts
@@ -7,3 +6,10 @@ pub mod BgpValues
 pub mod BgpPlaces
 pub mod BgpHeld
 pub mod BgpPuts
+pub mod ControlMaps
+pub mod ControlEntries
+pub mod ControlFlows
+pub mod ControlSpelled
+pub mod ControlTaken
+pub mod ControlSteps
+pub mod ControlSound

@@ -1,1 +1,2 @@
 pub mod LabelLists
+pub mod LabelSound

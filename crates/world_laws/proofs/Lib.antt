@@ -1,2 +1,3 @@
 pub mod LabelLists
 pub mod LabelSound
+pub mod LabelTurns

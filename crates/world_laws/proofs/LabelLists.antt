@@ -107,3 +107,10 @@ module _ {K : Type 0} {R : K → K → Ordering} (total : IsTotalOrder R) where
 
   pub still : (s : FinSet R) (k q : K) → sets.contains (sets.remove s k) q ≡ true → sets.contains s q ≡ true
   still s k q e = of_both (not (eq_by_cmp R q k)) (sets.contains s q) (sym (sets.contains-remove total s k q) ∙ e)
+
+  of_first : (a b : Bool) → (a && b) ≡ true → a ≡ true
+  of_first true b e = refl
+  of_first false b e = e
+
+  pub was : IsAntisymmetric R → (s : FinSet R) (p : K → Bool) (q : K) → sets.contains (sets.retain s p) q ≡ true → sets.contains s q ≡ true
+  was exact s p q e = of_first (sets.contains s q) (p q) (sym (sets.contains-retain s p q (λ x t. ap p (sym (exact q x t)))) ∙ e)

@@ -1,3 +1,4 @@
 pub mod LabelLists
 pub mod LabelSound
 pub mod LabelTurns
+pub mod LabelEffects

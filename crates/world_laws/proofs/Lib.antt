@@ -2,3 +2,5 @@ pub mod LabelLists
 pub mod LabelSound
 pub mod LabelTurns
 pub mod LabelEffects
+pub mod LabelPuts
+pub mod LabelIds

@@ -4,3 +4,5 @@ pub mod LabelTurns
 pub mod LabelEffects
 pub mod LabelPuts
 pub mod LabelIds
+pub mod LabelEntries
+pub mod LabelLeaves

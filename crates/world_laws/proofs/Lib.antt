@@ -6,3 +6,5 @@ pub mod LabelPuts
 pub mod LabelIds
 pub mod LabelEntries
 pub mod LabelLeaves
+pub mod LabelCalls
+pub mod LabelTaken

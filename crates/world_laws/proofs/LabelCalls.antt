@@ -1,5 +1,5 @@
 -- The label calls of an edge's step are sound, and raise no end of an LDP session but where the step does.
-use Rattle.std.proofs.Common.{◌≡◌, ℕ, ◌&&◌, not, Bool, true, false, cond, ◌||◌, inl, inr, List, [], ◌∷◌, ◌++◌, map, filter, flat_map, Option, Some, None, refl, sym, ap, subst, ◌∙◌}
+use Rattle.std.proofs.Common.{◌≡◌, ℕ, ◌&&◌, not, Bool, true, false, cond, inl, inr, List, [], ◌∷◌, ◌++◌, filter, flat_map, Option, Some, refl, sym, subst, ◌∙◌}
 use Rattle.std.specs.List.{AllByRecursion}
 use Rattle.std.specs.FinMap as maps
 use Rattle.std.specs.FinSet as sets
@@ -24,7 +24,7 @@ use Rattle.edge_defs.specs.Steps.{own_label_call, changed_leaves, one_call, Labe
 use Rattle.edge_defs.specs.Tunnels.{leaves}
 use Rattle.world_defs.specs.Puts.{label_puts}
 use Rattle.world_laws.specs.Sound.{IsSoundFec, SoundControl}
-use Rattle.world_laws.proofs.LabelIds.{IsNoRaise, HasNoIds, own_ids_stay_empty, ids_stay_empty, no_ids_no_puts}
+use Rattle.world_laws.proofs.LabelIds.{IsNoRaise, own_ids_stay_empty, ids_stay_empty, no_ids_no_puts}
 use Rattle.world_laws.proofs.LabelLeaves.{leaves_are_sound}
 use Rattle.world_laws.proofs.LabelLists.{each_of, each_append, each_map, each_filter, each_weaker, each_item}
 use Rattle.world_laws.proofs.LabelSound.{IsSoundLabelMessage, IsSoundLabelCall}
@@ -36,13 +36,14 @@ abbrev pub TakesSound : steps.Call → Type 0
 TakesSound (steps.Label neighbour message) = IsSoundLabelMessage message
 TakesSound other = Unit {0}
 
-abbrev wanted : FinSet fec_cmp → Fec → labels.Call
-wanted new fec = cond (sets.contains new fec) (labels.Want fec) (labels.Unwant fec)
+-- the call of a tree that changes
+abbrev call_for : FinSet fec_cmp → Fec → labels.Call
+call_for new fec = cond (sets.contains new fec) (labels.Want fec) (labels.Unwant fec)
 
 -- what holds of both calls of a tree holds of the one that is made
-wanted_or_not : (P : labels.Call → Type 0) (fec : Fec) (t : Bool) → P (labels.Want fec) → P (labels.Unwant fec) → P (cond t (labels.Want fec) (labels.Unwant fec))
-wanted_or_not P fec true p q = p
-wanted_or_not P fec false p q = q
+of_both_calls : (P : labels.Call → Type 0) (fec : Fec) (t : Bool) → P (labels.Want fec) → P (labels.Unwant fec) → P (cond t (labels.Want fec) (labels.Unwant fec))
+of_both_calls P fec true p q = p
+of_both_calls P fec false p q = q
 
 abbrev is_changed : FinSet fec_cmp → FinSet fec_cmp → Fec → Bool
 is_changed old new fec = not (sets.contains old fec && sets.contains new fec)
@@ -53,8 +54,8 @@ changed_leaves_are_sound old new before behind =
     let all : AllByRecursion IsSoundFec both = each_item fec_cmp_total IsSoundFec (sets.union old new) (λ fec e.
     elim (or_cases (sets.contains old fec) (sets.contains new fec) (sym (sets.contains-union fec_cmp_total old new fec) ∙ e)) [ inl h ↦ before fec h | inr h ↦ behind fec h ]) in
     let some : AllByRecursion IsSoundFec (filter (is_changed old new) both) = each_filter IsSoundFec (is_changed old new) both all in
-    each_map IsSoundLabelCall (wanted new) (filter (is_changed old new) both)
-    (each_weaker IsSoundFec (λ fec. IsSoundLabelCall (wanted new fec)) (λ fec s. wanted_or_not IsSoundLabelCall fec (sets.contains new fec) s s) (filter (is_changed old new) both) some)
+    each_map IsSoundLabelCall (call_for new) (filter (is_changed old new) both)
+    (each_weaker IsSoundFec (λ fec. IsSoundLabelCall (call_for new fec)) (λ fec s. of_both_calls IsSoundLabelCall fec (sets.contains new fec) s s) (filter (is_changed old new) both) some)
 
 own_call_sound : (call : steps.Call) → TakesSound call → AllByRecursion IsSoundLabelCall (one_call (own_label_call call))
 own_call_sound (steps.Label neighbour message) s = (s, tt)
@@ -108,7 +109,7 @@ pub edge_calls_raise_none : (old new : FinSet fec_cmp) (call : steps.Call) → R
 edge_calls_raise_none old new call r =
     let some : List Fec = filter (is_changed old new) (sets.items (sets.union old new)) in
     each_append IsNoRaise (one_call (own_label_call call)) (changed_leaves old new) (own_call_raises call r)
-    (each_map IsNoRaise (wanted new) some (each_of (λ fec. IsNoRaise (wanted new fec)) (λ fec. wanted_or_not IsNoRaise fec (sets.contains new fec) tt tt) some))
+    (each_map IsNoRaise (call_for new) some (each_of (λ fec. IsNoRaise (call_for new fec)) (λ fec. of_both_calls IsNoRaise fec (sets.contains new fec) tt tt) some))
 
 -- A row of such calls at a node without ids puts nothing, and leaves none.
 pub row_without_ids : (n : NodeId) (addr : Addr) (place : EdgePlace) (now : ℕ) (part : LabelData) (calls : List labels.Call) (row : List LabelStep) → AllByRecursion IsNoRaise calls → part.ids ≡ maps.empty → label_row place now part calls ≡ Some row

@@ -1,5 +1,5 @@
 -- A call's own effect on the label part keeps it sound, and what answers it is sound; so is a whole label step.
-use Rattle.std.proofs.Common.{◌≡◌, ℕ, ◌+◌, ◌-◌, ◌==◌, ◌≤◌, ◌&&◌, not, nat_le, Bool, true, false, cond, inl, inr, List, [], ◌∷◌, ◌++◌, length, map, Option, Some, None, refl, sym, ap, subst, ◌∙◌, arith}
+use Rattle.std.proofs.Common.{◌≡◌, ℕ, ◌+◌, ◌-◌, ◌==◌, ◌≤◌, ◌&&◌, not, nat_le, Bool, true, false, cond, List, [], ◌∷◌, ◌++◌, map, Option, Some, None, refl, sym, subst}
 use Rattle.std.specs.List.{AllByRecursion}
 use Rattle.std.specs.FinSet as sets
 use Rattle.mv_base.specs.declared.ids.NodeId.{NodeId}
@@ -8,15 +8,14 @@ use Rattle.mldp_msgs.specs.declared.message.LabelMessage.TheVariants as messages
 use Rattle.label_defs.specs.declared.branch.Branch.{Branch}
 use Rattle.label_defs.specs.declared.label_use.LabelUse.{LabelUse}
 use Rattle.label_defs.specs.declared.label_use.LabelUse.TheVariants as uses
-use Rattle.label_defs.specs.declared.put.Put.{Put}
 use Rattle.label_defs.specs.LabelData.{Place, LabelData, same_fec, use_of, mapped_trees, trees}
 use Rattle.label_defs.specs.Settling.{Stepped, with_use, settle_all}
-use Rattle.label_defs.specs.Steps.{Call, Taken, Want, Unwant, Raised, Noticed, Timers, branch_to, released, with_release, freed, woken, without_session, timed, effect, counted, label_step}
+use Rattle.label_defs.specs.Steps.{Call, Taken, Want, Unwant, Raised, Noticed, Timers, branch_to, released, freed, woken, without_session, timed, effect, counted, label_step}
 use Rattle.label_defs.proofs.KeyLemmas.{fec_cmp_total, fec_cmp_exact, branch_cmp_total, branch_cmp_exact}
 use Rattle.label_defs.proofs.UseLemmas.{used_some, map_some}
 use Rattle.world_laws.specs.Sound.{IsSoundFec, SoundUse, SoundPart}
 use Rattle.world_laws.proofs.LabelLists.{each_append, each_map, each_changed, each_at, each_item, each_member, each_inserted, still, was, length_map}
-use Rattle.world_laws.proofs.LabelSound.{IsSoundLabelMessage, IsSoundLabelCall, IsSoundPut, release_sound}
+use Rattle.world_laws.proofs.LabelSound.{IsSoundLabelCall, release_sound}
 use Rattle.world_laws.proofs.LabelTurns.{AreSoundUses, uses_set, IsSoundStep, settle_sound}
 
 -- ---- labels

@@ -21,9 +21,7 @@ use Rattle.label_defs.specs.declared.put.Put as labels
 use Rattle.label_defs.proofs.KeyLemmas.{node_cmp_total, node_cmp_exact}
 use Rattle.label_defs.proofs.SettleLemmas.{bind_some}
 use Rattle.label_defs.proofs.UseLemmas.{map_some}
-use Rattle.session_defs.specs.System.{Put}
-use Rattle.edge_defs.specs.Place.{EdgePlace, label_place}
-use Rattle.edge_defs.specs.Steps.{LabelStep, label_row, part_after}
+use Rattle.edge_defs.specs.Steps.{LabelStep}
 use Rattle.world_defs.specs.Puts.{label_put, numbered_puts, label_puts}
 
 -- the call is none of an end that comes up

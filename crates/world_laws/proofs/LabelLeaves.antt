@@ -1,10 +1,9 @@
 -- The trees of which an edge is a leaf have sound FECs, since the values of its routes are sound.
-use Rattle.std.proofs.Common.{◌≡◌, ℕ, ◌&&◌, not, Bool, true, false, cond, List, [], ◌∷◌, ◌++◌, map, filter, flat_map, Option, Some, None, refl, sym, ap, subst, ◌∙◌}
+use Rattle.std.proofs.Common.{◌≡◌, ◌&&◌, true, List, [], ◌∷◌, flat_map, Option, Some, None, refl, sym, ap, subst, ◌∙◌}
 use Rattle.std.specs.List.{AllByRecursion}
 use Rattle.std.specs.Cmp.{IsTotalOrder, nat_cmp_total}
 use Rattle.std.specs.FinMap as maps
 use Rattle.std.specs.FinSet as sets
-use Rattle.std.specs.FinSet.{FinSet}
 use Rattle.std.proofs.lemmas.Cmp.{on_total, lists_total}
 use Rattle.std.proofs.lemmas.Option.{same_Some, none-some}
 use Rattle.mv_base.specs.Number.{◌>>?◌, only_if}
@@ -15,23 +14,18 @@ use Rattle.mv_base.proofs.CutLemmas.{if_some}
 use Rattle.mldp_fec.specs.declared.fec.Fec.{Fec}
 use Rattle.bgp_attributes.specs.declared.key.Key.{Key}
 use Rattle.scenario_defs.specs.declared.scenario.Vrf.{Vrf}
-use Rattle.scenario_defs.specs.declared.event.Kind.TheVariants as kinds
 use Rattle.selective_defs.specs.Selective.{wanted, is_wanted}
 use Rattle.selective_defs.specs.declared.learned_route.LearnedRoute.{LearnedRoute}
-use Rattle.label_defs.specs.Keys.{fec_cmp}
-use Rattle.label_defs.specs.Steps as labels
 use Rattle.label_defs.proofs.KeyLemmas.{fec_cmp_total, fec_cmp_exact, node_cmp_total}
 use Rattle.label_defs.proofs.SettleLemmas.{bind_some}
 use Rattle.edge_defs.specs.Edge.{VrfFlow, Upstream, Site, Remote, TakenRoute, Taken, Control}
 use Rattle.edge_defs.specs.Imported.{is_admitted, found_in, lsp_of, tunnel_by, inclusive_of, SelectiveRoute, selective_of, taken_from, imported_inclusive, ImportedSelective, imported_selective}
 use Rattle.edge_defs.specs.Keys.{Value, key_parts, key_cmp}
 use Rattle.edge_defs.specs.Place.{EdgePlace, OwnVrf, addr_of, own_vrfs}
-use Rattle.edge_defs.specs.Steps as steps
-use Rattle.edge_defs.specs.Steps.{own_label_call, changed_leaves, one_call}
 use Rattle.edge_defs.specs.Tunnels.{learned_route, learned_routes, inclusive_tunnels, flow_tunnels, flows_of, tunnels_of, leaves}
 use Rattle.world_laws.specs.Sound.{IsSoundFec, SoundValue, SoundTaken, SoundControl}
 use Rattle.world_laws.proofs.LabelEntries.{each_entry}
-use Rattle.world_laws.proofs.LabelLists.{each_of, each_append, each_map, each_flat, each_filter, each_weaker, each_member}
+use Rattle.world_laws.proofs.LabelLists.{each_of, each_append, each_map, each_flat, each_filter, each_member}
 
 -- ---- what is found
 
@@ -65,13 +59,17 @@ inclusive_sound vrf peer entry fec s e =
     let y = bind_some (only_if (is_admitted vrf value.comms) value) (λ found. tunnel_by peer x.0 found) fec x.2 in
     admitted_sound vrf peer x.0 value y.0 fec s y.1 y.2
 
+-- the tunnel of what is imported
+imported_is : (route : SelectiveRoute) (fec : Fec) (imported : ImportedSelective) → ◌≡◌ {A = Option ImportedSelective} (Some (record { route = route; fec = fec })) (Some imported) → IsSoundFec fec → IsSoundFec imported.fec
+imported_is route fec imported e s = subst (λ (i : ImportedSelective). IsSoundFec i.fec) (same_Some (record { route = route; fec = fec }) imported e) s
+
 selective_sound : (vrf : Vrf) (peer : Addr) (entry : Key × TakenRoute) (imported : ImportedSelective) → IsSoundRoute entry → imported_selective vrf peer entry ≡ Some imported → IsSoundFec imported.fec
 selective_sound vrf peer entry imported s e =
     let value : Value = entry.1.value in
     let x = bind_some (selective_of entry.0) (λ route. only_if (is_admitted vrf value.comms) value >>? λ found. tunnel_by peer route.originator found >>? λ fec. Some (record { route = route; fec = fec })) imported e in
     let y = bind_some (only_if (is_admitted vrf value.comms) value) (λ found. tunnel_by peer x.0.originator found >>? λ fec. Some (record { route = x.0; fec = fec })) imported x.2 in
     let z = bind_some (tunnel_by peer x.0.originator y.0) (λ fec. Some (record { route = x.0; fec = fec })) imported y.2 in
-    subst (λ (i : ImportedSelective). IsSoundFec i.fec) (same_Some (record { route = x.0; fec = z.0 }) imported z.2) (admitted_sound vrf peer x.0.originator value y.0 z.0 s y.1 z.1)
+    imported_is x.0 z.0 imported z.2 (admitted_sound vrf peer x.0.originator value y.0 z.0 s y.1 z.1)
 
 learned_sound : (place : EdgePlace) (own : OwnVrf) (peer : NodeId) (entry : Key × TakenRoute) (route : LearnedRoute) → IsSoundRoute entry → learned_route place own peer entry ≡ Some route → IsSoundFec route.fec
 learned_sound place own peer entry route s e = by (imported_selective own.vrf (addr_of place.scenario peer) entry) refl e

@@ -1,15 +1,13 @@
 -- What holds of each element of a list, of each member of a set, and of each entry of a map.
-use Rattle.std.proofs.Common.{◌≡◌, ℕ, zero, suc, Bool, true, false, cond, T, not, ◌&&◌, ◌||◌, ◌⊎◌, inl, inr, List, [], ◌∷◌, ◌++◌, map, filter, flat_map, length, slice_get, slice_set, Option, Some, None, refl, sym, ap, subst, ◌∙◌}
+use Rattle.std.proofs.Common.{◌≡◌, ℕ, zero, suc, Bool, true, false, cond, not, ◌&&◌, inl, inr, List, [], ◌∷◌, ◌++◌, map, filter, flat_map, length, slice_get, slice_set, Some, refl, sym, ap, subst, ◌∙◌}
 use Rattle.std.specs.List.{AllByRecursion, list_any}
-use Rattle.std.specs.Ordering.{eq_by_cmp, is_eq, is_lt}
+use Rattle.std.specs.Ordering.{eq_by_cmp, is_eq}
 use Rattle.std.specs.declared.cmp.Ordering.{Ordering}
-use Rattle.std.specs.declared.cmp.Ordering.TheVariants.{Less, Equal, Greater}
 use Rattle.std.specs.Cmp.{IsTotalOrder, tied_itself, Equal-is}
-use Rattle.std.specs.FinMap as maps
-use Rattle.std.specs.FinMap.{FinMap, IsAntisymmetric, find, is_sorted}
+use Rattle.std.specs.FinMap.{IsAntisymmetric}
 use Rattle.std.specs.FinSet as sets
 use Rattle.std.specs.FinSet.{FinSet}
-use Rattle.std.proofs.lemmas.Bool.{or_cases, or_left, or_right, and_left}
+use Rattle.std.proofs.lemmas.Bool.{or_cases, or_left, or_right}
 use Rattle.std.proofs.lemmas.Option.{same_Some, none-some}
 
 -- ---- lists
@@ -95,6 +93,7 @@ module _ {K : Type 0} {R : K → K → Ordering} (total : IsTotalOrder R) where
     pub each_member : (P : K → Type 0) (xs : List K) → AllByRecursion P xs → (k : K) → sets.contains (sets.from_list {R = R} xs) k ≡ true → P k
     each_member P xs p k e = among P xs p k (sym (sets.contains-from_list total xs k) ∙ e)
 
+    -- what holds of a new member and of the others
     pub each_inserted : (P : K → Type 0) (s : FinSet R) (k : K) → P k → ((q : K) → sets.contains s q ≡ true → P q) → (q : K) → sets.contains (sets.insert s k) q ≡ true → P q
     each_inserted P s k here each q e = elim (or_cases (eq_by_cmp R q k) (sets.contains s q) (sym (sets.contains-insert total s k q) ∙ e)) [
       | inl same ↦ subst P (sym (tied q k same)) here
@@ -105,6 +104,7 @@ module _ {K : Type 0} {R : K → K → Ordering} (total : IsTotalOrder R) where
   of_both true b e = e
   of_both false b e = absurd cc
 
+  -- a member of what is left was one
   pub still : (s : FinSet R) (k q : K) → sets.contains (sets.remove s k) q ≡ true → sets.contains s q ≡ true
   still s k q e = of_both (not (eq_by_cmp R q k)) (sets.contains s q) (sym (sets.contains-remove total s k q) ∙ e)
 
@@ -112,5 +112,6 @@ module _ {K : Type 0} {R : K → K → Ordering} (total : IsTotalOrder R) where
   of_first true b e = refl
   of_first false b e = e
 
+  -- a member of what is kept was one
   pub was : IsAntisymmetric R → (s : FinSet R) (p : K → Bool) (q : K) → sets.contains (sets.retain s p) q ≡ true → sets.contains s q ≡ true
   was exact s p q e = of_first (sets.contains s q) (p q) (sym (sets.contains-retain s p q (λ x t. ap p (sym (exact q x t)))) ∙ e)

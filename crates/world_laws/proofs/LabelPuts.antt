@@ -1,17 +1,19 @@
 -- What the label steps of a node put is spelled, and its label part stays sound.
-use Rattle.std.proofs.Common.{◌≡◌, ℕ, List, [], ◌∷◌, ◌++◌, length, Option, Some, None, refl, sym, ap, subst, ◌∙◌}
+use Rattle.std.proofs.Common.{◌≡◌, ℕ, zero, suc, ◌≤◌, replicate, List, [], ◌∷◌, length, Some, None, refl, sym, ap, subst}
 use Rattle.std.specs.List.{AllByRecursion, flat_map}
 use Rattle.std.specs.FinMap as maps
+use Rattle.std.specs.FinSet as sets
 use Rattle.std.specs.FinMap.{FinMap}
-use Rattle.std.proofs.lemmas.Option.{same_Some, none-some}
+use Rattle.std.proofs.lemmas.Option.{same_Some}
 use Rattle.mv_base.specs.Address.{addr_octets}
 use Rattle.mv_base.specs.Octets.{IsOctets}
 use Rattle.mv_base.specs.Number.{◌>>?◌}
 use Rattle.mv_base.specs.declared.addr.Addr.{Addr}
 use Rattle.mv_base.specs.declared.ids.NodeId.{NodeId}
 use Rattle.mldp_msgs.proofs.Writings.{pdu_spelled}
-use Rattle.label_defs.specs.Keys.{node_cmp}
-use Rattle.label_defs.specs.LabelData.{Place, LabelData}
+use Rattle.label_defs.specs.declared.label_use.LabelUse.TheVariants as uses
+use Rattle.label_defs.specs.Keys.{fec_cmp, branch_cmp, node_cmp}
+use Rattle.label_defs.specs.LabelData.{Place, LabelData, fresh}
 use Rattle.label_defs.specs.Settling.{Stepped}
 use Rattle.label_defs.specs.Steps.{Call, effect, next_id, label_step}
 use Rattle.label_defs.specs.declared.put.Put as labels
@@ -21,10 +23,27 @@ use Rattle.session_defs.specs.System.{Put}
 use Rattle.edge_defs.specs.Place.{EdgePlace, label_place}
 use Rattle.edge_defs.specs.Steps.{LabelStep, label_row, part_after}
 use Rattle.world_defs.specs.Puts.{label_put, numbered_puts, label_puts}
-use Rattle.world_laws.specs.Sound.{SoundPart}
+use Rattle.world_laws.specs.Sound.{SoundUse, SoundPart}
 use Rattle.world_laws.proofs.LabelLists.{each_flat, each_weaker}
 use Rattle.world_laws.proofs.LabelSound.{IsSoundLabelCall, IsSoundPut, pdu_octets}
 use Rattle.world_laws.proofs.LabelEffects.{step_sound}
+
+-- ---- a node in which nothing has happened
+
+all_free : (count : ℕ) → (length (replicate count uses.Free) ≡ count) × AllByRecursion SoundUse (replicate count uses.Free)
+all_free zero = (refl, tt)
+all_free (suc count) = (let rest = all_free count in (ap suc rest.0, (tt, rest.1)))
+
+pub fresh_part_is_sound : (count : ℕ) → count ≤ 65536 → SoundPart (fresh count)
+fresh_part_is_sound count few =
+    let all = all_free count in
+    record {
+      few = subst (λ n. n ≤ 65536) (sym all.0) few;
+      uses = all.1;
+      branches = λ branch e. (let none = sets.contains-empty branch_cmp branch in absurd cc);
+      leaves = λ fec e. (let none = sets.contains-empty fec_cmp fec in absurd cc);
+      waiting = λ fec e. (let none = sets.contains-empty fec_cmp fec in absurd cc);
+    }
 
 -- ---- one step
 

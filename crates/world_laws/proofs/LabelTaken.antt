@@ -6,13 +6,20 @@ use Rattle.mv_base.specs.Octets.{IsOctets}
 use Rattle.framing.specs.Parts.{ArePartsAfter}
 use Rattle.framing.specs.Units.{Spelled, AreUnits, octets_of, messages_of}
 use Rattle.framing.proofs.Cuts.{IsOctets-before, IsOctets-behind}
+use Rattle.mv_base.specs.declared.ids.NodeId.{NodeId}
 use Rattle.mldp_fec.specs.Spelling as fecs
 use Rattle.mldp_fec.specs.declared.fec.Fec.{Fec}
 use Rattle.mldp_msgs.specs.Spelling.{IsLabel, SpellsTlv, IsNew, Carries, Means, SpellsMessage, SpellsPdu}
 use Rattle.mldp_msgs.specs.declared.message.LabelMessage.{LabelMessage}
 use Rattle.mldp_msgs.specs.declared.message.LabelMessage.TheVariants as messages
+use Rattle.bgp_attributes.specs.declared.update.Message.{Message}
+use Rattle.scenario_defs.specs.declared.event.Kind.{Kind}
+use Rattle.scenario_defs.specs.declared.event.Kind.TheVariants as kinds
+use Rattle.session_defs.specs.Message.{SessionMessage, Bgp, Label, IsPut}
+use Rattle.world_defs.specs.System.{call_of}
+use Rattle.world_laws.proofs.LabelCalls.{TakesSound}
 use Rattle.world_laws.specs.Sound.{IsSoundFec}
-use Rattle.world_laws.proofs.LabelLists.{each_append}
+use Rattle.world_laws.proofs.LabelLists.{each_of, each_append, each_map, each_inner}
 use Rattle.world_laws.proofs.LabelSound.{IsSoundLabelMessage}
 
 -- ---- octets among octets
@@ -73,3 +80,20 @@ taken_message_is_sound plain text s fits =
     let inner : IsOctets s.body = IsOctets-behind s.ident s.body (behind_two 1 (6 + length s.body) (s.ident ++ s.body) text s.parts fits) in
     let all : IsOctets (octets_of s.messages.units) = IsOctets-before (octets_of s.messages.units) [] (subst IsOctets s.messages.parts inner) in
     subst AreSoundMessages (sym s.messages.carried) (units_sound s.messages.units s.messages.each all)
+
+-- ---- the messages of a unit
+
+abbrev TakenSound : NodeId → SessionMessage → Type 0
+TakenSound from message = TakesSound (call_of from message)
+
+unit_calls : (kind : Kind) (from : NodeId) (ms : List SessionMessage) (text : List ℕ) → IsPut kind ms text → AllByRecursion (TakenSound from) ms
+unit_calls kinds.Bgp from ms text ((plain, same, spells), fits) =
+    let as_message : Message → SessionMessage = λ message. Bgp message in
+    subst (AllByRecursion (TakenSound from)) (sym same) (each_map (TakenSound from) as_message plain (each_of (λ message. TakenSound from (as_message message)) (λ message. tt) plain))
+unit_calls kinds.Ldp from ms text ((plain, same, spells), fits) =
+    let as_message : LabelMessage → SessionMessage = λ message. Label message in
+    subst (AllByRecursion (TakenSound from)) (sym same) (each_map (TakenSound from) as_message plain (taken_message_is_sound plain text spells fits))
+
+-- the call that takes one of the messages of a unit takes no label message but a sound one
+pub taken_call_is_sound : (kind : Kind) (from : NodeId) (before : List SessionMessage) (message : SessionMessage) (behind : List SessionMessage) (text : List ℕ) → IsPut kind (before ++ message ∷ behind) text → TakesSound (call_of from message)
+taken_call_is_sound kind from before message behind text put = each_inner (TakenSound from) before message behind (unit_calls kind from (before ++ message ∷ behind) text put)

@@ -13,3 +13,13 @@ pub mod ControlSpelled
 pub mod ControlTaken
 pub mod ControlSteps
 pub mod ControlSound
+pub mod LabelLists
+pub mod LabelSound
+pub mod LabelTurns
+pub mod LabelEffects
+pub mod LabelPuts
+pub mod LabelIds
+pub mod LabelEntries
+pub mod LabelLeaves
+pub mod LabelCalls
+pub mod LabelTaken

@@ -11,3 +11,4 @@ pub mod Run
 pub mod Local
 pub mod LabelRule
 pub mod Unready
+pub mod Example

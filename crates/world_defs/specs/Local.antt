@@ -83,10 +83,10 @@ pub record MayHop (before : List Traced) (u n : NodeId) (label : ℕ) (fec : Fec
   pub up : is_up_in kinds.Ldp u n before ≡ true
   pub mapped : HasLabel (taken_since kinds.Ldp n u before) fec label
 
--- each `hop` line puts its copy on a branch of the tree
-abbrev pub HopsOf : List Traced → Fec → ReportLine → Type 0
-HopsOf before fec (lines.Hop u n label ttl number) = MayHop before u n label fec
-HopsOf before fec other = Unit {0}
+-- each `hop` line puts its copy on a branch of the tree, at that node
+abbrev pub HopsOf : List Traced → NodeId → Fec → ReportLine → Type 0
+HopsOf before node fec (lines.Hop u n label ttl number) = (u ≡ node) × MayHop before u n label fec
+HopsOf before node fec other = Unit {0}
 
 -- The VRF of an interface may be reached from a tunnel: its edge has taken a route of that tunnel, with a Route Target of the VRF,
 -- from the edge at the tunnel's root.
@@ -95,6 +95,7 @@ pub record MayDeliver (scenario : Scenario) (before : List Traced) (n : NodeId) 
   pub known : slice_get scenario.ifaces iface.0 ≡ Some own
   pub vrf : Vrf
   pub of_vrf : slice_get scenario.vrfs own.vrf.0 ≡ Some vrf
+  pub at_edge : vrf.edge ≡ n
   pub root : NodeId
   pub at_root : fec.root ≡ addr_of scenario root
   pub afi : Afi
@@ -121,7 +122,7 @@ pub record MayLand (scenario : Scenario) (before : List Traced) (from n : NodeId
   pub fec : Fec
   pub up : is_up_in kinds.Ldp n from before ≡ true
   pub mapped : HasLabel (put_since kinds.Ldp n from before) fec label
-  pub hops : AllByRecursion (HopsOf before fec) all
+  pub hops : AllByRecursion (HopsOf before n fec) all
   pub outs : AllByRecursion (OutsOf scenario before n fec) all
 
 -- A datagram that enters at a VRF and goes on a branch does so for a tunnel of that VRF, and another edge has joined its flow there.
@@ -142,9 +143,9 @@ abbrev pub EntersBy : Scenario → List Traced → List Datagram → VrfId → R
 EntersBy scenario before datagrams id (lines.Hop u n label ttl number) = (datagram : Datagram) × (0 < number) × (slice_get datagrams (number - 1) ≡ Some datagram) × MayEnter scenario before id datagram u n label
 EntersBy scenario before datagrams id other = Unit {0}
 
--- What an act needs for its lines, by what happened before it.
+-- What an act needs for its lines, by what happened before it. The lines of a copy that lands begin with that.
 abbrev pub IsLicensed : Scenario → List Datagram → List Traced → Option Act → List ReportLine → Type 0
-IsLicensed scenario datagrams before (Some (Land from n place)) (lines.Land own_from own_n label number ∷ all) = list_any goes_on all ≡ true → MayLand scenario before from n label all
+IsLicensed scenario datagrams before (Some (Land from n place)) (lines.Land own_from own_n label number ∷ all) = (own_from ≡ from) × (own_n ≡ n) × (list_any goes_on all ≡ true → MayLand scenario before from n label all)
 IsLicensed scenario datagrams before (Some (Enter id)) all = AllByRecursion (EntersBy scenario before datagrams id) all
 IsLicensed scenario datagrams before other all = Unit {0}
 

@@ -1,0 +1,7 @@
+pub mod OneRun
+pub mod Nothing
+pub mod Idle
+pub mod Small
+pub mod Readings
+pub mod Comings
+pub mod Example

@@ -1,0 +1,166 @@
+-- Two edges and a core node between them: their LDP sessions come up, and one of them is lost.
+use Rattle.std.specs.Prelude.{ℕ, ◌==◌, ◌||◌, true, false, List, [], ◌∷◌, Option, None, Some, if◌then◌else◌}
+use Rattle.mv_base.specs.declared.addr.Addr.TheVariants.{V4}
+use Rattle.mv_base.specs.declared.ids.NodeId.{NodeId}
+use Rattle.mv_base.specs.declared.rd.Rd.{Rd}
+use Rattle.mv_base.specs.declared.rd.Rule.TheVariants.{Highest}
+use Rattle.route_targets.specs.declared.communities.Target.{Target}
+use Rattle.scenario_defs.specs.declared.event.Event.{Event}
+use Rattle.scenario_defs.specs.declared.event.Event.TheVariants as events
+use Rattle.scenario_defs.specs.declared.event.Kind.TheVariants.{Ldp}
+use Rattle.scenario_defs.specs.declared.event.Timed.{Timed}
+use Rattle.scenario_defs.specs.declared.report.Refusal.TheVariants as refusals
+use Rattle.scenario_defs.specs.declared.report.ReportLine.{ReportLine}
+use Rattle.scenario_defs.specs.declared.report.ReportLine.TheVariants as lines
+use Rattle.scenario_defs.specs.declared.scenario.Scenario.{Scenario}
+use Rattle.edge_defs.specs.Place.{Core}
+use Rattle.world_defs.specs.Acts.{Act, Tick, Timers, Lose, Notice, RaiseFirst, RaiseSecond, Tell}
+use Rattle.world_defs.specs.Run.{Traced, Runs}
+use Rattle.world_defs.specs.World.{World, start}
+
+-- ---- the network
+
+abbrev pub first_edge : NodeId
+first_edge = record { 0 = 0 }
+
+abbrev pub second_edge : NodeId
+second_edge = record { 0 = 1 }
+
+abbrev pub core_node : NodeId
+core_node = record { 0 = 2 }
+
+-- 65000:1, and the Route Target of that AS and number
+abbrev pub distinguisher : Rd
+distinguisher = record { 0 = 0 ∷ 0 ∷ 253 ∷ 232 ∷ 0 ∷ 0 ∷ 0 ∷ 1 ∷ [] }
+
+abbrev pub target : Target
+target = record { 0 = record { 0 = 0 ∷ 2 ∷ 253 ∷ 232 ∷ 0 ∷ 0 ∷ 0 ∷ 1 ∷ [] } }
+
+-- The nodes E1, E2 and C, with links from E1 and E2 to C; a VRF at each edge, of one VPN; a site at each VRF.
+abbrev pub network : Scenario
+network = record {
+  life = 2;
+  delay = 3;
+  labels = 4;
+  system = 65000;
+  nodes =
+      record { name = 69 ∷ 49 ∷ []; addr = V4 (192 ∷ 0 ∷ 2 ∷ 1 ∷ []); edge = true }
+      ∷ record { name = 69 ∷ 50 ∷ []; addr = V4 (192 ∷ 0 ∷ 2 ∷ 2 ∷ []); edge = true }
+      ∷ record { name = 67 ∷ []; addr = V4 (192 ∷ 0 ∷ 2 ∷ 9 ∷ []); edge = false }
+      ∷ [];
+  links = record { a = first_edge; b = core_node; cost = 1 } ∷ record { a = second_edge; b = core_node; cost = 1 } ∷ [];
+  vrfs =
+      record { name = 86 ∷ 49 ∷ []; edge = first_edge; number = 1; rd = distinguisher; targets = target ∷ []; rule = Highest }
+      ∷ record { name = 86 ∷ 50 ∷ []; edge = second_edge; number = 1; rd = distinguisher; targets = target ∷ []; rule = Highest }
+      ∷ [];
+  sites =
+      record { name = 88 ∷ []; prefixes = record { addr = V4 (10 ∷ 1 ∷ 0 ∷ 0 ∷ []); bits = 24 } ∷ [] }
+      ∷ record { name = 89 ∷ []; prefixes = record { addr = V4 (10 ∷ 2 ∷ 0 ∷ 0 ∷ []); bits = 24 } ∷ [] }
+      ∷ [];
+  ifaces =
+      record { name = 88 ∷ 49 ∷ []; vrf = record { 0 = 0 }; site = record { 0 = 0 }; addr = V4 (10 ∷ 1 ∷ 0 ∷ 1 ∷ []) }
+      ∷ record { name = 89 ∷ 49 ∷ []; vrf = record { 0 = 1 }; site = record { 0 = 1 }; addr = V4 (10 ∷ 2 ∷ 0 ∷ 1 ∷ []) }
+      ∷ [];
+}
+
+-- costs and neighbours: each edge reaches the other one by C
+abbrev pub cost : NodeId → NodeId → ℕ
+cost from to = if from.0 == to.0 then 0 else if (from.0 == 2) || (to.0 == 2) then 1 else 2
+
+abbrev pub toward : NodeId → NodeId → Option NodeId
+toward from to = if from.0 == to.0 then None else if from.0 == 2 then Some to else Some core_node
+
+abbrev pub core : Core
+core = record { cost = cost; toward = toward }
+
+-- ---- events, and what happens at them
+
+-- an event, at a line of the script
+abbrev pub at : ℕ → Event → Timed
+at line event = record { line = line; event = event }
+
+-- an act at the event of that number, with its lines
+abbrev pub did : ℕ → Act → List ReportLine → Traced
+did number act lines = record { event = number; happened = record { act = Some act; lines = lines } }
+
+-- the event of that number is refused
+abbrev pub refused : ℕ → ReportLine → Traced
+refused number line = record { event = number; happened = record { act = None; lines = line ∷ [] } }
+
+-- the line of `state` without octets, copies and datagrams
+abbrev pub state : ℕ → ℕ → List ReportLine
+state due unready = lines.State 0 0 0 due unready ∷ []
+
+-- Nothing is ready at the start. Both LDP sessions are raised, without lines, and are not ready.
+abbrev pub raises : List Timed
+raises = at 1 events.State ∷ at 2 (events.Raise Ldp first_edge core_node) ∷ at 3 (events.Raise Ldp second_edge core_node) ∷ at 4 events.State ∷ []
+
+abbrev pub raised : List Traced
+raised =
+    did 0 Tell (state 0 3)
+    ∷ did 1 (RaiseFirst Ldp first_edge core_node) []
+    ∷ did 1 (RaiseSecond Ldp first_edge core_node) []
+    ∷ did 2 (RaiseFirst Ldp second_edge core_node) []
+    ∷ did 2 (RaiseSecond Ldp second_edge core_node) []
+    ∷ did 3 Tell (state 0 3)
+    ∷ []
+
+-- Behind one tick more than the life of a copy the four holds are due. When they are run, the BGP session alone is not ready.
+abbrev pub holds : List Timed
+holds =
+    at 5 (events.Tick 2)
+    ∷ at 6 events.State
+    ∷ at 7 (events.Tick 1)
+    ∷ at 8 events.State
+    ∷ at 9 (events.Timers first_edge)
+    ∷ at 10 (events.Timers second_edge)
+    ∷ at 11 (events.Timers core_node)
+    ∷ at 12 events.State
+    ∷ []
+
+abbrev pub held : List Traced
+held =
+    did 4 (Tick 2) []
+    ∷ did 5 Tell (state 0 3)
+    ∷ did 6 (Tick 1) []
+    ∷ did 7 Tell (state 4 3)
+    ∷ did 8 (Timers first_edge) []
+    ∷ did 9 (Timers second_edge) []
+    ∷ did 10 (Timers core_node) []
+    ∷ did 11 Tell (state 0 1)
+    ∷ []
+
+-- The first session is lost. It may not be raised while its ends are up; behind both notices it is, and its holds begin anew.
+abbrev pub losses : List Timed
+losses =
+    at 13 (events.Lose Ldp first_edge core_node)
+    ∷ at 14 events.State
+    ∷ at 15 (events.Raise Ldp first_edge core_node)
+    ∷ at 16 (events.Notice Ldp first_edge core_node)
+    ∷ at 17 (events.Raise Ldp first_edge core_node)
+    ∷ at 18 (events.Notice Ldp core_node first_edge)
+    ∷ at 19 (events.Raise Ldp first_edge core_node)
+    ∷ at 20 events.State
+    ∷ []
+
+abbrev pub lost : List Traced
+lost =
+    did 12 (Lose Ldp first_edge core_node) []
+    ∷ did 13 Tell (state 0 2)
+    ∷ refused 14 (lines.Refused 15 refusals.State)
+    ∷ did 15 (Notice Ldp first_edge core_node) []
+    ∷ refused 16 (lines.Refused 17 refusals.State)
+    ∷ did 17 (Notice Ldp core_node first_edge) []
+    ∷ did 18 (RaiseFirst Ldp first_edge core_node) []
+    ∷ did 18 (RaiseSecond Ldp first_edge core_node) []
+    ∷ did 19 Tell (state 0 2)
+    ∷ []
+
+-- What happens, in three parts.
+pub record LabelSessionsComeUp : Type 0 where
+  pub up : World
+  pub ready : World
+  pub again : World
+  pub come_up : Runs (start network core) 0 raises raised up
+  pub become_ready : Runs up 4 holds held ready
+  pub come_again : Runs ready 12 losses lost again

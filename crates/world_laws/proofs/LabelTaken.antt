@@ -6,20 +6,19 @@ use Rattle.mv_base.specs.Octets.{IsOctets}
 use Rattle.framing.specs.Parts.{ArePartsAfter}
 use Rattle.framing.specs.Units.{Spelled, AreUnits, octets_of, messages_of}
 use Rattle.framing.proofs.Cuts.{IsOctets-before, IsOctets-behind}
-use Rattle.mv_base.specs.declared.ids.NodeId.{NodeId}
 use Rattle.mldp_fec.specs.Spelling as fecs
 use Rattle.mldp_fec.specs.declared.fec.Fec.{Fec}
 use Rattle.mldp_msgs.specs.Spelling.{IsLabel, SpellsTlv, IsNew, Carries, Means, SpellsMessage, SpellsPdu}
 use Rattle.mldp_msgs.specs.declared.message.LabelMessage.{LabelMessage}
 use Rattle.mldp_msgs.specs.declared.message.LabelMessage.TheVariants as messages
 use Rattle.bgp_attributes.specs.declared.update.Message.{Message}
+use Rattle.bgp_update.specs.Spelling as updates
 use Rattle.scenario_defs.specs.declared.event.Kind.{Kind}
 use Rattle.scenario_defs.specs.declared.event.Kind.TheVariants as kinds
 use Rattle.session_defs.specs.Message.{SessionMessage, Bgp, Label, IsPut}
-use Rattle.world_defs.specs.System.{call_of}
-use Rattle.world_laws.proofs.LabelCalls.{TakesSound}
+use Rattle.session_defs.specs.Refined.{IsCarried}
 use Rattle.world_laws.specs.Sound.{IsSoundFec}
-use Rattle.world_laws.proofs.LabelLists.{each_of, each_append, each_map, each_inner}
+use Rattle.world_laws.proofs.LabelLists.{each_append, each_map, each_inner}
 use Rattle.world_laws.proofs.LabelSound.{IsSoundLabelMessage}
 
 -- ---- octets among octets
@@ -83,17 +82,21 @@ taken_message_is_sound plain text s fits =
 
 -- ---- the messages of a unit
 
-abbrev TakenSound : NodeId → SessionMessage → Type 0
-TakenSound from message = TakesSound (call_of from message)
+-- A message that a unit carries: one over BGP is spelled in octets, and one over LDP is sound.
+abbrev pub IsSoundMessage : SessionMessage → Type 0
+IsSoundMessage (Bgp message) = (text : List ℕ) × updates.SpellsMessage (message ∷ []) text × IsOctets text
+IsSoundMessage (Label message) = IsSoundLabelMessage message
 
-unit_calls : (kind : Kind) (from : NodeId) (ms : List SessionMessage) (text : List ℕ) → IsPut kind ms text → AllByRecursion (TakenSound from) ms
-unit_calls kinds.Bgp from ms text ((plain, same, spells), fits) =
+unit_messages : (kind : Kind) (ms : List SessionMessage) (text : List ℕ) → IsPut kind ms text → AllByRecursion IsSoundMessage ms
+unit_messages kinds.Bgp ms text ((plain, same, spells), fits) =
     let as_message : Message → SessionMessage = λ message. Bgp message in
-    subst (AllByRecursion (TakenSound from)) (sym same) (each_map (TakenSound from) as_message plain (each_of (λ message. TakenSound from (as_message message)) (λ message. tt) plain))
-unit_calls kinds.Ldp from ms text ((plain, same, spells), fits) =
+    let one : updates.SpellsMessage (spells.message ∷ []) text = subst (λ (list : List Message). updates.SpellsMessage list text) spells.one spells in
+    let each : AllByRecursion (λ message. IsSoundMessage (as_message message)) plain = subst (AllByRecursion (λ message. IsSoundMessage (as_message message))) (sym spells.one) ((text, one, fits), tt) in
+    subst (AllByRecursion IsSoundMessage) (sym same) (each_map IsSoundMessage as_message plain each)
+unit_messages kinds.Ldp ms text ((plain, same, spells), fits) =
     let as_message : LabelMessage → SessionMessage = λ message. Label message in
-    subst (AllByRecursion (TakenSound from)) (sym same) (each_map (TakenSound from) as_message plain (taken_message_is_sound plain text spells fits))
+    subst (AllByRecursion IsSoundMessage) (sym same) (each_map IsSoundMessage as_message plain (taken_message_is_sound plain text spells fits))
 
--- the call that takes one of the messages of a unit takes no label message but a sound one
-pub taken_call_is_sound : (kind : Kind) (from : NodeId) (before : List SessionMessage) (message : SessionMessage) (behind : List SessionMessage) (text : List ℕ) → IsPut kind (before ++ message ∷ behind) text → TakesSound (call_of from message)
-taken_call_is_sound kind from before message behind text put = each_inner (TakenSound from) before message behind (unit_calls kind from (before ++ message ∷ behind) text put)
+-- one of the messages of a unit
+pub carried_is_sound : (kind : Kind) (message : SessionMessage) → IsCarried kind message → IsSoundMessage message
+carried_is_sound kind message carried = each_inner IsSoundMessage carried.before message carried.behind (unit_messages kind (carried.before ++ message ∷ carried.behind) carried.text carried.put)

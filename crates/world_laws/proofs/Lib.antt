@@ -23,3 +23,5 @@ pub mod LabelEntries
 pub mod LabelLeaves
 pub mod LabelCalls
 pub mod LabelTaken
+pub mod NodeCalls
+pub mod Nodes

@@ -29,7 +29,7 @@ use Rattle.label_defs.specs.declared.label_use.LabelUse.TheVariants as uses
 use Rattle.edge_defs.specs.Edge.{Note, VrfPattern, Selected, VrfFlow, Upstream, Remote, TakenRoute, Taken, Control}
 use Rattle.edge_defs.specs.Imported.{lsp_of}
 use Rattle.edge_defs.specs.Keys.{Value}
-use Rattle.world_defs.specs.Nodes.{NodeState, Edge, CoreNode, Nodes, part_of}
+use Rattle.world_defs.specs.Nodes.{NodeState, Edge, CoreNode, Nodes}
 
 -- ---- addresses and the like
 
@@ -122,9 +122,14 @@ abbrev pub SoundNode : NodeState → Type 0
 SoundNode (Edge edge) = SoundControl edge.control × SoundPart edge.part
 SoundNode (CoreNode part) = SoundPart part
 
--- The nodes of that scenario are sound. A node that the scenario does not have has no session.
+-- a core node without ids, so that it puts nothing
+abbrev pub IsBare : NodeState → Type 0
+IsBare (Edge edge) = ⊥
+IsBare (CoreNode part) = part.ids ≡ maps.empty
+
+-- The nodes of that scenario are sound. A node that the scenario does not have is a core node, and has no session.
 pub record Sound (scenario : Scenario) (nodes : Nodes) : Type 0 where
   pub same : nodes.scenario ≡ scenario
   pub lines : SoundScenario scenario
   pub node : (n : NodeId) → SoundNode (nodes.node n)
-  pub outside : (n : NodeId) → length scenario.nodes ≤ n.0 → (part_of (nodes.node n)).ids ≡ maps.empty
+  pub outside : (n : NodeId) → length scenario.nodes ≤ n.0 → IsBare (nodes.node n)

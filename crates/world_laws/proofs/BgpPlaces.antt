@@ -23,7 +23,7 @@ use Rattle.scenario_defs.specs.declared.scenario.Site.{Site}
 use Rattle.scenario_defs.specs.declared.scenario.Vrf.{Vrf}
 use Rattle.edge_defs.specs.Place.{EdgePlace, OwnVrf, addr_of, own_addr, vrfs_from, own_vrfs}
 use Rattle.world_laws.specs.Sound.{IsHost, AreEight, SoundScenario}
-use Rattle.world_laws.proofs.BgpMaps.{all_append, all_map}
+use Rattle.world_laws.proofs.Lists.{each_append, each_map}
 
 pub all_both : {X : Type 0} (P Q S : X → Type 0) → ((x : X) → P x → Q x → S x) → (xs : List X) → AllByRecursion P xs → AllByRecursion Q xs → AllByRecursion S xs
 all_both P Q S f [] a b = tt
@@ -119,8 +119,8 @@ routes_fit passes number [] h = tt
 routes_fit passes number (site ∷ more) h =
     let id : SiteId = record { 0 = number } in
     let own : List Route = routes_of_site id site.prefixes in
-    all_append FitsRoute (cond (passes id) own []) (routes_from passes (number + 1) more)
-    (if_passes (passes id) own (all_map FitsRoute (λ (prefix : Prefix). record { prefix = prefix; site = id }) site.prefixes h.0))
+    each_append FitsRoute (cond (passes id) own []) (routes_from passes (number + 1) more)
+    (if_passes (passes id) own (each_map FitsRoute (λ (prefix : Prefix). record { prefix = prefix; site = id }) site.prefixes h.0))
     (routes_fit passes (number + 1) more h.1)
 
 pub local_fit : (scenario : Scenario) → SoundScenario scenario → (vrf : VrfId) → AllByRecursion (λ (route : Route). FitsPrefix route.prefix) (local_routes scenario vrf)

@@ -20,7 +20,8 @@ use Rattle.world_defs.specs.Puts.{bgp_put, bgp_puts}
 use Rattle.world_laws.specs.Sound.{SoundScenario, SoundControl}
 use Rattle.world_laws.proofs.BgpHeld.{held_fits}
 use Rattle.edge_defs.proofs.KeyLemmas.{key_total, key_exact}
-use Rattle.world_laws.proofs.BgpMaps.{all_append, all_map, all_flat_map, all_each, all_entries, kept_is}
+use Rattle.world_laws.proofs.Lists.{each_append, each_of, each_map, each_flat}
+use Rattle.world_laws.proofs.Maps.{all_entries, kept_is}
 use Rattle.world_laws.proofs.BgpPlaces.{own_host}
 use Rattle.world_laws.proofs.BgpTexts.{IsBgpPut, reach_put, unreach_put}
 
@@ -53,18 +54,18 @@ told_table place control peer scenario_is control_is lt =
 
 withdrawn_put : (old new : Table) → IsTable old → AllByRecursion IsBgpPut (withdrawals (lost old new))
 withdrawn_put old new is =
-    all_map IsBgpPut (λ (entry : Key × Value). Unreach entry.0) (maps.entries (lost old new))
+    each_map IsBgpPut (λ (entry : Key × Value). Unreach entry.0) (maps.entries (lost old new))
     (all_entries key_total (λ (key : Key) (value : Value). IsBgpPut (Unreach key)) (lost old new)
     (λ key value h. (is key value (kept_is key_exact old (λ (own : Key). is_none (maps.get new own)) key value h)).1))
 
 advertised_put : (old new : Table) → IsTable new → AllByRecursion IsBgpPut (advertisements (news same_value old new))
 advertised_put old new is =
-    all_map IsBgpPut (λ (entry : Key × Value). Reach entry.0 entry.1) (maps.entries (news same_value old new))
+    each_map IsBgpPut (λ (entry : Key × Value). Reach entry.0 entry.1) (maps.entries (news same_value old new))
     (all_entries key_total (λ (key : Key) (value : Value). IsBgpPut (Reach key value)) (news same_value old new)
     (λ key value h. (is key value (kept_is key_exact new (λ (own : Key). not (option_eq same_value (maps.get old own) (maps.get new own))) key value h)).0))
 
 changes_put : (old new : Table) → IsTable old → IsTable new → AllByRecursion IsBgpPut (changes same_value old new)
-changes_put old new is behind = all_append IsBgpPut (withdrawals (lost old new)) (advertisements (news same_value old new)) (withdrawn_put old new is) (advertised_put old new behind)
+changes_put old new is behind = each_append IsBgpPut (withdrawals (lost old new)) (advertisements (news same_value old new)) (withdrawn_put old new is) (advertised_put old new behind)
 
 -- ---- a step
 
@@ -83,5 +84,5 @@ pub bgp_puts_are_put : (place : EdgePlace) (old new : Control) → SoundScenario
 bgp_puts_are_put place old new scenario_is old_is new_is lt =
     let Good : Put → Type 0 = λ (put : Put). IsPut put.over.kind put.unit.messages put.unit.octets in
     let to : NodeId → List Put = λ (peer : NodeId). map (bgp_put place.me peer) (put_to place old new peer) in
-    all_flat_map Good to (edges place.scenario)
-    (all_each (λ (peer : NodeId). AllByRecursion Good (to peer)) (λ peer. all_map Good (bgp_put place.me peer) (put_to place old new peer) (put_to_put place old new peer scenario_is old_is new_is lt)) (edges place.scenario))
+    each_flat Good to (edges place.scenario)
+    (each_of (λ (peer : NodeId). AllByRecursion Good (to peer)) (λ peer. each_map Good (bgp_put place.me peer) (put_to place old new peer) (put_to_put place old new peer scenario_is old_is new_is lt)) (edges place.scenario))

@@ -20,7 +20,8 @@ use Rattle.pim_defs.proofs.EntriesLemmas.{get-kept}
 use Rattle.pim_defs.proofs.KeyLemmas.{entry_cmp_total, entry_cmp_exact}
 use Rattle.world_laws.specs.Sound.{IsHost, IsGroupAddr, SoundEntry}
 use Rattle.world_laws.specs.Honest.{SoundGroup, SoundMessage}
-use Rattle.world_laws.proofs.ControlMaps.{all_weaker, all_append, all_map, all_flat, Each, made_meets, entries_meet}
+use Rattle.world_laws.proofs.Lists.{each_append, each_map, each_flat, each_weaker}
+use Rattle.world_laws.proofs.Maps.{Each, all_entries, made_meets}
 
 abbrev pub SoundAt : IfaceEntry → Expiry → Type 0
 SoundAt at expiry = SoundEntry at.entry
@@ -35,15 +36,15 @@ sound_entry_by kinds.Rpt group addr g h = (h, g)
 named_by_group : (iface : IfaceId) (group : Group) → SoundGroup group →
     AllByRecursion (λ (at : IfaceEntry). SoundEntry at.entry) (map (λ source. record { iface = iface; entry = entry_of group.group source }) (group.joins ++ group.prunes))
 named_by_group iface group sound =
-    all_map (λ (at : IfaceEntry). SoundEntry at.entry) (λ (source : JpSource). record { iface = iface; entry = entry_of group.group source }) (group.joins ++ group.prunes)
-    (all_weaker (λ (source : JpSource). IsHost source.addr) (λ source. SoundEntry (entry_of group.group source))
+    each_map (λ (at : IfaceEntry). SoundEntry at.entry) (λ (source : JpSource). record { iface = iface; entry = entry_of group.group source }) (group.joins ++ group.prunes)
+    (each_weaker (λ (source : JpSource). IsHost source.addr) (λ source. SoundEntry (entry_of group.group source))
     (λ source h. sound_entry_by source.kind group.group source.addr sound.group_addr h)
-    (group.joins ++ group.prunes) (all_append (λ (source : JpSource). IsHost source.addr) group.joins group.prunes sound.joins sound.prunes))
+    (group.joins ++ group.prunes) (each_append (λ (source : JpSource). IsHost source.addr) group.joins group.prunes sound.joins sound.prunes))
 
 named_sound : (iface : IfaceId) (message : JoinPrune) → SoundMessage message → AllByRecursion (λ (at : IfaceEntry). SoundEntry at.entry) (named_in iface message)
 named_sound iface message sound =
-    all_flat (λ (at : IfaceEntry). SoundEntry at.entry) (λ group. map (λ source. record { iface = iface; entry = entry_of group.group source }) (group.joins ++ group.prunes)) message.groups
-    (all_weaker SoundGroup (λ group. AllByRecursion (λ (at : IfaceEntry). SoundEntry at.entry) (map (λ source. record { iface = iface; entry = entry_of group.group source }) (group.joins ++ group.prunes)))
+    each_flat (λ (at : IfaceEntry). SoundEntry at.entry) (λ group. map (λ source. record { iface = iface; entry = entry_of group.group source }) (group.joins ++ group.prunes)) message.groups
+    (each_weaker SoundGroup (λ group. AllByRecursion (λ (at : IfaceEntry). SoundEntry at.entry) (map (λ source. record { iface = iface; entry = entry_of group.group source }) (group.joins ++ group.prunes)))
     (named_by_group iface) message.groups sound)
 
 with_expiries_sound : (expiry : IfaceEntry → Option Expiry) (list : List IfaceEntry) → AllByRecursion (λ at. SoundEntry at.entry) list →
@@ -60,8 +61,8 @@ pub applied_sound : (old : Entries) (iface : IfaceId) (message : JoinPrune) (now
 applied_sound old iface message now sound heard =
     made_meets entry_cmp_total entry_cmp_exact SoundAt (with_expiries (expiry_then old iface message now) (maps.keys old ++ named_in iface message))
     (with_expiries_sound (expiry_then old iface message now) (maps.keys old ++ named_in iface message)
-    (all_append (λ (at : IfaceEntry). SoundEntry at.entry) (maps.keys old) (named_in iface message)
-    (all_map (λ (at : IfaceEntry). SoundEntry at.entry) (λ e. e.0) (maps.entries old) (entries_meet entry_cmp_total entry_cmp_exact SoundAt old sound))
+    (each_append (λ (at : IfaceEntry). SoundEntry at.entry) (maps.keys old) (named_in iface message)
+    (each_map (λ (at : IfaceEntry). SoundEntry at.entry) (λ e. e.0) (maps.entries old) (all_entries entry_cmp_total SoundAt old sound))
     (named_sound iface message heard)))
 
 -- ---- timers

@@ -25,8 +25,8 @@ use Rattle.bgp_attributes.specs.declared.key.Key.TheVariants.{Mcast, Unicast}
 use Rattle.scenario_defs.specs.declared.event.IfaceEntry.{IfaceEntry}
 use Rattle.scenario_defs.specs.declared.event.JoinEntry.{JoinEntry}
 use Rattle.scenario_defs.specs.declared.event.JoinEntry.TheVariants as entries
-use Rattle.pim_defs.proofs.KeyLemmas.{entry_cmp_total, entry_cmp_exact}
-use Rattle.label_defs.proofs.KeyLemmas.{node_cmp_total, node_cmp_exact}
+use Rattle.pim_defs.proofs.KeyLemmas.{entry_cmp_total}
+use Rattle.label_defs.proofs.KeyLemmas.{node_cmp_total}
 use Rattle.choice_defs.specs.Choice.{cost_by, best_route}
 use Rattle.choice_defs.specs.declared.origin.Origin.{Origin}
 use Rattle.choice_defs.specs.declared.origin.Origin.TheVariants as origins
@@ -38,8 +38,9 @@ use Rattle.edge_defs.specs.Originated.{is_iface_of, notes_of}
 use Rattle.edge_defs.specs.Place.{EdgePlace, OwnVrf, own_vrfs}
 use Rattle.edge_defs.specs.Upstream.{known_routes, upstream_by, upstream_for}
 use Rattle.world_laws.specs.Sound.{IsHost, IsFlow, AreEight, SoundEntry, SoundUpstream, SoundKey, SoundValue, SoundTaken}
-use Rattle.world_laws.proofs.ControlMaps.{all_of, all_weaker, all_append, all_map, all_flat, all_filtered, all_found, only_meets, passing, Each, AllEntries, made_meets, entries_meet, items_meet}
-use Rattle.edge_defs.proofs.KeyLemmas.{key_total, key_exact, note_total, note_exact, flow_total, flow_exact}
+use Rattle.world_laws.proofs.Lists.{each_append, each_of, each_map, each_flat, each_weaker, each_filtered, each_found, only_meets, passing}
+use Rattle.world_laws.proofs.Maps.{Each, AllEntries, all_entries, made_meets, each_item}
+use Rattle.edge_defs.proofs.KeyLemmas.{key_total, note_total, flow_total, flow_exact}
 use Rattle.world_laws.proofs.ControlEntries.{SoundAt, asked_group}
 
 -- what a peer's table meets
@@ -85,8 +86,8 @@ join_sound peer value by sound e =
     let one = bound (only_one (found_in import_in value.comms)) _ by e in
     let two = bound (only_one (found_in source_as_in value.comms)) _ by one.2 in
     let same = tested (same_addr one.0.addr peer && same_addr value.next_hop peer) (record { import = one.0; source_as = two.0 }) by two.2 in
-    let imports = all_found (λ (comm : ExtComm). AreEight comm.0) (λ (import : Import). IsHost import.addr × (import.number < 65536)) import_in import_sound value.comms sound.comms in
-    let numbers = all_found (λ (comm : ExtComm). AreEight comm.0) (λ (n : ℕ). n < 65536) source_as_in source_as_sound value.comms sound.comms in
+    let imports = each_found (λ (comm : ExtComm). AreEight comm.0) (λ (import : Import). IsHost import.addr × (import.number < 65536)) import_in import_sound value.comms sound.comms in
+    let numbers = each_found (λ (comm : ExtComm). AreEight comm.0) (λ (n : ℕ). n < 65536) source_as_in source_as_sound value.comms sound.comms in
     let import = only_meets (λ (import : Import). IsHost import.addr × (import.number < 65536)) (found_in import_in value.comms) one.0 imports one.1 in
     let number = only_meets (λ (n : ℕ). n < 65536) (found_in source_as_in value.comms) two.0 numbers two.1 in
     subst SoundBy same (import.0, import.1, number)
@@ -168,7 +169,7 @@ joined_sound place own at = by_entry (is_iface_of place.scenario own.id at.iface
 
 peer_sound : (own : OwnVrf) (peer : NodeId × Taken) → SoundTaken peer.1 → AllByRecursion Likely (active_from own peer)
 peer_sound own peer sound =
-    all_found (λ entry. SoundRoute entry.0 entry.1) Likely (imported_active own.vrf) (imported_sound own) (maps.entries peer.1) (entries_meet key_total key_exact SoundRoute peer.1 sound)
+    each_found (λ entry. SoundRoute entry.0 entry.1) Likely (imported_active own.vrf) (imported_sound own) (maps.entries peer.1) (all_entries key_total SoundRoute peer.1 sound)
 
 -- The entries, the notes and the tables of the peers are sound.
 pub record SoundSources (control : Control) : Type 0 where
@@ -178,19 +179,19 @@ pub record SoundSources (control : Control) : Type 0 where
 
 active_flows_sound : (place : EdgePlace) (control : Control) (own : OwnVrf) → SoundSources control → AllByRecursion Likely (active_flows place control own)
 active_flows_sound place control own sound =
-    all_append Likely (map noted_flow (notes_of place control own.id)) (flat_map (active_from own) (maps.entries control.peers))
-    (all_map Likely noted_flow (notes_of place control own.id)
-    (all_weaker (λ note. SoundNote note × (is_iface_of place.scenario own.id note.iface ≡ true)) (λ note. Likely (noted_flow note)) (λ note h host. h.0) (notes_of place control own.id)
-    (all_filtered SoundNote (λ note. is_iface_of place.scenario own.id note.iface) (sets.items control.notes) (items_meet note_total note_exact SoundNote control.notes sound.notes))))
-    (all_flat Likely (active_from own) (maps.entries control.peers)
-    (all_weaker (λ peer. SoundPeer peer.0 peer.1) (λ peer. AllByRecursion Likely (active_from own peer)) (peer_sound own) (maps.entries control.peers)
-    (entries_meet node_cmp_total node_cmp_exact SoundPeer control.peers sound.peers)))
+    each_append Likely (map noted_flow (notes_of place control own.id)) (flat_map (active_from own) (maps.entries control.peers))
+    (each_map Likely noted_flow (notes_of place control own.id)
+    (each_weaker (λ note. SoundNote note × (is_iface_of place.scenario own.id note.iface ≡ true)) (λ note. Likely (noted_flow note)) (λ note h host. h.0) (notes_of place control own.id)
+    (each_filtered SoundNote (λ note. is_iface_of place.scenario own.id note.iface) (sets.items control.notes) (each_item note_total SoundNote control.notes sound.notes))))
+    (each_flat Likely (active_from own) (maps.entries control.peers)
+    (each_weaker (λ peer. SoundPeer peer.0 peer.1) (λ peer. AllByRecursion Likely (active_from own peer)) (peer_sound own) (maps.entries control.peers)
+    (all_entries node_cmp_total SoundPeer control.peers sound.peers)))
 
 possible_sound : (place : EdgePlace) (control : Control) (own : OwnVrf) → SoundSources control → AllByRecursion Likely (possible_flows place control own)
 possible_sound place control own sound =
-    all_append Likely (found_in (joined_by place own) (maps.keys control.entries)) (active_flows place control own)
-    (all_found (λ at. SoundEntry at.entry) Likely (joined_by place own) (joined_sound place own) (maps.keys control.entries)
-    (all_map (λ (at : IfaceEntry). SoundEntry at.entry) (λ e. e.0) (maps.entries control.entries) (entries_meet entry_cmp_total entry_cmp_exact SoundAt control.entries sound.entries)))
+    each_append Likely (found_in (joined_by place own) (maps.keys control.entries)) (active_flows place control own)
+    (each_found (λ at. SoundEntry at.entry) Likely (joined_by place own) (joined_sound place own) (maps.keys control.entries)
+    (each_map (λ (at : IfaceEntry). SoundEntry at.entry) (λ e. e.0) (maps.entries control.entries) (all_entries entry_cmp_total SoundAt control.entries sound.entries)))
     (active_flows_sound place control own sound)
 
 -- what a flow meets, with its upstream
@@ -204,15 +205,15 @@ asked_sound place now control own flow sound likely e =
 
 vrf_flows_sound : (place : EdgePlace) (now : ℕ) (control : Control) (own : OwnVrf) → SoundSources control → AllEntries SoundFlow (vrf_flows place now control own)
 vrf_flows_sound place now control own sound =
-    all_map (λ entry. SoundFlow entry.0 entry.1) (with_upstream place control own) (filter (is_flow place now control own) (possible_flows place control own))
-    (all_weaker (λ flow. Likely flow × (is_flow place now control own flow ≡ true)) (λ flow. IsFlow flow.source flow.group × SoundUpstream (upstream_for place control own flow.source))
+    each_map (λ entry. SoundFlow entry.0 entry.1) (with_upstream place control own) (filter (is_flow place now control own) (possible_flows place control own))
+    (each_weaker (λ flow. Likely flow × (is_flow place now control own flow ≡ true)) (λ flow. IsFlow flow.source flow.group × SoundUpstream (upstream_for place control own flow.source))
     (λ flow h. (asked_sound place now control own flow sound h.0 h.1, upstream_sound place control own flow.source sound.peers))
     (filter (is_flow place now control own) (possible_flows place control own))
-    (all_filtered Likely (is_flow place now control own) (possible_flows place control own) (possible_sound place control own sound)))
+    (each_filtered Likely (is_flow place now control own) (possible_flows place control own) (possible_sound place control own sound)))
 
 -- Each flow that some interface asks for is sound, and so is its upstream.
 pub flows_are_sound : (place : EdgePlace) (now : ℕ) (control : Control) → SoundSources control → Each SoundFlow (flows_at place now control)
 flows_are_sound place now control sound =
     made_meets flow_total flow_exact SoundFlow (flat_map (vrf_flows place now control) (own_vrfs place))
-    (all_flat (λ entry. SoundFlow entry.0 entry.1) (vrf_flows place now control) (own_vrfs place)
-    (all_of (λ own. AllEntries SoundFlow (vrf_flows place now control own)) (λ own. vrf_flows_sound place now control own sound) (own_vrfs place)))
+    (each_flat (λ entry. SoundFlow entry.0 entry.1) (vrf_flows place now control) (own_vrfs place)
+    (each_of (λ own. AllEntries SoundFlow (vrf_flows place now control own)) (λ own. vrf_flows_sound place now control own sound) (own_vrfs place)))

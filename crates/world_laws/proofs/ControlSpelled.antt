@@ -32,7 +32,7 @@ use Rattle.bgp_attributes.specs.Spelling.{pair, SpellsVpn, SpellsKey, SpellsUnit
 use Rattle.edge_defs.specs.Imported.{lsp_of}
 use Rattle.edge_defs.specs.Place.{is_lsp_opaque, is_p2mp}
 use Rattle.world_laws.specs.Sound.{AreEight, IsSoundFec, SoundKey}
-use Rattle.world_laws.proofs.ControlMaps.{all_flat}
+use Rattle.world_laws.proofs.Lists.{each_flat}
 
 behind_one : (octet : ℕ) (octets : List ℕ) → IsOctets (octet ∷ octets) → IsOctets octets
 behind_one octet octets fits i = fits (suc i)
@@ -81,7 +81,7 @@ units_sound family (unit ∷ units) s fits =
 keys_sound : (family : Family) (keys : List Key) (octets rest : List ℕ) → AreKeys family keys octets rest → IsOctets octets → AllByRecursion SoundKey keys
 keys_sound family keys octets rest s fits =
     subst (AllByRecursion SoundKey) (sym s.carried)
-    (all_flat SoundKey (λ (unit : Spelled Key). unit.messages) s.units (units_sound family s.units s.each (IsOctets-before (octets_of s.units) rest (subst IsOctets s.parts fits))))
+    (each_flat SoundKey (λ (unit : Spelled Key). unit.messages) s.units (units_sound family s.units s.each (IsOctets-before (octets_of s.units) rest (subst IsOctets s.parts fits))))
 
 -- ---- communities and tunnels
 
@@ -159,7 +159,7 @@ each_comms [] h = tt
 each_comms (attribute ∷ attributes) h = (comms_in_sound attribute h.0, each_comms attributes h.1)
 
 pub comms_of_sound : (attributes : List Attribute) → AllByRecursion SoundAttribute attributes → AllByRecursion (λ comm. AreEight comm.0) (comms_of attributes)
-comms_of_sound attributes h = all_flat (λ (comm : ExtComm). AreEight comm.0) comms_in attributes (each_comms attributes h)
+comms_of_sound attributes h = each_flat (λ (comm : ExtComm). AreEight comm.0) comms_in attributes (each_comms attributes h)
 
 pub pmsi_of_sound : (attributes : List Attribute) → AllByRecursion SoundAttribute attributes → SoundTunnel (pmsi_of attributes)
 pmsi_of_sound [] h = λ fec e. absurd cc

@@ -17,7 +17,8 @@ use Rattle.edge_defs.specs.Steps as steps
 use Rattle.edge_defs.specs.Steps.{taken_change, with_update, free_number, with_selection, selection_run, selections_run, route_run, taken_run, peers_run, timed, effect}
 use Rattle.world_laws.specs.Sound.{SoundPattern, SoundTaken, SoundControl}
 use Rattle.world_laws.specs.Honest.{IsSoundCall}
-use Rattle.world_laws.proofs.ControlMaps.{all_weaker, all_map, Each, made_meets, put_meets, cut_meets, entries_meet, set_put_meets, set_cut_meets}
+use Rattle.world_laws.proofs.Lists.{each_map, each_weaker}
+use Rattle.world_laws.proofs.Maps.{Each, all_entries, made_meets, put_meets, cut_meets, each_inserted, still}
 use Rattle.edge_defs.proofs.KeyLemmas.{key_total, key_exact, note_total, note_exact, pattern_total, pattern_exact}
 use Rattle.world_laws.proofs.ControlEntries.{applied_sound, kept_sound}
 use Rattle.world_laws.proofs.ControlFlows.{SoundPeer, SoundRoute, SoundNote}
@@ -29,10 +30,10 @@ SoundSelection key selected = SoundPattern key.pattern
 -- ---- records of which one part changes
 
 with_notes : (old : Control) (note : Note) → SoundControl old → SoundNote note → SoundControl (record old { notes = sets.insert old.notes note })
-with_notes old note h new = record { entries = h.entries; notes = set_put_meets note_total note_exact SoundNote old.notes note h.notes new; selections = h.selections; flows = h.flows; peers = h.peers }
+with_notes old note h new = record { entries = h.entries; notes = each_inserted note_total note_exact SoundNote old.notes note new h.notes; selections = h.selections; flows = h.flows; peers = h.peers }
 
 without_note : (old : Control) (note : Note) → SoundControl old → SoundControl (record old { notes = sets.remove old.notes note })
-without_note old note h = record { entries = h.entries; notes = set_cut_meets note_total note_exact SoundNote old.notes note h.notes; selections = h.selections; flows = h.flows; peers = h.peers }
+without_note old note h = record { entries = h.entries; notes = λ q e. h.notes q (still note_total old.notes note q e); selections = h.selections; flows = h.flows; peers = h.peers }
 
 with_selections : (old : Control) (selections : FinMap pattern_cmp Selected) → SoundControl old → Each SoundSelection selections → SoundControl (record old { selections = selections })
 with_selections old selections h new = record { entries = h.entries; notes = h.notes; selections = new; flows = h.flows; peers = h.peers }
@@ -63,21 +64,21 @@ nothing_taken key route e = let bad : None ≡ Some route = sym (maps.get-empty 
 selections_run_sound : (delay now : ℕ) (old : FinMap pattern_cmp Selected) → Each SoundSelection old → Each SoundSelection (selections_run delay now old)
 selections_run_sound delay now old h =
     made_meets pattern_total pattern_exact SoundSelection (map (λ entry. (entry.0, selection_run delay now entry.1)) (maps.entries old))
-    (all_map (λ entry. SoundSelection entry.0 entry.1) (λ entry. (entry.0, selection_run delay now entry.1)) (maps.entries old)
-    (entries_meet pattern_total pattern_exact SoundSelection old h))
+    (each_map (λ entry. SoundSelection entry.0 entry.1) (λ entry. (entry.0, selection_run delay now entry.1)) (maps.entries old)
+    (all_entries pattern_total SoundSelection old h))
 
 taken_run_sound : (place : EdgePlace) (now : ℕ) (peer : NodeId × Taken) → SoundTaken peer.1 → SoundTaken (taken_run place now peer).1
 taken_run_sound place now peer h =
     made_meets key_total key_exact SoundRoute (map (route_run place now peer.0) (maps.entries peer.1))
-    (all_map (λ entry. SoundRoute entry.0 entry.1) (route_run place now peer.0) (maps.entries peer.1)
-    (entries_meet key_total key_exact SoundRoute peer.1 h))
+    (each_map (λ entry. SoundRoute entry.0 entry.1) (route_run place now peer.0) (maps.entries peer.1)
+    (all_entries key_total SoundRoute peer.1 h))
 
 peers_run_sound : (place : EdgePlace) (now : ℕ) (old : FinMap node_cmp Taken) → Each SoundPeer old → Each SoundPeer (peers_run place now old)
 peers_run_sound place now old h =
     made_meets node_cmp_total node_cmp_exact SoundPeer (map (taken_run place now) (maps.entries old))
-    (all_map (λ peer. SoundPeer peer.0 peer.1) (taken_run place now) (maps.entries old)
-    (all_weaker (λ peer. SoundPeer peer.0 peer.1) (λ peer. SoundTaken (taken_run place now peer).1) (taken_run_sound place now) (maps.entries old)
-    (entries_meet node_cmp_total node_cmp_exact SoundPeer old h)))
+    (each_map (λ peer. SoundPeer peer.0 peer.1) (taken_run place now) (maps.entries old)
+    (each_weaker (λ peer. SoundPeer peer.0 peer.1) (λ peer. SoundTaken (taken_run place now peer).1) (taken_run_sound place now) (maps.entries old)
+    (all_entries node_cmp_total SoundPeer old h)))
 
 timed_sound : (place : EdgePlace) (now : ℕ) (old : Control) → SoundControl old → SoundControl (timed place now old)
 timed_sound place now old h = record {

@@ -24,7 +24,8 @@ use Rattle.edge_defs.specs.Edge.{TakenRoute, Taken}
 use Rattle.edge_defs.specs.Keys.{Value, same_value}
 use Rattle.edge_defs.specs.Steps.{learned, taken_change}
 use Rattle.world_laws.specs.Sound.{AreEight, SoundKey, SoundValue, SoundTaken}
-use Rattle.world_laws.proofs.ControlMaps.{all_of, all_weaker, all_append, all_map, all_flat, put_meets, cut_meets}
+use Rattle.world_laws.proofs.Lists.{each_append, each_of, each_map, each_flat, each_weaker}
+use Rattle.world_laws.proofs.Maps.{put_meets, cut_meets}
 use Rattle.edge_defs.proofs.KeyLemmas.{key_total, key_exact}
 use Rattle.world_laws.proofs.ControlFlows.{SoundRoute}
 use Rattle.world_laws.proofs.ControlSpelled.{SoundTunnel, SoundAttribute, attributes_sound, comms_of_sound, pmsi_of_sound}
@@ -41,8 +42,8 @@ SoundChange (changes.Unreach key) = Unit {0}
 adverts_sound : (comms : List ExtComm) (pmsi : Option Pmsi) (attribute : Attribute) → AllByRecursion (λ comm. AreEight comm.0) comms → SoundTunnel pmsi → SoundAttribute attribute →
     AllByRecursion SoundAdvert (attributes.adverts_in comms pmsi attribute)
 adverts_sound comms pmsi (Reach (Some reachable)) eight tunnel h =
-    all_map SoundAdvert (λ key. record { key = key; next_hop = reachable.next_hop; comms = comms; pmsi = pmsi }) reachable.keys
-    (all_weaker SoundKey (λ key. SoundAdvert (record { key = key; next_hop = reachable.next_hop; comms = comms; pmsi = pmsi })) (λ key k. (k, record { comms = eight; tunnel = tunnel })) reachable.keys h)
+    each_map SoundAdvert (λ key. record { key = key; next_hop = reachable.next_hop; comms = comms; pmsi = pmsi }) reachable.keys
+    (each_weaker SoundKey (λ key. SoundAdvert (record { key = key; next_hop = reachable.next_hop; comms = comms; pmsi = pmsi })) (λ key k. (k, record { comms = eight; tunnel = tunnel })) reachable.keys h)
 adverts_sound comms pmsi (Reach None) eight tunnel h = tt
 adverts_sound comms pmsi (Unreach keys) eight tunnel h = tt
 adverts_sound comms pmsi (Communities other) eight tunnel h = tt
@@ -51,15 +52,15 @@ adverts_sound comms pmsi (Passed kind) eight tunnel h = tt
 
 reach_sound : (list : List Attribute) → AllByRecursion SoundAttribute list → AllByRecursion SoundAdvert (attributes.update_of list).reach
 reach_sound list h =
-    all_flat SoundAdvert (attributes.adverts_in (attributes.comms_of list) (attributes.pmsi_of list)) list
-    (all_weaker SoundAttribute (λ attribute. AllByRecursion SoundAdvert (attributes.adverts_in (attributes.comms_of list) (attributes.pmsi_of list) attribute))
+    each_flat SoundAdvert (attributes.adverts_in (attributes.comms_of list) (attributes.pmsi_of list)) list
+    (each_weaker SoundAttribute (λ attribute. AllByRecursion SoundAdvert (attributes.adverts_in (attributes.comms_of list) (attributes.pmsi_of list) attribute))
     (λ attribute. adverts_sound (attributes.comms_of list) (attributes.pmsi_of list) attribute (comms_of_sound list h) (pmsi_of_sound list h)) list h)
 
 update_sound : (update : Update) → AllByRecursion SoundAdvert update.reach → AllByRecursion SoundChange (changes_of (messages.Update update))
 update_sound update h =
-    all_append SoundChange (unannounced update.unreach) (announced update.reach)
-    (all_map SoundChange (λ (key : Key). changes.Unreach key) update.unreach (all_of (λ (key : Key). Unit {0}) (λ key. tt) update.unreach))
-    (all_map SoundChange (λ (advert : Advert). changes.Reach advert) update.reach h)
+    each_append SoundChange (unannounced update.unreach) (announced update.reach)
+    (each_map SoundChange (λ (key : Key). changes.Unreach key) update.unreach (each_of (λ (key : Key). Unit {0}) (λ key. tt) update.unreach))
+    (each_map SoundChange (λ (advert : Advert). changes.Reach advert) update.reach h)
 
 body_sound : (update : Update) (body : List ℕ) → SpellsBody update body → IsOctets body → AllByRecursion SoundChange (changes_of (messages.Update update))
 body_sound update body s fits =

@@ -26,7 +26,8 @@ use Rattle.world_defs.specs.Puts.{label_puts}
 use Rattle.world_laws.specs.Sound.{IsSoundFec, SoundControl}
 use Rattle.world_laws.proofs.LabelIds.{IsNoRaise, own_ids_stay_empty, ids_stay_empty, no_ids_no_puts}
 use Rattle.world_laws.proofs.LabelLeaves.{leaves_are_sound}
-use Rattle.world_laws.proofs.LabelLists.{each_of, each_append, each_map, each_filter, each_weaker, each_item}
+use Rattle.world_laws.proofs.Lists.{each_append, each_of, each_map, each_filter, each_weaker}
+use Rattle.world_laws.proofs.Maps.{each_item}
 use Rattle.world_laws.proofs.LabelSound.{IsSoundLabelMessage, IsSoundLabelCall}
 
 -- ---- sound calls

@@ -14,7 +14,8 @@ use Rattle.label_defs.specs.Steps.{Call, Taken, Want, Unwant, Raised, Noticed, T
 use Rattle.label_defs.proofs.KeyLemmas.{fec_cmp_total, fec_cmp_exact, branch_cmp_total, branch_cmp_exact}
 use Rattle.label_defs.proofs.UseLemmas.{used_some, map_some}
 use Rattle.world_laws.specs.Sound.{IsSoundFec, SoundUse, SoundPart}
-use Rattle.world_laws.proofs.LabelLists.{each_append, each_map, each_changed, each_at, each_item, each_member, each_inserted, still, was, length_map}
+use Rattle.world_laws.proofs.Lists.{each_append, each_map, each_changed, each_at, length_map}
+use Rattle.world_laws.proofs.Maps.{each_item, each_member, each_inserted, still, was}
 use Rattle.world_laws.proofs.LabelSound.{IsSoundLabelCall, release_sound}
 use Rattle.world_laws.proofs.LabelTurns.{AreSoundUses, uses_set, IsSoundStep, settle_sound}
 

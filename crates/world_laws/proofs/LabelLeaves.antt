@@ -25,7 +25,8 @@ use Rattle.edge_defs.specs.Place.{EdgePlace, OwnVrf, addr_of, own_vrfs}
 use Rattle.edge_defs.specs.Tunnels.{learned_route, learned_routes, inclusive_tunnels, flow_tunnels, flows_of, tunnels_of, leaves}
 use Rattle.world_laws.specs.Sound.{IsSoundFec, SoundValue, SoundTaken, SoundControl}
 use Rattle.world_laws.proofs.LabelEntries.{each_entry}
-use Rattle.world_laws.proofs.LabelLists.{each_of, each_append, each_map, each_flat, each_filter, each_member}
+use Rattle.world_laws.proofs.Lists.{each_append, each_of, each_map, each_flat, each_filter}
+use Rattle.world_laws.proofs.Maps.{each_member}
 
 -- ---- what is found
 

@@ -1,17 +1,14 @@
 -- What the label steps of a node put is spelled, and its label part stays sound.
-use Rattle.std.proofs.Common.{◌≡◌, ℕ, zero, suc, ◌<◌, ◌≤◌, inl, inr, Option, None, arith, replicate, List, [], ◌∷◌, length, Some, None, refl, sym, ap, subst}
+use Rattle.std.proofs.Common.{◌≡◌, ℕ, zero, suc, ◌<◌, ◌≤◌, None, replicate, List, [], ◌∷◌, length, Some, None, refl, sym, ap, subst}
 use Rattle.std.specs.List.{AllByRecursion, flat_map}
 use Rattle.std.specs.FinMap as maps
 use Rattle.std.specs.FinSet as sets
 use Rattle.std.specs.FinMap.{FinMap}
-use Rattle.std.proofs.lemmas.Option.{same_Some, slice_get_cases}
+use Rattle.std.proofs.lemmas.Option.{same_Some}
 use Rattle.mv_base.specs.Address.{addr_octets}
 use Rattle.mv_base.specs.Octets.{IsOctets}
 use Rattle.mv_base.specs.Number.{◌>>?◌}
 use Rattle.mv_base.specs.declared.addr.Addr.{Addr}
-use Rattle.mv_base.specs.declared.addr.Addr.TheVariants.{V4, V6}
-use Rattle.scenario_defs.specs.Rules.{IsUnicast}
-use Rattle.scenario_defs.specs.declared.scenario.Node.{Node}
 use Rattle.scenario_defs.specs.declared.scenario.Scenario.{Scenario}
 use Rattle.mv_base.specs.declared.ids.NodeId.{NodeId}
 use Rattle.mldp_msgs.proofs.Writings.{pdu_spelled}
@@ -28,7 +25,9 @@ use Rattle.edge_defs.specs.Place.{EdgePlace, addr_of, label_place}
 use Rattle.edge_defs.specs.Steps.{LabelStep, label_row, part_after}
 use Rattle.world_defs.specs.Puts.{label_put, numbered_puts, label_puts}
 use Rattle.world_laws.specs.Sound.{SoundScenario, SoundUse, SoundPart}
-use Rattle.world_laws.proofs.LabelLists.{each_flat, each_weaker}
+use Rattle.world_laws.proofs.BgpOctets.{host_length, host_octets}
+use Rattle.world_laws.proofs.BgpPlaces.{addr_host}
+use Rattle.world_laws.proofs.Lists.{each_flat, each_weaker}
 use Rattle.world_laws.proofs.LabelSound.{IsSoundLabelCall, IsSoundPut, pdu_octets}
 use Rattle.world_laws.proofs.LabelEffects.{step_sound}
 
@@ -63,19 +62,9 @@ puts_are_sound place now part call new s c e = (step_sound place now part call n
 abbrev pub IsRouterAddr : Addr → Type 0
 IsRouterAddr addr = (length (addr_octets addr) ≡ 4) × IsOctets (addr_octets addr)
 
-unicast_len : (addr : Addr) → IsUnicast addr → length (addr_octets addr) ≡ 4
-unicast_len (V4 octets) u = u.0
-unicast_len (V6 octets) u = absurd u
-
 -- that of a node of the scenario
 pub node_addr_is_router : (scenario : Scenario) (n : NodeId) → SoundScenario scenario → n.0 < length scenario.nodes → IsRouterAddr (addr_of scenario n)
-node_addr_is_router scenario n s within = elim (slice_get_cases scenario.nodes n.0).1 [
-  | inl (node, lt, at, same) ↦
-      let unicast : IsUnicast node.addr = subst (λ (x : Node). IsUnicast x.addr) same (s.rules.core.unicast n.0 node lt) in
-      let octets : IsOctets (addr_octets node.addr) = subst (λ (x : Node). IsOctets (addr_octets x.addr)) same (s.octets.nodes n.0 node lt) in
-      subst (λ (o : Option Node). IsRouterAddr (elim o [ None ↦ V4 [] | Some found ↦ found.addr ])) (sym at) (unicast_len node.addr unicast, octets)
-  | inr (past, at) ↦ absurd (omega (arith, within, past))
-]
+node_addr_is_router scenario n s within = (let host = addr_host scenario s n within in (host_length (addr_of scenario n) host, host_octets (addr_of scenario n) host))
 
 -- what is put is spelled
 abbrev pub IsSpelledPut : Put → Type 0

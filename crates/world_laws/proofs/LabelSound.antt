@@ -1,8 +1,6 @@
 -- Label messages, calls and puts with sound values.
-use Rattle.std.proofs.Common.{ℕ, zero, suc, ◌+◌, ◌-◌, ◌*◌, ◌/◌, ◌%◌, ◌^◌, ◌<◌, inl, inr, List, [], ◌∷◌, ◌++◌, length, refl, arith}
+use Rattle.std.proofs.Common.{ℕ, ◌+◌, ◌*◌, ◌^◌, List, [], ◌∷◌, ◌++◌, length, arith}
 use Rattle.std.specs.Int.{w16, w32, to_be_bytes}
-use Rattle.std.proofs.lemmas.Bool.{cases_lt}
-use Rattle.std.proofs.lemmas.List.{get_or_append_left, get_or-append_right}
 use Rattle.mv_base.specs.Address.{addr_octets}
 use Rattle.mv_base.specs.Octets.{IsOctets}
 use Rattle.mv_base.specs.declared.addr.Addr.{Addr}
@@ -14,6 +12,7 @@ use Rattle.mldp_msgs.specs.declared.message.LabelMessage.TheVariants as messages
 use Rattle.label_defs.specs.declared.put.Put.{Put}
 use Rattle.label_defs.specs.Steps.{Call, Taken, Want, Unwant, Raised, Noticed, Timers}
 use Rattle.world_laws.specs.Sound.{IsSoundFec}
+use Rattle.world_laws.proofs.BgpOctets.{no_octets, octets_cons, octets_append, octets_of_16, octets_of_32}
 
 -- the FEC has a spelling in octets, and the label is none of the reserved ones
 abbrev pub IsSoundLabelMessage : LabelMessage → Type 0
@@ -36,50 +35,28 @@ IsSoundPut put = IsWritable put.message × IsOctets (written_body put.message)
 
 -- ---- octets
 
-pub octets_append : (a b : List ℕ) → IsOctets a → IsOctets b → IsOctets (a ++ b)
-octets_append a b p q i =
-    elim (cases_lt i (length a)) [
-      | inl lt ↦ rw (get_or_append_left a b 0 i lt) (p i)
-      | inr le ↦ rw (get_or-append_right a b (length a) i 0 refl le) (q (i - length a))
-    ]
-
-pub octets_none : IsOctets []
-octets_none i = omega arith
-
-pub octets_more : (a : ℕ) (b : List ℕ) → a < 256 → IsOctets b → IsOctets (a ∷ b)
-octets_more a b p q zero = p
-octets_more a b p q (suc i) = q i
-
-pub octets16 : (n : ℕ) → IsOctets (to_be_bytes w16 n)
-octets16 n = octets_more (n / 256 % 256) (n % 256 ∷ []) (omega arith) (octets_more (n % 256) [] (omega arith) octets_none)
-
-pub octets32 : (n : ℕ) → IsOctets (to_be_bytes w32 n)
-octets32 n =
-    octets_more (n / 16777216 % 256) (n / 65536 % 256 ∷ n / 256 % 256 ∷ n % 256 ∷ []) (omega arith)
-    (octets_more (n / 65536 % 256) (n / 256 % 256 ∷ n % 256 ∷ []) (omega arith) (octets16 n))
-
 -- a number in front
 octets_behind16 : (n : ℕ) (b : List ℕ) → IsOctets b → IsOctets (to_be_bytes w16 n ++ b)
-octets_behind16 n b p = octets_append (to_be_bytes w16 n) b (octets16 n) p
+octets_behind16 n b p = octets_append (to_be_bytes w16 n) b (octets_of_16 n) p
 
 tlv_octets : (kind : ℕ) (value : List ℕ) → IsOctets value → IsOctets (tlv 0 kind value)
 tlv_octets kind value p = octets_behind16 (0 * 2 ^ 14 + kind) (to_be_bytes w16 (length value) ++ value) (octets_behind16 (length value) value p)
 
 tlvs_octets : (fec : Fec) (label : ℕ) → IsOctets (fecs.written fec) → IsOctets (written_tlvs fec label)
-tlvs_octets fec label p = octets_append (tlv 0 256 (fecs.written fec)) (tlv 0 512 (to_be_bytes w32 label)) (tlv_octets 256 (fecs.written fec) p) (tlv_octets 512 (to_be_bytes w32 label) (octets32 label))
+tlvs_octets fec label p = octets_append (tlv 0 256 (fecs.written fec)) (tlv 0 512 (to_be_bytes w32 label)) (tlv_octets 256 (fecs.written fec) p) (tlv_octets 512 (to_be_bytes w32 label) (octets_of_32 label))
 
 message_octets : (id : ℕ) (message : LabelMessage) → IsOctets (written_body message) → IsOctets (written_message id message)
 message_octets id message p =
     let body : List ℕ = written_body message in
     octets_behind16 (type_of message) (to_be_bytes w16 (4 + length body) ++ (to_be_bytes w32 id ++ body))
-    (octets_behind16 (4 + length body) (to_be_bytes w32 id ++ body) (octets_append (to_be_bytes w32 id) body (octets32 id) p))
+    (octets_behind16 (4 + length body) (to_be_bytes w32 id ++ body) (octets_append (to_be_bytes w32 id) body (octets_of_32 id) p))
 
 -- what is written of a message is octets
 pub pdu_octets : (addr : Addr) (id : ℕ) (message : LabelMessage) → IsOctets (addr_octets addr) → IsOctets (written_body message) → IsOctets (written addr id message)
 pdu_octets addr id message own p =
     let text : List ℕ = written_message id message in
     let ident : List ℕ = addr_octets addr ++ 0 ∷ 0 ∷ [] in
-    let ident_fits : IsOctets ident = octets_append (addr_octets addr) (0 ∷ 0 ∷ []) own (octets_more 0 (0 ∷ []) (omega arith) (octets_more 0 [] (omega arith) octets_none)) in
+    let ident_fits : IsOctets ident = octets_append (addr_octets addr) (0 ∷ 0 ∷ []) own (octets_cons 0 (0 ∷ []) (omega arith) (octets_cons 0 [] (omega arith) no_octets)) in
     octets_behind16 1 (to_be_bytes w16 (6 + length text) ++ (ident ++ text)) (octets_behind16 (6 + length text) (ident ++ text) (octets_append ident text ident_fits (message_octets id message p)))
 
 -- ---- puts

@@ -18,7 +18,7 @@ use Rattle.scenario_defs.specs.declared.event.Kind.TheVariants as kinds
 use Rattle.session_defs.specs.Message.{SessionMessage, Bgp, Label, IsPut}
 use Rattle.session_defs.specs.Refined.{IsCarried}
 use Rattle.world_laws.specs.Sound.{IsSoundFec}
-use Rattle.world_laws.proofs.LabelLists.{each_append, each_map, each_inner}
+use Rattle.world_laws.proofs.Lists.{each_append, each_map, each_inner}
 use Rattle.world_laws.proofs.LabelSound.{IsSoundLabelMessage}
 
 -- ---- octets among octets

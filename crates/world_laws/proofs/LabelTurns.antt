@@ -17,7 +17,8 @@ use Rattle.label_defs.proofs.SettleLemmas.{bind_some}
 use Rattle.label_defs.proofs.TurnLemmas.{Turn, turn}
 use Rattle.label_defs.proofs.UseLemmas.{used_some}
 use Rattle.world_laws.specs.Sound.{IsSoundFec, SoundUse, SoundPart}
-use Rattle.world_laws.proofs.LabelLists.{each_append, each_set, each_inserted, still, length_set}
+use Rattle.world_laws.proofs.Lists.{each_append, each_set, length_set}
+use Rattle.world_laws.proofs.Maps.{each_inserted, still}
 use Rattle.world_laws.proofs.LabelSound.{IsSoundPut, mapping_sound, withdraw_sound}
 
 -- ---- labels

@@ -1,4 +1,5 @@
-pub mod BgpMaps
+pub mod Lists
+pub mod Maps
 pub mod BgpOctets
 pub mod BgpTexts
 pub mod BgpRoutes
@@ -6,14 +7,12 @@ pub mod BgpValues
 pub mod BgpPlaces
 pub mod BgpHeld
 pub mod BgpPuts
-pub mod ControlMaps
 pub mod ControlEntries
 pub mod ControlFlows
 pub mod ControlSpelled
 pub mod ControlTaken
 pub mod ControlSteps
 pub mod ControlSound
-pub mod LabelLists
 pub mod LabelSound
 pub mod LabelTurns
 pub mod LabelEffects

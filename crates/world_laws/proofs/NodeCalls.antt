@@ -1,5 +1,5 @@
 -- What the calls of nodes have in common: the control of an edge stays sound, and a label message that is taken is sound.
-use Rattle.std.proofs.Common.{◌≡◌, ◌<◌, ◌≤◌, ◌==◌, Bool, true, false, cond, inl, inr, Option, Some, None, arith, length, ap, sym, subst, ◌∙◌}
+use Rattle.std.proofs.Common.{◌≡◌, ◌≤◌, ◌==◌, Bool, true, false, cond, inl, inr, Option, Some, None, arith, length, sym, subst}
 use Rattle.std.specs.FinMap as maps
 use Rattle.std.specs.FinSet as sets
 use Rattle.std.proofs.lemmas.Bool.{eqb-true}
@@ -28,6 +28,7 @@ use Rattle.world_laws.proofs.LabelTaken.{IsSoundMessage}
 
 -- ---- calls
 
+-- It keeps the control of an edge sound, and takes no label message but a sound one.
 pub record IsGoodCall (call : steps.Call) : Type 0 where
   pub control : (place : EdgePlace) (now : _) (old : Control) → SoundScenario place.scenario → SoundControl old → SoundControl (control_step place now old call)
   pub takes : TakesSound call

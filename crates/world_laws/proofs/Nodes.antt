@@ -1,5 +1,5 @@
 -- Edges and core nodes are honest, as long as they are sound.
-use Rattle.std.proofs.Common.{◌≡◌, ◌<◌, ◌≤◌, ◌⊎◌, inl, inr, arith, List, [], ◌∷◌, ◌++◌, length, flat_map, Option, Some, None, refl, sym, subst}
+use Rattle.std.proofs.Common.{◌≡◌, ◌<◌, ◌≤◌, ◌⊎◌, inl, inr, arith, List, ◌++◌, length, flat_map, Option, Some, None, refl, sym, subst}
 use Rattle.std.specs.List.{AllByRecursion}
 use Rattle.std.specs.FinMap as maps
 use Rattle.std.proofs.lemmas.Bool.{cases_lt}
@@ -21,11 +21,11 @@ use Rattle.world_defs.specs.Nodes.{NodeState, Edge, CoreNode, Nodes, fresh_node,
 use Rattle.world_defs.specs.Puts.{bgp_puts, label_puts}
 use Rattle.world_defs.specs.System.{Own, Elapse, Reset, NodeCall, nodes_called, node_called, core_called, core_stepped, edge_stepped, call_of}
 use Rattle.world_laws.specs.Sound.{SoundScenario, SoundControl, SoundPart, SoundNode, IsBare, Sound}
-use Rattle.world_laws.specs.Honest.{SoundCall, IsSoundNodeCall, sound_system}
+use Rattle.world_laws.specs.Honest.{IsSoundNodeCall, sound_system}
 use Rattle.world_laws.proofs.BgpPuts.{bgp_puts_are_put}
 use Rattle.world_laws.proofs.LabelCalls.{RaisesNone, edge_calls_are_sound, own_call_is_sound, own_call_raises_none}
 use Rattle.world_laws.proofs.LabelIds.{IsNoRaise, no_ids_no_puts, ids_stay_empty, own_ids_stay_empty}
-use Rattle.world_laws.proofs.LabelLists.{each_append}
+use Rattle.world_laws.proofs.Lists.{each_append}
 use Rattle.world_laws.proofs.LabelPuts.{IsSpelledPut, IsRouterAddr, node_addr_is_router, part_stays_sound, puts_are_sound, label_puts_are_put, row_stays_sound, row_puts_are_put}
 use Rattle.world_laws.proofs.LabelSound.{IsSoundLabelCall}
 use Rattle.world_laws.proofs.LabelTaken.{carried_is_sound}
@@ -54,24 +54,29 @@ module _ (scenario : Scenario) (nodes : Nodes) (s : Sound scenario nodes) where
     where
       place : EdgePlace
       place = place_of nodes n
+
       calls : List labels.Call
       calls = edge_calls n edge call
+
       control : Control
       control = control_step place nodes.clock edge.control call
+
       control_is : SoundControl control
       control_is = good.control place nodes.clock edge.control its_lines sound.0
+
       stepped : EdgeStepped → Stepped Nodes
       stepped new = record {
         state = with_node nodes n (Edge new.edge);
         puts = bgp_puts place edge.control new.edge.control ++ flat_map (label_puts n (addr_of nodes.scenario n) (own_place n) nodes.clock) new.row;
       }
+
       behind_row : List LabelStep → EdgeStepped
       behind_row row = record { edge = record { control = control; part = part_after edge.part row }; row = row }
+
       by : (o : Option (List LabelStep)) → label_row place nodes.clock edge.part calls ≡ o → Keeps (Sound scenario) ((o >>? λ row. Some (behind_row row)) >>? λ new. Some (stepped new))
       by None e = tt
       by (Some row) e =
-          let behind = row_stays_sound place nodes.clock edge.part calls row sound.1 (edge_calls_are_sound place edge.control control call sound.0 control_is good.takes) e in
-          (
+          let behind = row_stays_sound place nodes.clock edge.part calls row sound.1 (edge_calls_are_sound place edge.control control call sound.0 control_is good.takes) e in (
             each_append IsSpelledPut (bgp_puts place edge.control control) (flat_map (label_puts n (addr_of nodes.scenario n) (own_place n) nodes.clock) row)
                 (bgp_puts_are_put place edge.control control its_lines sound.0 control_is (is_within n lt))
                 (row_puts_are_put n (addr_of nodes.scenario n) (own_place n) nodes.clock row (router n lt) behind.1),
@@ -103,6 +108,7 @@ module _ (scenario : Scenario) (nodes : Nodes) (s : Sound scenario nodes) where
         state = with_node nodes n (CoreNode new.part);
         puts = label_puts n (addr_of nodes.scenario n) (own_place n) nodes.clock (record { old = part; call = call; new = new });
       }
+
       by : (o : Option settling.Stepped) → label_step (own_place n) nodes.clock part call ≡ o → Keeps (Sound scenario) (o >>? λ new. Some (stepped new))
       by None e = tt
       by (Some new) e = (core_puts n part call new sound heard placed e, changed_node scenario nodes n (CoreNode new.part) s (part_stays_sound (own_place n) nodes.clock part call new sound heard e) (core_bare n part call new placed e))
@@ -113,6 +119,7 @@ module _ (scenario : Scenario) (nodes : Nodes) (s : Sound scenario nodes) where
       place_by : (own : labels.Call) → own_label_call call ≡ Some own → (n.0 < length scenario.nodes) ⊎ ((part.ids ≡ maps.empty) × RaisesNone call) → IsPlaced n part own
       place_by own e (inl lt) = inl lt
       place_by own e (inr bare) = inr (bare.0, own_call_raises_none call own bare.1 e)
+
       by : (o : Option labels.Call) → own_label_call call ≡ o → Keeps (Sound scenario) (core_called nodes n part o)
       by None e = (tt, s)
       by (Some own) e = core_keeps n part own sound (own_call_is_sound call own good.takes e) (place_by own e placed)

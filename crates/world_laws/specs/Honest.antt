@@ -1,0 +1,48 @@
+-- The nodes of the whole network as a system with calls of sound values alone.
+use Rattle.std.specs.Prelude.{◌<◌, length}
+use Rattle.std.specs.List.{AllByRecursion}
+use Rattle.pim_joinprune.specs.declared.group.Group.{Group}
+use Rattle.pim_joinprune.specs.declared.message.JoinPrune.{JoinPrune}
+use Rattle.pim_joinprune.specs.declared.source.JpSource.{JpSource}
+use Rattle.scenario_defs.specs.declared.scenario.Scenario.{Scenario}
+use Rattle.session_defs.specs.System.{System}
+use Rattle.edge_defs.specs.Steps as steps
+use Rattle.world_defs.specs.Nodes.{Nodes}
+use Rattle.world_defs.specs.System.{NodeCall, Own, Elapse, Reset, system}
+use Rattle.world_laws.specs.Sound.{IsHost, IsGroupAddr, IsFlow, SoundPattern}
+
+-- the groups of a Join/Prune message are multicast, and all its addresses are those of IPv4
+pub record SoundGroup (group : Group) : Type 0 where
+  pub group_addr : IsGroupAddr group.group
+  pub joins : AllByRecursion (λ (source : JpSource). IsHost source.addr) group.joins
+  pub prunes : AllByRecursion (λ (source : JpSource). IsHost source.addr) group.prunes
+
+abbrev pub SoundMessage : JoinPrune → Type 0
+SoundMessage message = AllByRecursion SoundGroup message.groups
+
+-- A call of a node by itself: no message of a session is taken by it, and its values are sound.
+abbrev pub IsSoundCall : steps.Call → Type 0
+IsSoundCall (steps.Update peer message) = ⊥
+IsSoundCall (steps.Label neighbour message) = ⊥
+IsSoundCall (steps.Pim iface message) = SoundMessage message
+IsSoundCall (steps.Active iface source group) = IsFlow source group
+IsSoundCall (steps.Idle iface source group) = Unit {0}
+IsSoundCall (steps.Select vrf pattern) = SoundPattern pattern
+IsSoundCall (steps.Unselect vrf pattern) = Unit {0}
+IsSoundCall (steps.Raised kind peer) = Unit {0}
+IsSoundCall (steps.Noticed kind peer) = Unit {0}
+IsSoundCall steps.Timers = Unit {0}
+
+abbrev pub IsSoundNodeCall : Scenario → NodeCall → Type 0
+IsSoundNodeCall scenario (Own n call) = (n.0 < length scenario.nodes) × IsSoundCall call
+IsSoundNodeCall scenario (Elapse ticks) = Unit {0}
+IsSoundNodeCall scenario (Reset n) = Unit {0}
+
+-- A call with sound values, at a node of the scenario.
+pub record SoundCall (scenario : Scenario) : Type 0 where
+  pub call : NodeCall
+  pub sound : IsSoundNodeCall scenario call
+
+-- the nodes of a network, with such calls alone
+abbrev pub sound_system : (scenario : Scenario) → System Nodes (SoundCall scenario)
+sound_system scenario = record { taken = system.taken; called = λ call nodes. system.called call.call nodes }

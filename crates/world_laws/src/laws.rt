@@ -1,0 +1,32 @@
+//! Laws of the sessions of the whole network.
+ghost use Rattle.std.specs.Prelude.{◌≡◌, List, None, Some};
+ghost use Rattle.scenario_defs.specs.declared.scenario.Scenario.{Scenario};
+ghost use Rattle.session_defs.specs.declared.direction.Direction.{Direction};
+ghost use Rattle.session_defs.specs.Message.{SessionMessage};
+ghost use Rattle.session_defs.specs.System.{MessageAct, Behind, message_run};
+ghost use Rattle.session_defs.specs.Octets.{OctetNetwork, OctetAct, octet_run};
+ghost use Rattle.session_defs.specs.Refined.{AreLines, IsHonestWhile, Refined, seen};
+ghost use Rattle.edge_defs.specs.Place.{Core};
+ghost use Rattle.world_defs.specs.Nodes.{Nodes, start_nodes};
+ghost use Rattle.world_laws.specs.Sound.{SoundScenario, Sound};
+ghost use Rattle.world_laws.specs.Honest.{SoundCall, sound_system};
+
+/// The nodes of a network in which nothing has happened are sound.
+pub fn start_is_sound()
+    ensures { (scenario : Scenario) (core : Core) → SoundScenario scenario → Sound scenario (start_nodes scenario core) }
+{}
+
+/// Edges and core nodes are honest: as long as they are sound, whatever they put over BGP or LDP is a spelled unit, and they stay
+/// sound.
+pub fn nodes_are_honest()
+    ensures { (scenario : Scenario) → IsHonestWhile (sound_system scenario) (Sound scenario) }
+{}
+
+/// However the octets of the network's sessions are moved, lost and cut, a run in octets is a run in messages that puts the same.
+/// Where it ends for want of a label, a run in messages ends too. No stream of a joined session has a fault, and the nodes stay sound.
+pub fn octets_of_the_network_carry_messages()
+    ensures refined { (scenario : Scenario) (old : OctetNetwork Nodes) (pending : Direction → List SessionMessage) (acts : List (OctetAct (SoundCall scenario))) (new : Behind (OctetNetwork Nodes)) → Sound scenario old.state → AreLines old pending →
+        octet_run (sound_system scenario) old acts ≡ Some new → Refined (sound_system scenario) old pending new × Sound scenario new.network.state }
+    ensures ended { (scenario : Scenario) (old : OctetNetwork Nodes) (pending : Direction → List SessionMessage) (acts : List (OctetAct (SoundCall scenario))) → Sound scenario old.state → AreLines old pending →
+        octet_run (sound_system scenario) old acts ≡ None → (row : List (MessageAct (SoundCall scenario))) × (message_run (sound_system scenario) (seen old pending) row ≡ None) }
+{}

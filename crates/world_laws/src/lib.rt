@@ -1,0 +1,6 @@
+//! Laws of the whole network: its nodes are honest, so a run in octets is a run in messages.
+#![tactic(auto)]
+
+mod laws;
+
+pub use laws::{nodes_are_honest, octets_of_the_network_carry_messages, start_is_sound};

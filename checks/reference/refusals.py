@@ -124,7 +124,7 @@ def no_octets(world, kind, a, b):
     return len(world.network.transit[Direction(kind, a, b)]) == 0
 
 
-def has_session(world, kind, a, b):
+def is_session_joined(world, kind, a, b):
     return world.network.joined[Direction(kind, a, b)]
 
 
@@ -136,11 +136,11 @@ def refusal(world, event):
     kind, a, b = event.kind, event.a, event.b
     match event.word:
         case 'move':
-            return refused_if(no_octets(world, kind, a, b) or not has_session(world, kind, a, b), 'empty')
+            return refused_if(no_octets(world, kind, a, b) or not is_session_joined(world, kind, a, b), 'empty')
         case 'lose':
-            return refused_if(not has_session(world, kind, a, b), 'state')
+            return refused_if(not is_session_joined(world, kind, a, b), 'state')
         case 'notice':
-            return refused_if(has_session(world, kind, a, b) or not is_up(world, kind, a, b), 'state')
+            return refused_if(is_session_joined(world, kind, a, b) or not is_up(world, kind, a, b), 'state')
         case 'raise':
             return refused_if(is_up(world, kind, a, b) or is_up(world, kind, b, a), 'state')
         case 'join' | 'prune':

@@ -92,7 +92,7 @@ def all_copies(world):
     return flat_map(lambda way: world.copies[way], link_ways(scenario_of(world)))
 
 
-def with_copy(copies, count):
+def datagrams_with_copy(copies, count):
     return sum(any(copy.number == number for copy in copies) for number in range(1, count + 1))
 
 
@@ -117,7 +117,7 @@ def unready(world):
 
 def state_line(world):
     copies = all_copies(world)
-    return report.State(octets_in_transit(world), len(copies), with_copy(copies, len(world.datagrams)), due_timers(world), unready(world))
+    return report.State(octets_in_transit(world), len(copies), datagrams_with_copy(copies, len(world.datagrams)), due_timers(world), unready(world))
 
 
 # ---- acts of the control plane

@@ -48,7 +48,7 @@ flow_cmp a b = parts_cmp ((a.vrf.0 ∷ []) ∷ addr_part a.source ∷ addr_part 
 
 -- ---- what is kept
 
--- A selection: the number of its tunnel, when it was made, and whether its delay was run.
+-- A selection: what its tunnel's number adds to that of the VRF, when it was made, and whether its delay was run.
 pub record Selected : Type 0 where
   pub number : ℕ
   pub since : ℕ

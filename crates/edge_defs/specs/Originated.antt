@@ -1,4 +1,4 @@
--- The routes that an edge originates (RFC 6514 sections 9.1, 10, 12.1 and 14; RFC 4364 section 4.3).
+-- The routes that an edge originates (RFC 6514 sections 6, 7, 9.1.1, 12.1 and 14.1; RFC 4364 section 4.3).
 use Rattle.std.specs.Prelude.{ℕ, ◌==◌, Bool, false, List, [], ◌∷◌, ◌++◌, map, slice_get, Option, None, Some}
 use Rattle.std.specs.List.{filter, flat_map}
 use Rattle.std.specs.Int.{w16, to_be_bytes}

@@ -22,11 +22,12 @@ pub record Core : Type 0 where
   pub cost : NodeId → NodeId → ℕ
   pub toward : NodeId → NodeId → Option NodeId
 
--- Costs and neighbours are those of the scenario's links.
+-- Costs and neighbours are those of the scenario's links. Between numbers that are no nodes of it there are none.
 pub record IsCoreOf (scenario : Scenario) (core : Core) : Type 0 where
   pub least : (from to : NodeId) → from.0 < length scenario.nodes → to.0 < length scenario.nodes → IsLeast scenario.links from.0 to.0 (core.cost from to)
   pub itself : (node : NodeId) → core.toward node node ≡ None
   pub first : (from to : NodeId) → from.0 < length scenario.nodes → to.0 < length scenario.nodes → from ≢ to → (next : NodeId) × (core.toward from to ≡ Some next) × IsToward scenario.links from.0 to.0 next.0
+  pub outside : (from to : NodeId) → (length scenario.nodes ≤ from.0) ⊎ (length scenario.nodes ≤ to.0) → (core.cost from to ≡ 0) × (core.toward from to ≡ None)
 
 -- An edge of a scenario, and the core that it knows.
 pub record EdgePlace : Type 0 where

@@ -1,4 +1,4 @@
--- The tunnels that an edge transmits on, and those of which it is a leaf (RFC 6514 sections 9.2.3 and 12.3; RFC 6513 section 7).
+-- The tunnels that an edge transmits on, and those of which it is a leaf (RFC 6514 sections 9.1.2 and 12.3; RFC 6513 section 7).
 use Rattle.std.specs.Prelude.{ℕ, ◌==◌, Bool, List, [], ◌++◌, map, Option, None, Some}
 use Rattle.std.specs.List.{filter, flat_map, list_any}
 use Rattle.std.specs.FinMap as maps
@@ -71,6 +71,6 @@ flows_of control vrf = filter (λ (entry : VrfFlow × Option Upstream). entry.0.
 abbrev pub tunnels_of : EdgePlace → Control → OwnVrf → List Fec
 tunnels_of place control own = flat_map (inclusive_tunnels place own) (maps.entries control.peers) ++ flat_map (flow_tunnels place control own) (flows_of control own.id)
 
--- The tunnels of which the edge is a leaf.
+-- The tunnels of which the edge is to be a leaf: by its steps it is one of these, and of no other.
 abbrev pub leaves : EdgePlace → Control → FinSet fec_cmp
 leaves place control = sets.from_list (flat_map (tunnels_of place control) (own_vrfs place))

@@ -5,7 +5,7 @@ use mv_base::Pattern;
 #[derive(Clone, Copy, Debug, PartialEq, Eq)]
 pub struct Selection {
     pub pattern: Pattern,
-    /// The number of the LSP.
+    /// What the number of its tunnel adds to that of the VRF's inclusive tunnel.
     pub number: u32,
     /// The clock at which it was made.
     pub since: u64,

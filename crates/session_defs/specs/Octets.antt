@@ -19,7 +19,7 @@ pub record OctetNetwork (S : Type 0) : Type 0 where
 
 -- What may happen: the first so many octets in transit over a direction are taken, or all where there are fewer; the nodes are
 -- called; the sessions of some directions are lost, and the octets in transit there; the receivers of some directions whose
--- sessions are not joined forget what they hold back; the sessions of some directions are joined, with fresh streams.
+-- sessions are not joined forget what they hold back; the sessions of some directions are joined, with fresh streams and nothing in transit.
 pub data OctetAct (X : Type 0) : Type 0 where
   Move : (direction : Direction) → (count : ℕ) → OctetAct X
   Call : (call : X) → OctetAct X

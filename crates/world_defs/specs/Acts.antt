@@ -36,7 +36,7 @@ pub data Act : Type 0 where
   RaiseFirst : (kind : Kind) → (a b : NodeId) → Act
   RaiseSecond : (kind : Kind) → (a b : NodeId) → Act
   Restart : (node : NodeId) → Act
-  At : (node : NodeId) → (call : steps.Call) → Act
+  At : (node : NodeId) → (call : steps.Call) → Act  -- by a customer event alone
   Enter : (vrf : VrfId) → Act
   Land : (from to : NodeId) → (place : ℕ) → Act
   Drop : (from to : NodeId) → (place : ℕ) → Act

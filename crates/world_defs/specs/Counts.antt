@@ -73,9 +73,9 @@ abbrev pub all_copies : World → List LinkCopy
 all_copies world = flat_map (λ way. world.copies way.0 way.1) (link_ways (scenario_of world))
 
 -- how many of the datagrams up to that number have a copy on a link
-abbrev pub with_copy : List LinkCopy → ℕ → ℕ
-with_copy copies zero = 0
-with_copy copies (suc number) = with_copy copies number + (if list_any (λ copy. copy.number == suc number) copies then 1 else 0)
+abbrev pub datagrams_with_copy : List LinkCopy → ℕ → ℕ
+datagrams_with_copy copies zero = 0
+datagrams_with_copy copies (suc number) = datagrams_with_copy copies number + (if list_any (λ copy. copy.number == suc number) copies then 1 else 0)
 
 -- the timers of a node that are due
 abbrev pub node_due : Nodes → NodeId → ℕ
@@ -101,4 +101,4 @@ unready world = count_by (λ session. not (is_ready world session)) (sessions (s
 
 -- the line of `state`
 abbrev pub state_line : World → ReportLine
-state_line world = lines.State (octets_in_transit world) (length (all_copies world)) (with_copy (all_copies world) (length world.datagrams)) (due_timers world) (unready world)
+state_line world = lines.State (octets_in_transit world) (length (all_copies world)) (datagrams_with_copy (all_copies world) (length world.datagrams)) (due_timers world) (unready world)

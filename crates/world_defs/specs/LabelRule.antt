@@ -1,5 +1,5 @@
--- The label rule: while a copy may be on its way under a label, the label stands for nothing else (RFC 5036 section 3.5, RFC 6388
--- section 2.4; the hold and the rest of labels are this project's rules).
+-- The label rule: while a copy may be on its way under a label, the label stands for no other VPN, once the hold of the end that it goes
+-- to was run (RFC 5036 section 3.5, RFC 6388 section 2.4; the hold and the rest of labels are this project's rules).
 use Rattle.std.specs.Prelude.{◌≡◌, ◌≢◌, ◌≤◌, ◌<◌, ◌⊎◌, ℕ, ◌+◌, true, false, List, ◌++◌, is_some, slice_get, Contains, Option, None, Some}
 use Rattle.std.specs.List.{AllByRecursion}
 use Rattle.std.specs.FinMap as maps

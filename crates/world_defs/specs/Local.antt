@@ -27,7 +27,7 @@ use Rattle.edge_defs.specs.Place.{addr_of, lsp, tunnel_number}
 use Rattle.world_defs.specs.Counts.{is_between}
 use Rattle.world_defs.specs.Acts.{Act, RaiseFirst, RaiseSecond, Notice, Restart, Enter, Land}
 use Rattle.world_defs.specs.Run.{Traced}
-use Rattle.world_defs.specs.World.{Datagram}
+use Rattle.world_defs.specs.World.{World, Datagram, scenario_of}
 
 -- ---- octets since the last raise
 
@@ -140,13 +140,15 @@ abbrev pub EntersBy : Scenario → List Traced → List Datagram → VrfId → R
 EntersBy scenario before datagrams id (lines.Hop u n label ttl number) = (datagram : Datagram) × (0 < number) × (slice_get datagrams (number - 1) ≡ Some datagram) × MayEnter scenario before id datagram u n label
 EntersBy scenario before datagrams id other = Unit {0}
 
--- What an act needs for its lines, by what happened before it. The lines of a copy that lands begin with that.
+-- What an act needs for its lines, by what happened before it. The lines of a copy that lands begin with that. No other act lets a
+-- copy or a datagram go on.
 abbrev pub IsLicensed : Scenario → List Datagram → List Traced → Option Act → List ReportLine → Type 0
 IsLicensed scenario datagrams before (Some (Land from n place)) (lines.Land own_from own_n label number ∷ all) = (own_from ≡ from) × (own_n ≡ n) × (list_any goes_on all ≡ true → MayLand scenario before from n label all)
 IsLicensed scenario datagrams before (Some (Enter id)) all = AllByRecursion (EntersBy scenario before datagrams id) all
-IsLicensed scenario datagrams before other all = Unit {0}
+IsLicensed scenario datagrams before other all = list_any goes_on all ≡ false
 
--- Each hop is licensed by what its node and the neighbour have put and taken.
-pub record Local (scenario : Scenario) (datagrams : List Datagram) (trace : List Traced) : Type 0 where
+-- Each hop is licensed by what its node and the neighbour have put and taken. The trace is one of a run to that network, which has the
+-- datagrams that were accepted in it.
+pub record Local (last : World) (trace : List Traced) : Type 0 where
   pub takes : TakesWhatWasPut trace
-  pub licensed : (before after : List Traced) (step : Traced) → trace ≡ before ++ step ∷ after → IsLicensed scenario datagrams before step.happened.act step.happened.lines
+  pub licensed : (before after : List Traced) (step : Traced) → trace ≡ before ++ step ∷ after → IsLicensed (scenario_of last) last.datagrams before step.happened.act step.happened.lines

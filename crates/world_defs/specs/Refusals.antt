@@ -54,7 +54,7 @@ abbrev pub control_of : NodeState → Control
 control_of (Edge edge) = edge.control
 control_of (CoreNode part) = no_control
 
--- what the edge of an interface keeps, and the edge of a VRF
+-- what the edge keeps, if there is one, and the edge of a VRF
 abbrev pub control_at : World → Option NodeId → Control
 control_at world None = no_control
 control_at world (Some n) = control_of (world.network.state.node n)
@@ -88,17 +88,17 @@ selections_at world vrf = maps.len (control_at world (edge_of_vrf (scenario_of w
 abbrev pub no_octets : World → Kind → NodeId → NodeId → Bool
 no_octets world kind from to = length (world.network.transit (direction kind from to)) == 0
 
-abbrev pub has_session : World → Kind → NodeId → NodeId → Bool
-has_session world kind a b = world.network.joined (direction kind a b)
+abbrev pub is_session_joined : World → Kind → NodeId → NodeId → Bool
+is_session_joined world kind a b = world.network.joined (direction kind a b)
 
 -- fewer copies than that are on the link
 abbrev pub lacks_copy : World → NodeId → NodeId → ℕ → Bool
 lacks_copy world from to place = nat_lt (length (world.copies from to)) place
 
 abbrev pub refusal : World → Event → Option Refusal
-refusal world (events.Move kind from to count) = refused_if (no_octets world kind from to || not (has_session world kind from to)) refusals.Empty
-refusal world (events.Lose kind a b) = refused_if (not (has_session world kind a b)) refusals.State
-refusal world (events.Notice kind a b) = refused_if (has_session world kind a b || not (is_up world kind a b)) refusals.State
+refusal world (events.Move kind from to count) = refused_if (no_octets world kind from to || not (is_session_joined world kind from to)) refusals.Empty
+refusal world (events.Lose kind a b) = refused_if (not (is_session_joined world kind a b)) refusals.State
+refusal world (events.Notice kind a b) = refused_if (is_session_joined world kind a b || not (is_up world kind a b)) refusals.State
 refusal world (events.Raise kind a b) = refused_if (is_up world kind a b || is_up world kind b a) refusals.State
 refusal world (events.Join iface entry) = message_refusal world (message_of (scenario_of world) (events.Join iface entry))
 refusal world (events.Prune iface entry) = message_refusal world (message_of (scenario_of world) (events.Prune iface entry))

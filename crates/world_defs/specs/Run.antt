@@ -5,7 +5,7 @@ use Rattle.scenario_defs.specs.declared.event.Timed.{Timed}
 use Rattle.scenario_defs.specs.declared.event.Script.{Script}
 use Rattle.scenario_defs.specs.declared.report.ReportLine.TheVariants as lines
 use Rattle.mvpn_model.specs.Report.{Entry}
-use Rattle.edge_defs.specs.Place.{Core}
+use Rattle.edge_defs.specs.Place.{Core, IsCoreOf}
 use Rattle.world_defs.specs.Counts.{octets_in_transit, all_copies, due_timers}
 use Rattle.world_defs.specs.Events.{Happened, Outcome, Done, Halted, done}
 use Rattle.world_defs.specs.Refusals.{refusal}
@@ -33,9 +33,15 @@ Runs old number [] trace new = (trace ≡ []) × (new ≡ old)
 Runs old number (timed ∷ more) trace new =
     (acts : List Happened) × (next : World) × (rest : List Traced) × (outcome old timed ≡ Done acts next) × (trace ≡ traced number acts ++ rest) × Runs next (number + 1) more rest new
 
--- The events of a script, from the state in which nothing has happened.
+-- Events, from the state in which nothing has happened in the network of the script.
 abbrev pub Run : Core → Script → List Timed → List Traced → World → Type 0
 Run core script events trace new = Runs (start script.scenario core) 0 events trace new
+
+-- The first so many events of a script run, by the core of its scenario.
+pub record RunOf (script : Script) (count : ℕ) (trace : List Traced) (new : World) : Type 0 where
+  pub core : Core
+  pub of_scenario : IsCoreOf script.scenario core
+  pub run : Run core script (take count script.events) trace new
 
 -- The first events run; then one lacks a label at a node. The report ends with the lines of its acts before that, and the line that
 -- says so.
@@ -53,10 +59,10 @@ pub record Halts (core : Core) (script : Script) (report : List Entry) (node : N
 
 -- ---- behind some events
 
--- Behind `settle` no octet is in transit, and no timer is due.
+-- What `settle` is to leave: no octet in transit, and no timer due.
 abbrev pub IsSettled : World → Type 0
 IsSettled world = (octets_in_transit world ≡ 0) × (due_timers world ≡ 0)
 
--- Behind `drain` no copy is on a link.
+-- What `drain` is to leave: no copy on a link.
 abbrev pub IsDrained : World → Type 0
 IsDrained world = all_copies world ≡ []

@@ -30,7 +30,7 @@ use Rattle.label_defs.proofs.KeyLemmas.{ties}
 use Rattle.calm_laws.specs.Calm.{CalmSession, NoneDue, AreOfOneVpn}
 use Rattle.calm_laws.proofs.Lists.{map_among, among_map, among_filter, filter_among, found_among, among_found}
 use Rattle.calm_laws.proofs.Maps.{entry_get, get_entry}
-use Rattle.calm_laws.proofs.Tables.{held_taken, taken_held}
+use Rattle.calm_laws.proofs.Tables.{near_up, held_taken, taken_held}
 use Rattle.calm_laws.proofs.Targets.{admitted_target, among_comms, shares_by, vpn_admits}
 use Rattle.calm_laws.proofs.Vrfs.{one_rd, one_in_vpn, own_rules, shared_vpn}
 use Rattle.calm_laws.proofs.Entries.{of_vrf}
@@ -187,7 +187,7 @@ not_earlier : (network : EdgeNetwork) (root egress : NodeId) (root_vrf : OwnVrf)
 not_earlier network root egress root_vrf route l rule calm a =
     let key : Key = selective_key (place_of network root) root_vrf.vrf route.pattern in
     let view : ViewAt network root egress key = rule.view root egress key calm.two in
-    let timely = view.timely l.selected l.taken calm.joined calm.near (ap (values_at key_cmp key) calm.quiet) (picked (place_of network root) (network.node root) root_vrf route.pattern l.selected rule.scenario a l.at) l.from in
+    let timely = view.timely l.selected l.taken calm.joined (near_up network root egress rule calm) (ap (values_at key_cmp key) calm.quiet) (picked (place_of network root) (network.node root) root_vrf route.pattern l.selected rule.scenario a l.at) l.from in
     subst (λ (n : ℕ). l.selected.since ≤ n) (sym l.since) timely
 
 pub one_selected : (control : Control) (key : VrfPattern) (one other : Selected) → maps.get control.selections key ≡ Some one → maps.get control.selections key ≡ Some other → one ≡ other

@@ -27,7 +27,7 @@ use Rattle.edge_laws.specs.Rule.{Rule}
 use Rattle.calm_laws.specs.Calm.{CalmSession, FlowsStand}
 use Rattle.calm_laws.proofs.Lists.{passes, any_from, among_found}
 use Rattle.calm_laws.proofs.Maps.{entry_get, get_entry}
-use Rattle.calm_laws.proofs.Tables.{turned, held_taken, among_peers}
+use Rattle.calm_laws.proofs.Tables.{turned, near_up, held_taken, among_peers}
 use Rattle.calm_laws.proofs.Vrfs.{one_rd}
 use Rattle.calm_laws.proofs.Originated.{JoinHeld, join_held, some_join}
 use Rattle.calm_laws.proofs.Upstreams.{is_flow_of, root_of}
@@ -94,5 +94,5 @@ joined network root egress flow rd import source_as root_vrf rule stand calm h a
     let table = taken_from (network.node root) egress in
     let read = join_imported place root_vrf.vrf flow rd source_as taken.0 e n (ap (λ (v : Value). v.comms) taken.2 ∙ comms) in
     let found = among_found (imported_join place root_vrf.vrf) (key, taken.0) (record { source = flow.source; group = flow.group }) (maps.entries table) (get_entry key_exact table key taken.0 taken.1) read in
-    any_from (is_joined_by place root_vrf flow.source flow.group) (egress, table) (maps.entries (network.node root).peers) (among_peers (network.node root) egress calm.near)
+    any_from (is_joined_by place root_vrf flow.source flow.group) (egress, table) (maps.entries (network.node root).peers) (among_peers (network.node root) egress (near_up network root egress rule calm))
     (any_from (same_flow flow.source flow.group) (record { source = flow.source; group = flow.group }) _ found (own_flow flow.source flow.group))

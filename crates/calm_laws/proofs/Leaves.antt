@@ -28,7 +28,7 @@ use Rattle.edge_laws.specs.Rule.{Rule}
 use Rattle.calm_laws.specs.Calm.{CalmSession, NoneDue, FlowsStand, AreOfOneVpn, CalmFlow}
 use Rattle.calm_laws.proofs.Lists.{any_from, among_front, among_behind, among_map, among_flat_map, among_filter, filter_among, among_found}
 use Rattle.calm_laws.proofs.Maps.{get_entry}
-use Rattle.calm_laws.proofs.Tables.{held_taken, among_peers}
+use Rattle.calm_laws.proofs.Tables.{far_up, held_taken, among_peers}
 use Rattle.calm_laws.proofs.Originated.{inclusive_value}
 use Rattle.calm_laws.proofs.Imports.{imports_inclusive}
 use Rattle.calm_laws.proofs.InStep.{key_at, is_selection, vpn_tunnel, one_selected, is_learned, in_step}
@@ -57,7 +57,7 @@ wants_inclusive network root egress root_vrf own rule calm a vpn =
     let taken = held_taken network root egress key (tunnel_value place root_vrf.vrf number) rule calm (inclusive_value place (network.node root) egress root_vrf rule.scenario a) in
     let read = imports_inclusive place own.vrf root_vrf.vrf number taken.0 taken.2 (vpn_tunnel network root root_vrf own number rule.scenario a vpn) in
     among_front fec (flat_map (inclusive_tunnels (place_of network egress) own) (maps.entries control.peers)) (flat_map (flow_tunnels (place_of network egress) control own) (flows_of control own.id))
-    (among_flat_map (inclusive_tunnels (place_of network egress) own) (root, table) fec (maps.entries control.peers) (among_peers control root calm.far)
+    (among_flat_map (inclusive_tunnels (place_of network egress) own) (root, table) fec (maps.entries control.peers) (among_peers control root (far_up network root egress rule calm))
     (among_found (imported_inclusive own.vrf (own_addr place)) (key, taken.0) fec (maps.entries table) (get_entry key_exact table key taken.0 taken.1) read))
 
 -- ---- a selective tunnel

@@ -11,6 +11,7 @@ use Rattle.edge_defs.specs.Keys.{Value, Table, key_cmp}
 use Rattle.edge_defs.specs.Place.{EdgePlace}
 use Rattle.edge_defs.proofs.KeyLemmas.{key_total, key_exact}
 use Rattle.edge_laws.specs.Network.{EdgeNetwork, place_of}
+use Rattle.edge_laws.specs.Acts.{is_up}
 use Rattle.edge_laws.specs.Rule.{Rule, value_in, taken_values}
 use Rattle.label_defs.proofs.KeyLemmas.{node_cmp_total, node_cmp_exact}
 use Rattle.selective_defs.specs.Selective.{Among}
@@ -23,11 +24,16 @@ turned network a b calm = record {
   two = λ e. calm.two (sym e);
   joined = calm.joined_back;
   joined_back = calm.joined;
-  near = calm.far;
-  far = calm.near;
   quiet = calm.quiet_back;
   quiet_back = calm.quiet;
 }
+
+-- both ends are up
+pub near_up : (network : EdgeNetwork) (a b : NodeId) → Rule network → CalmSession network a b → is_up (network.node a) b ≡ true
+near_up network a b rule calm = rule.ends a b calm.two calm.joined
+
+pub far_up : (network : EdgeNetwork) (a b : NodeId) → Rule network → CalmSession network a b → is_up (network.node b) a ≡ true
+far_up network a b rule calm = near_up network b a rule (turned network a b calm)
 
 taken_value : (control : Control) (peer : NodeId) (key : Key) → maps.get (taken_values control peer) key ≡ value_in (maps.get (taken_from control peer) key)
 taken_value control peer key =
@@ -47,8 +53,8 @@ pub calm_key : (network : EdgeNetwork) (root egress : NodeId) → Rule network �
 calm_key network root egress rule calm key =
     nothing_pending (value_in (maps.get (taken_from (network.node egress) root) key)) (maps.get (told (place_of network root) (network.node root) egress) key)
     (values_at key_cmp key (network.direction root egress).transit) (ap (values_at key_cmp key) calm.quiet)
-    ((rule.view root egress key calm.two).leads calm.joined calm.near)
-    ∙ ap (λ (table : Table). maps.get table key) (told_up (place_of network root) (network.node root) egress calm.near)
+    ((rule.view root egress key calm.two).leads calm.joined (near_up network root egress rule calm))
+    ∙ ap (λ (table : Table). maps.get table key) (told_up (place_of network root) (network.node root) egress (near_up network root egress rule calm))
 
 pub calm_tables : (network : EdgeNetwork) (root egress : NodeId) → Rule network → CalmSession network root egress →
     taken_values (network.node egress) root ≡ held_for (place_of network root) (network.node root) egress

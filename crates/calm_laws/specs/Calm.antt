@@ -11,16 +11,13 @@ use Rattle.edge_defs.specs.Flows.{flows_at}
 use Rattle.edge_defs.specs.Originated.{own_import}
 use Rattle.edge_defs.specs.Place.{OwnVrf, own_vrfs}
 use Rattle.edge_defs.specs.Tunnels.{leaves, transmit_tunnel, is_joined_in}
-use Rattle.edge_laws.specs.Acts.{is_up}
 use Rattle.edge_laws.specs.Network.{EdgeNetwork, place_of}
 
--- The session of two edges is joined, both ends are up, and nothing is in transit either way.
+-- The session of two edges is joined, and nothing is in transit either way.
 pub record CalmSession (network : EdgeNetwork) (a b : NodeId) : Type 0 where
   pub two : a ≢ b
   pub joined : (network.direction a b).joined ≡ true
   pub joined_back : (network.direction b a).joined ≡ true
-  pub near : is_up (network.node a) b ≡ true
-  pub far : is_up (network.node b) a ≡ true
   pub quiet : (network.direction a b).transit ≡ []
   pub quiet_back : (network.direction b a).transit ≡ []
 
@@ -37,7 +34,8 @@ abbrev pub AreOfOneVpn : OwnVrf → OwnVrf → Type 0
 AreOfOneVpn own other = same own.vrf.targets other.vrf.targets ≡ true
 
 -- A flow of an egress whose upstream is a VRF of the root: that VRF is one of the same VPN, and the route chosen names it; the root
--- knows that the flow is joined there; and the egress is a leaf of the tunnel on which the root transmits the flow.
+-- knows that the flow is joined there; and by what the egress keeps of its customers and of BGP it is to be a leaf of the tunnel on
+-- which the root transmits the flow.
 pub record CalmFlow (network : EdgeNetwork) (root egress : NodeId) (own : OwnVrf) (flow : VrfFlow) (rd : Rd) (import : Import) (source_as : ℕ) : Type 0 where
   pub root_vrf : OwnVrf
   pub of_root : Among root_vrf (own_vrfs (place_of network root))

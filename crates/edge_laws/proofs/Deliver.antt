@@ -20,7 +20,7 @@ use Rattle.edge_laws.specs.Rule.{ViewAt, Rule, selected_at}
 use Rattle.edge_laws.proofs.Local.{along, taken_view}
 use Rattle.edge_laws.proofs.Selections.{stays}
 use Rattle.edge_laws.proofs.Taken.{change_taken, table_in, put_own, put_other, put_down}
-use Rattle.edge_laws.proofs.Frames.{FarView, behind_views}
+use Rattle.edge_laws.proofs.Frames.{FarView, Follow, behind_views, behind_ends}
 use Rattle.edge_laws.proofs.Steps.{far_same}
 
 module _ (network : EdgeNetwork) (a b : NodeId) (change : Change Key Value) (rest : List (Change Key Value)) (taken : Taken) where
@@ -51,10 +51,12 @@ module _ (network : EdgeNetwork) (a b : NodeId) (change : Change Key Value) (res
       (selected_at (place_of network a) (network.node a) key) (maps.get taken key) (value_of change) (values_at key_cmp key rest)
       (along refl refl (ap is_some (sym is)) refl refl (ap (λ (o : Option Taken). maps.get (table_in o) key) (sym is)) (ap (values_at key_cmp key) (sym all)) view))
 
+  follows : Follow left b after
+  follows = record { selections = λ pattern. stays network.clock (maps.get (network.node b).selections pattern); ends = λ v i e. inl (put_down (network.node b).peers a table v e) }
+
   taken_views : a ≢ b → maps.get (network.node b).peers a ≡ Some taken → (network.direction a b).transit ≡ change ∷ rest → Rule network → (u v : NodeId) (key : Key) → u ≢ v → ViewAt (behind left b after) u v key
   taken_views ne is all rule =
-      behind_views left b after rule.scenario
-      (record { selections = λ pattern. stays network.clock (maps.get (network.node b).selections pattern); ends = λ v i e. inl (put_down (network.node b).peers a table v e) })
+      behind_views left b after rule.scenario follows
       (λ v key i. other_view b v key (and_left (b.0 == a.0) (v.0 == b.0) (node_apart b a (λ e. ne (sym e)))) (rule.view b v key i))
       (λ u key i. elim (node_cases u a) [
         | inl f ↦ subst (λ x. FarView left b after x key) (sym f) (far_here is all key (rule.view a b key ne))
@@ -68,7 +70,7 @@ module _ (network : EdgeNetwork) (a b : NodeId) (change : Change Key Value) (res
 
   pub taken_rule : a ≢ b → maps.get (network.node b).peers a ≡ Some taken → (network.direction a b).transit ≡ change ∷ rest → Rule network → Rule (behind left b (control_step (place_of left b) left.clock (left.node b) (steps.Update a (message_of change))))
   taken_rule ne is all rule =
-      subst (λ control. Rule (behind left b control)) (sym (step_is is)) (record { view = taken_views ne is all rule; alike = rule.alike; scenario = rule.scenario })
+      subst (λ control. Rule (behind left b control)) (sym (step_is is)) (record { view = taken_views ne is all rule; alike = rule.alike; ends = behind_ends left b after follows rule.ends; scenario = rule.scenario })
 
 held_by : {X : Type 0} (o : Option X) → is_some o ≡ true → (x : X) × (o ≡ Some x)
 held_by None e = absurd cc

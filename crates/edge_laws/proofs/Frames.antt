@@ -133,10 +133,44 @@ behind_views network n new rules follow near far other =
     (λ a key ne. along refl refl refl refl refl refl (put_there network n new a n key ne) (far a key ne))
     (λ a b key ne e f. along refl refl refl refl refl refl (put_there network n new a b key e) (other a b key ne e f))
 
+-- What the rule says besides ends: inside a raise a joined session has an end that is down.
+pub record Views (network : EdgeNetwork) : Type 0 where
+  pub view : (a b : NodeId) (key : Key) → a ≢ b → ViewAt network a b key
+  pub alike : (a b : NodeId) → (network.direction a b).joined ≡ (network.direction b a).joined
+  pub scenario : Rules network.scenario
+
+abbrev pub Ends : EdgeNetwork → Type 0
+Ends network = (a b : NodeId) → a ≢ b → (network.direction a b).joined ≡ true → is_up (network.node a) b ≡ true
+
+pub views_of : (network : EdgeNetwork) → Rule network → Views network
+views_of network rule = record { view = rule.view; alike = rule.alike; scenario = rule.scenario }
+
+pub rule_from : (network : EdgeNetwork) → Views network → Ends network → Rule network
+rule_from network views ends = record { view = views.view; alike = views.alike; ends = ends; scenario = views.scenario }
+
+pub behind_kept : (network : EdgeNetwork) (n : NodeId) (new : Control) → Views network → Follow network n new → ((a : NodeId) (key : Key) → a ≢ n → FarView network n new a key) → Views (behind network n new)
+behind_kept network n new views follow far = record {
+  view = behind_views network n new views.scenario follow (λ b key ne. views.view n b key ne) far (λ a b key ne e f. views.view a b key ne);
+  alike = views.alike;
+  scenario = views.scenario;
+}
+
+-- an end that is not let down stays up
+pub still_up : (new old joined : Bool) → (new ≡ false → (old ≡ false) ⊎ (joined ≡ false)) → old ≡ true → joined ≡ true → new ≡ true
+still_up true old joined down up on = refl
+still_up false old joined down up on = elim (down refl) [ inl e ↦ absurd cc | inr e ↦ absurd cc ]
+
+pub behind_ends : (network : EdgeNetwork) (n : NodeId) (new : Control) → Follow network n new → Ends network → Ends (behind network n new)
+behind_ends network n new follow ends a b ne joined = elim (node_cases a n) [
+  | inl e ↦
+      (let apart : n ≢ b = λ i. ne (e ∙ i) in
+      let on : (network.direction n b).joined ≡ true = ap (λ x. (network.direction x b).joined) (sym e) ∙ joined in
+      ap (λ x. is_up (at_node n new network.node x) b) e ∙ ap (λ (control : Control). is_up control b) (node_here n new network.node)
+      ∙ still_up (is_up new b) (is_up (network.node n) b) (network.direction n b).joined (follow.ends b apart) (ends n b apart on) on)
+  | inr e ↦ ap (λ (control : Control). is_up control b) (node_there n new network.node a e) ∙ ends a b ne joined
+]
+
 -- a step of an edge of a network that meets the rule
 pub behind_rule : (network : EdgeNetwork) (n : NodeId) (new : Control) → Rule network → Follow network n new → ((a : NodeId) (key : Key) → a ≢ n → FarView network n new a key) → Rule (behind network n new)
-behind_rule network n new rule follow far = record {
-  view = behind_views network n new rule.scenario follow (λ b key ne. rule.view n b key ne) far (λ a b key ne e f. rule.view a b key ne);
-  alike = rule.alike;
-  scenario = rule.scenario;
-}
+behind_rule network n new rule follow far =
+    rule_from (behind network n new) (behind_kept network n new (views_of network rule) follow far) (behind_ends network n new follow rule.ends)

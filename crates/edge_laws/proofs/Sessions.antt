@@ -10,7 +10,7 @@ use Rattle.scenario_defs.specs.declared.event.Kind.TheVariants as kinds
 use Rattle.table_defs.specs.declared.change.Change.{Change}
 use Rattle.table_defs.specs.Changes.{values_at}
 use Rattle.label_defs.specs.Keys.{node_cmp}
-use Rattle.label_defs.proofs.KeyLemmas.{node_equal, node_itself}
+use Rattle.label_defs.proofs.KeyLemmas.{node_equal, node_itself, node_cases}
 use Rattle.edge_defs.specs.Edge.{Taken, Control, no_control}
 use Rattle.edge_defs.specs.Held.{told}
 use Rattle.edge_defs.specs.Imported.{taken_from}
@@ -24,8 +24,8 @@ use Rattle.edge_laws.proofs.Local.{along, near_view, cut_view, join_view, far_do
 use Rattle.edge_laws.proofs.Selections.{empties}
 use Rattle.edge_laws.proofs.Picks.{picks}
 use Rattle.edge_laws.proofs.Taken.{table_in}
-use Rattle.edge_laws.proofs.Frames.{NearView, FarView, node_views, node_there, told_down}
-use Rattle.edge_laws.proofs.Steps.{raised_rule, noticed_rule}
+use Rattle.edge_laws.proofs.Frames.{NearView, FarView, Views, Ends, views_of, rule_from, node_views, node_there, told_down}
+use Rattle.edge_laws.proofs.Steps.{raised_kept, raised_own, raised_other, noticed_rule}
 
 -- ---- sums and products of truth values
 
@@ -64,6 +64,7 @@ pub cut_rule : (network : EdgeNetwork) (hit : NodeId → NodeId → Bool) → ((
 cut_rule network hit turned rule = record {
   view = λ u v key ne. cut_at network u v key (network.direction u v).joined (hit u v) (network.direction u v).transit refl refl (rule.view u v key ne);
   alike = λ u v. ap (λ b. b && not (hit u v)) (rule.alike u v) ∙ ap (λ b. (network.direction v u).joined && not b) (turned u v);
+  ends = λ u v ne e. rule.ends u v ne (and_parts (network.direction u v).joined (not (hit u v)) e).0;
   scenario = rule.scenario;
 }
 
@@ -105,12 +106,30 @@ pair_off network a b u v p r e =
           (ap (λ z. is_up (network.node z) v) i ∙ ap (λ z. is_up (network.node b) z) j ∙ r, ap (λ z. is_up (network.node z) u) j ∙ ap (λ z. is_up (network.node a) z) i ∙ p))
     ]
 
-join_rule : (network : EdgeNetwork) (a b : NodeId) → is_up (network.node a) b ≡ false → is_up (network.node b) a ≡ false → Rule network → Rule (with_joined a b network)
-join_rule network a b p r rule = record {
-  view = λ u v key ne. join_at network u v key (network.direction u v).joined (is_between a b u v) refl (pair_off network a b u v p r) (rule.view u v key ne);
-  alike = λ u v. ap (λ x. x || is_between a b u v) (rule.alike u v) ∙ ap (λ x. (network.direction v u).joined || x) (between_turned a b u v);
-  scenario = rule.scenario;
+join_kept : (network : EdgeNetwork) (a b : NodeId) → is_up (network.node a) b ≡ false → is_up (network.node b) a ≡ false → Views network → Views (with_joined a b network)
+join_kept network a b p r views = record {
+  view = λ u v key ne. join_at network u v key (network.direction u v).joined (is_between a b u v) refl (pair_off network a b u v p r) (views.view u v key ne);
+  alike = λ u v. ap (λ x. x || is_between a b u v) (views.alike u v) ∙ ap (λ x. (network.direction v u).joined || x) (between_turned a b u v);
+  scenario = views.scenario;
 }
+
+-- both ends of the session come up, and no other one goes down
+raise_ends : (network : EdgeNetwork) (a b : NodeId) → Ends network → Ends (stepped (stepped (with_joined a b network) a (steps.Raised kinds.Bgp b)) b (steps.Raised kinds.Bgp a))
+raise_ends network a b ends u v ne e =
+    let joined : EdgeNetwork = with_joined a b network in
+    let first : EdgeNetwork = stepped joined a (steps.Raised kinds.Bgp b) in
+    let second : EdgeNetwork = stepped first b (steps.Raised kinds.Bgp a) in
+    elim (or_cases (network.direction u v).joined (is_between a b u v) e) [
+      | inl on ↦ raised_other first b a u v (raised_other joined a b u v (ends u v ne on))
+      | inr new ↦ elim (or_cases ((u.0 == a.0) && (v.0 == b.0)) ((u.0 == b.0) && (v.0 == a.0)) new) [
+        | inl x ↦
+            (let y = and_parts (u.0 == a.0) (v.0 == b.0) x in
+            ap (λ z. is_up (second.node z) v) (node_equal u a y.0) ∙ ap (λ z. is_up (second.node a) z) (node_equal v b y.1) ∙ raised_other first b a a b (raised_own joined a b))
+        | inr x ↦
+            (let y = and_parts (u.0 == b.0) (v.0 == a.0) x in
+            ap (λ z. is_up (second.node z) v) (node_equal u b y.0) ∙ ap (λ z. is_up (second.node b) z) (node_equal v a y.1) ∙ raised_own first b a)
+      ]
+    ]
 
 pub raise_rule : (network : EdgeNetwork) (a b : NodeId) (same up other : Bool) → (a.0 == b.0) ≡ same → is_up (network.node a) b ≡ up → is_up (network.node b) a ≡ other → Rule network → Rule (raised network a b same up other)
 raise_rule network a b true up other s p r rule = rule
@@ -121,7 +140,7 @@ raise_rule network a b false false false s p r rule =
     let first : EdgeNetwork = stepped joined a (steps.Raised kinds.Bgp b) in
     let ne : b ≢ a = λ e. (let t = node_itself a b (sym e) in absurd cc) in
     let off : is_up (first.node b) a ≡ false = ap (λ (control : Control). is_up control a) (node_there a _ joined.node b ne) ∙ r in
-    raised_rule first b a off (raised_rule joined a b p (join_rule network a b p r rule))
+    rule_from _ (raised_kept first b a off (raised_kept joined a b p (join_kept network a b p r (views_of network rule)))) (raise_ends network a b rule.ends)
 
 -- ---- restarts
 
@@ -166,10 +185,17 @@ module _ (network : EdgeNetwork) (n : NodeId) (rule : Rule network) where
       along (off_to a) refl refl refl refl (ap (λ (o : Option Taken). maps.get (table_in o) key) (get-empty node_cmp a) ∙ get-empty key_cmp key) refl
       (far_down _ _ _ _ (is_up no_control a) _ _ _ _ (along (sym (off_to a)) refl refl refl refl refl refl (cut_kept.view a n key ne)))
 
+  ends : Ends (record cut { node = at_node n no_control cut.node })
+  ends u v ne e = elim (node_cases u n) [
+    | inl f ↦ (let i = off_from v in let j : (cut.direction n v).joined ≡ true = ap (λ x. (cut.direction x v).joined) (sym f) ∙ e in absurd cc)
+    | inr f ↦ ap (λ (control : Control). is_up control v) (node_there n no_control cut.node u f) ∙ cut_kept.ends u v ne e
+  ]
+
   pub restart_rule : Rule (record cut { node = at_node n no_control cut.node })
   restart_rule = record {
     view = node_views cut n no_control near far (λ a b key ne e f. cut_kept.view a b key ne);
     alike = cut_kept.alike;
+    ends = ends;
     scenario = rule.scenario;
   }
 
@@ -179,5 +205,6 @@ pub tick_rule : (network : EdgeNetwork) (ticks : ℕ) → Rule network → Rule 
 tick_rule network ticks rule = record {
   view = λ u v key ne. tick_view network.clock ticks network.scenario.delay _ _ _ _ _ _ _ (rule.view u v key ne);
   alike = rule.alike;
+  ends = rule.ends;
   scenario = rule.scenario;
 }

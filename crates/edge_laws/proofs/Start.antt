@@ -63,5 +63,6 @@ start_rule scenario core rules = record {
       quiet_view 0 scenario.delay (is_up no_control b) (is_up no_control a) (maps.get (told place no_control b) key) (selected_at place no_control key) (maps.get (taken_from no_control a) key)
       (none_selected place no_control key (nothing_in place key) (own_vrfs place)) (nothing_taken a key));
   alike = λ a b. refl;
+  ends = λ a b ne e. absurd cc;
   scenario = rules;
 }

@@ -17,13 +17,13 @@ use Rattle.edge_defs.specs.Imported.{taken_from}
 use Rattle.edge_defs.specs.Keys.{key_cmp}
 use Rattle.edge_defs.specs.Steps as steps
 use Rattle.edge_defs.specs.Steps.{taken_change, with_update, timed, refreshed, control_step, is_imported}
-use Rattle.edge_laws.specs.Network.{EdgeNetwork, place_of, behind}
+use Rattle.edge_laws.specs.Network.{EdgeNetwork, place_of, at_node, behind}
 use Rattle.edge_laws.specs.Acts.{is_up, stepped, selected}
 use Rattle.edge_laws.specs.Rule.{ViewAt, Rule, selected_at}
 use Rattle.edge_laws.proofs.Local.{along, far_up, far_down, far_run}
 use Rattle.edge_laws.proofs.Selections.{AllFollow, stays, selects, unselects, runs}
 use Rattle.edge_laws.proofs.Taken.{get-peers_run, table_in, run_taken, run_up, put_own, put_other, put_down, taken_off, kept_other}
-use Rattle.edge_laws.proofs.Frames.{FarView, behind_rule}
+use Rattle.edge_laws.proofs.Frames.{FarView, Views, node_here, node_there, still_up, behind_kept, behind_rule}
 
 -- ---- steps that take nothing
 
@@ -66,20 +66,37 @@ timers_rule network n rule =
 -- ---- ends
 
 -- the end comes up
-pub raised_rule : (network : EdgeNetwork) (n peer : NodeId) → is_up (network.node n) peer ≡ false → Rule network → Rule (stepped network n (steps.Raised kinds.Bgp peer))
-raised_rule network n peer off rule =
+pub raised_kept : (network : EdgeNetwork) (n peer : NodeId) → is_up (network.node n) peer ≡ false → Views network → Views (stepped network n (steps.Raised kinds.Bgp peer))
+raised_kept network n peer off views =
     let old = network.node n in
     let new : Control = control_step (place_of network n) network.clock old (steps.Raised kinds.Bgp peer) in
-    behind_rule network n new rule
+    behind_kept network n new views
     (record { selections = λ pattern. stays network.clock (maps.get old.selections pattern); ends = λ b ne e. inl (put_down old.peers peer maps.empty b e) })
     (λ a key ne. elim (node_cases a peer) [
-      | inr f ↦ far_same network n new a key (put_other old.peers peer maps.empty a f) (rule.view a n key ne)
+      | inr f ↦ far_same network n new a key (put_other old.peers peer maps.empty a f) (views.view a n key ne)
       | inl f ↦ subst (λ x. FarView network n new x key) (sym f)
-          (let h = rule.view peer n key (λ i. ne (f ∙ i)) in
+          (let h = views.view peer n key (λ i. ne (f ∙ i)) in
           let e = put_own old.peers peer maps.empty in
           along refl refl (ap is_some e) refl refl (ap (λ (taken : Option Taken). maps.get (table_in taken) key) e ∙ get-empty key_cmp key) refl
           (far_up _ _ _ _ _ _ _ _ (along refl refl (sym off) refl refl refl refl h)))
     ])
+
+pub raised_own : (network : EdgeNetwork) (n peer : NodeId) → is_up ((stepped network n (steps.Raised kinds.Bgp peer)).node n) peer ≡ true
+raised_own network n peer =
+    let old = network.node n in
+    let new : Control = control_step (place_of network n) network.clock old (steps.Raised kinds.Bgp peer) in
+    ap (λ (control : Control). is_up control peer) (node_here n new network.node) ∙ ap is_some (put_own old.peers peer maps.empty)
+
+-- ends that are up stay up
+pub raised_other : (network : EdgeNetwork) (n peer u v : NodeId) → is_up (network.node u) v ≡ true → is_up ((stepped network n (steps.Raised kinds.Bgp peer)).node u) v ≡ true
+raised_other network n peer u v up =
+    let old = network.node n in
+    let new : Control = control_step (place_of network n) network.clock old (steps.Raised kinds.Bgp peer) in
+    elim (node_cases u n) [
+      | inl e ↦ ap (λ x. is_up (at_node n new network.node x) v) e ∙ ap (λ (control : Control). is_up control v) (node_here n new network.node)
+          ∙ still_up (is_up new v) (is_up old v) true (λ i. inl (put_down old.peers peer maps.empty v i)) (ap (λ x. is_up (network.node x) v) (sym e) ∙ up) refl
+      | inr e ↦ ap (λ (control : Control). is_up control v) (node_there n new network.node u e) ∙ up
+    ]
 
 -- where the session is not joined, the loss is noticed
 pub noticed_rule : (network : EdgeNetwork) (n peer : NodeId) → (network.direction n peer).joined ≡ false → (network.direction peer n).joined ≡ false → Rule network → Rule (stepped network n (steps.Noticed kinds.Bgp peer))

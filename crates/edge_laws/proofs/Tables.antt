@@ -32,20 +32,21 @@ get-taken_values control peer key =
     get-from_entries key_total (map (λ (entry : Key × TakenRoute). (entry.0, entry.1.value)) (maps.entries (taken_from control peer))) key
     ∙ find_values key (maps.entries (taken_from control peer)) ∙ ap value_in (sym (get-entries (taken_from control peer) key))
 
-pub tables_lead : (network : EdgeNetwork) (a b : NodeId) → Rule network → a ≢ b → (network.direction a b).joined ≡ true → is_up (network.node a) b ≡ true →
+pub tables_lead : (network : EdgeNetwork) (a b : NodeId) → Rule network → a ≢ b → (network.direction a b).joined ≡ true →
     LeadsTo (taken_values (network.node b) a) (network.direction a b).transit (held_for (place_of network a) (network.node a) b)
-tables_lead network a b rule ne joined up key =
+tables_lead network a b rule ne joined key =
+    let up = rule.ends a b ne joined in
     subst (λ value. Leads value (values_at key_cmp key (network.direction a b).transit) (maps.get (held_for (place_of network a) (network.node a) b) key)) (sym (get-taken_values (network.node b) a key))
     (subst (λ (table : Table). Leads (value_in (maps.get (taken_from (network.node b) a) key)) (values_at key_cmp key (network.direction a b).transit) (maps.get table key))
     (cond-true (is_up (network.node a) b) (held_for (place_of network a) (network.node a) b) maps.empty up) ((rule.view a b key ne).leads joined up))
 
-pub tables_reached : (network : EdgeNetwork) (a b : NodeId) → Rule network → a ≢ b → (network.direction a b).joined ≡ true → is_up (network.node a) b ≡ true →
+pub tables_reached : (network : EdgeNetwork) (a b : NodeId) → Rule network → a ≢ b → (network.direction a b).joined ≡ true →
     applied_all (taken_values (network.node b) a) (network.direction a b).transit ≡ held_for (place_of network a) (network.node a) b
-tables_reached network a b rule ne joined up =
-    all_taken key_total key_exact (taken_values (network.node b) a) (held_for (place_of network a) (network.node a) b) (network.direction a b).transit (tables_lead network a b rule ne joined up)
+tables_reached network a b rule ne joined =
+    all_taken key_total key_exact (taken_values (network.node b) a) (held_for (place_of network a) (network.node a) b) (network.direction a b).transit (tables_lead network a b rule ne joined)
 
-pub tables_change : (network : EdgeNetwork) (a b : NodeId) (before after : List (Change Key Value)) (change : Change Key Value) → Rule network → a ≢ b → (network.direction a b).joined ≡ true → is_up (network.node a) b ≡ true →
+pub tables_change : (network : EdgeNetwork) (a b : NodeId) (before after : List (Change Key Value)) (change : Change Key Value) → Rule network → a ≢ b → (network.direction a b).joined ≡ true →
     (network.direction a b).transit ≡ before ++ change ∷ after → maps.get (applied_all (taken_values (network.node b) a) before) (key_of change) ≢ value_of change
-tables_change network a b before after change rule ne joined up e =
+tables_change network a b before after change rule ne joined e =
     each_changing key_total (taken_values (network.node b) a) (held_for (place_of network a) (network.node a) b) before after change
-    (subst (λ list. LeadsTo (taken_values (network.node b) a) list (held_for (place_of network a) (network.node a) b)) e (tables_lead network a b rule ne joined up))
+    (subst (λ list. LeadsTo (taken_values (network.node b) a) list (held_for (place_of network a) (network.node a) b)) e (tables_lead network a b rule ne joined))

@@ -41,9 +41,10 @@ value_in taken = option_map (λ route. route.value) taken
 
 -- What holds of one direction and one key: whether the session is joined, whether the sender's end and the receiver's end are up, what
 -- was told, the selection there, what was taken, and the values in transit. Where the session is joined and the sender's end is up,
--- the values in transit lead from what was taken to what was told, and each of them is news. Before the sender's end is up nothing
--- is told; where the session is not joined nothing is in transit; where the receiver's end is down nothing was taken. With
--- nothing in transit a route was learned no earlier than its selection was made. A delay is run no earlier than it is over.
+-- the values in transit lead from what was taken to what was told, and each of them is news; and where none is in transit, a route was
+-- learned no earlier than its selection was made. On a joined session, before the sender's end is up, nothing is in transit and nothing
+-- was taken; this serves inside a raise alone, since by the rule no end of a joined session is down. Where the session is not joined
+-- nothing is in transit; where the receiver's end is down nothing was taken. A delay is run no earlier than it is over.
 pub record View (clock delay : ℕ) (joined near far : Bool) (out : Option Value) (picked : Option Selected) (taken : Option TakenRoute) (pending : List (Option Value)) : Type 0 where
   pub leads : joined ≡ true → near ≡ true → Leads (value_in taken) pending out
   pub blank : joined ≡ true → near ≡ false → (pending ≡ []) × (taken ≡ None)
@@ -60,10 +61,12 @@ ViewAt network a b key =
 
 -- ---- the rule
 
--- The rule: of each two edges, each way, and each key. Both directions of a session are joined or neither is.
+-- The rule: of each two edges, each way, and each key. Both directions of a session are joined or neither is, and the ends of a joined
+-- session are up.
 pub record Rule (network : EdgeNetwork) : Type 0 where
   pub view : (a b : NodeId) (key : Key) → a ≢ b → ViewAt network a b key
   pub alike : (a b : NodeId) → (network.direction a b).joined ≡ (network.direction b a).joined
+  pub ends : (a b : NodeId) → a ≢ b → (network.direction a b).joined ≡ true → is_up (network.node a) b ≡ true
   pub scenario : Rules network.scenario
 
 -- ---- tables

@@ -1,5 +1,5 @@
-//! A network of edges at the level of messages, and what holds of it after every run: the tables of each session are in step, and a
-//! route is learned no earlier than its selection was made.
+//! A network of edges at the level of messages, and what holds of it after every run: the tables of each joined session are in step,
+//! and where no change of a route's key is in transit there, it was learned no earlier than its selection was made.
 #![tactic(auto)]
 
 mod laws;

@@ -41,3 +41,17 @@ pub fn keys_are_in_order()
 pub fn worked_edges()
     ensures { Worked }
 {}
+
+/// The trees of which the label part of an edge is a leaf are those that the edge wants by what it keeps of customers and of BGP: so
+/// it is in a fresh edge, and each step keeps it.
+pub fn leaves_are_those_wanted()
+    ensures fresh { (place : EdgePlace) (count : ℕ) → (fresh count).part.leaves ≡ leaves place (fresh count).control }
+    ensures step { (place : EdgePlace) (now : ℕ) (old : EdgeData) (call : Call) (new : EdgeStepped) → old.part.leaves ≡ leaves place old.control → edge_step place now old call ≡ Some new →
+        new.edge.part.leaves ≡ leaves place new.edge.control }
+{}
+
+/// The links of a scenario tell its core: two cores of one scenario have the same costs and the same neighbours between its nodes.
+pub fn a_scenario_has_one_core()
+    ensures { (scenario : Scenario) (core other : Core) (from to : NodeId) → IsCoreOf scenario core → IsCoreOf scenario other → from.0 < length scenario.nodes → to.0 < length scenario.nodes →
+        (core.cost from to ≡ other.cost from to) × (core.toward from to ≡ other.toward from to) }
+{}

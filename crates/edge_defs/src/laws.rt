@@ -1,9 +1,10 @@
 //! Laws of an edge.
-ghost use Rattle.std.specs.Prelude.{◌≡◌, ◌≢◌, []};
+ghost use Rattle.std.specs.Prelude.{◌≡◌, ◌≢◌, ◌<◌, ℕ, [], length, Some};
 ghost use Rattle.std.specs.Ordering.{nat_cmp};
 ghost use Rattle.std.specs.Cmp.Lexicographic.{slice_cmp};
 ghost use Rattle.std.specs.declared.cmp.Ordering.TheVariants.{Less, Equal};
 ghost use Rattle.std.specs.FinMap.{IsAntisymmetric};
+ghost use Rattle.mv_base.specs.declared.ids.NodeId.{NodeId};
 ghost use Rattle.mv_base.specs.declared.prefix.Prefix.{Prefix};
 ghost use Rattle.mv_base.specs.declared.rd.Rd.{Rd};
 ghost use Rattle.mvpn_nlri.specs.declared.route.Afi.{Afi};
@@ -12,10 +13,14 @@ ghost use Rattle.mvpn_nlri.specs.declared.route.Route.{Route};
 ghost use Rattle.mvpn_nlri.specs.Spelling.{written};
 ghost use Rattle.bgp_attributes.specs.declared.key.Key.TheVariants.{Mcast, Unicast};
 ghost use Rattle.bgp_update.specs.Written.{vpn_text};
+ghost use Rattle.scenario_defs.specs.declared.scenario.Scenario.{Scenario};
 ghost use Rattle.table_laws.specs.Words.{IsExact};
-ghost use Rattle.edge_defs.specs.Edge.{flow_cmp, note_cmp, pattern_cmp};
+ghost use Rattle.edge_defs.specs.Edge.{EdgeData, flow_cmp, fresh, note_cmp, pattern_cmp};
 ghost use Rattle.edge_defs.specs.Example.{Worked};
 ghost use Rattle.edge_defs.specs.Keys.{key_cmp, same_value};
+ghost use Rattle.edge_defs.specs.Place.{Core, EdgePlace, IsCoreOf};
+ghost use Rattle.edge_defs.specs.Steps.{Call, EdgeStepped, edge_step};
+ghost use Rattle.edge_defs.specs.Tunnels.{leaves};
 
 /// Keys, notes, patterns and flows that tie are equal, and so are values that compare as equal.
 pub fn keys_are_told()
@@ -40,4 +45,18 @@ pub fn keys_are_in_order()
 /// A worked network of two edges: what one originates, and what the other makes of it.
 pub fn worked_edges()
     ensures { Worked }
+{}
+
+/// The trees of which the label part of an edge is a leaf are those that the edge wants by what it keeps of customers and of BGP: so
+/// it is in a fresh edge, and each step keeps it.
+pub fn leaves_are_those_wanted()
+    ensures fresh { (place : EdgePlace) (count : ℕ) → (fresh count).part.leaves ≡ leaves place (fresh count).control }
+    ensures step { (place : EdgePlace) (now : ℕ) (old : EdgeData) (call : Call) (new : EdgeStepped) → old.part.leaves ≡ leaves place old.control → edge_step place now old call ≡ Some new →
+        new.edge.part.leaves ≡ leaves place new.edge.control }
+{}
+
+/// The links of a scenario tell its core: two cores of one scenario have the same costs and the same neighbours between its nodes.
+pub fn a_scenario_has_one_core()
+    ensures { (scenario : Scenario) (core other : Core) (from to : NodeId) → IsCoreOf scenario core → IsCoreOf scenario other → from.0 < length scenario.nodes → to.0 < length scenario.nodes →
+        (core.cost from to ≡ other.cost from to) × (core.toward from to ≡ other.toward from to) }
 {}

@@ -4,4 +4,7 @@
 
 mod laws;
 
-pub use laws::{keys_are_in_order, keys_are_told, worked_edges};
+pub use laws::{
+    a_scenario_has_one_core, keys_are_in_order, keys_are_told, leaves_are_those_wanted,
+    worked_edges,
+};

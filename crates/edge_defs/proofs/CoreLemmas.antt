@@ -1,0 +1,34 @@
+-- The links of a scenario tell its costs and neighbours.
+use Rattle.std.proofs.Common.{◌≡◌, ◌<◌, ℕ, inl, inr, List, length, Some, sym, ap, subst, ◌∙◌}
+use Rattle.std.proofs.lemmas.Bool.{cases_eq}
+use Rattle.std.proofs.Math.Nat.{le_antisymm}
+use Rattle.mv_base.specs.declared.core_link.Link.{Link}
+use Rattle.mv_base.specs.declared.ids.NodeId.{NodeId}
+use Rattle.core_walks.specs.Walks.{IsLeast, IsToward}
+use Rattle.scenario_defs.specs.declared.scenario.Scenario.{Scenario}
+use Rattle.edge_defs.specs.Place.{Core, IsCoreOf}
+
+one_cost : (links : List Link) (from to cost other : ℕ) → IsLeast links from to cost → IsLeast links from to other → cost ≡ other
+one_cost links from to cost other h k = le_antisymm (h.least k.steps other k.walk) (k.least h.steps cost h.walk)
+
+one_step : (links : List Link) (from to next other : ℕ) → IsToward links from to next → IsToward links from to other → next ≡ other
+one_step links from to next other h k = le_antisymm (h.lowest other k.first) (k.lowest next h.first)
+
+one_node : (node other : NodeId) → node.0 ≡ other.0 → node ≡ other
+one_node node other e = λ i. record { 0 = e i }
+
+one_toward : (scenario : Scenario) (core other : Core) (from to : NodeId) → IsCoreOf scenario core → IsCoreOf scenario other → from.0 < length scenario.nodes → to.0 < length scenario.nodes → core.toward from to ≡ other.toward from to
+one_toward scenario core other from to h k a b = elim (cases_eq from.0 to.0) [
+  | inl e ↦ subst (λ (node : NodeId). core.toward from node ≡ other.toward from node) (one_node from to e) (h.itself from ∙ sym (k.itself from))
+  | inr ne ↦ (let own = h.first from to a b (λ e. ne (ap (λ (node : NodeId). node.0) e)) in
+      let that = k.first from to a b (λ e. ne (ap (λ (node : NodeId). node.0) e)) in
+      own.1 ∙ ap (λ (node : NodeId). Some node) (one_node own.0 that.0 (one_step scenario.links from.0 to.0 own.0.0 that.0.0 own.2 that.2)) ∙ sym that.1)
+]
+
+-- Two cores of a scenario have the same costs and neighbours.
+pub one_core : (scenario : Scenario) (core other : Core) (from to : NodeId) → IsCoreOf scenario core → IsCoreOf scenario other → from.0 < length scenario.nodes → to.0 < length scenario.nodes
+    → (core.cost from to ≡ other.cost from to) × (core.toward from to ≡ other.toward from to)
+one_core scenario core other from to h k a b = (
+  one_cost scenario.links from.0 to.0 (core.cost from to) (other.cost from to) (h.least from to a b) (k.least from to a b),
+  one_toward scenario core other from to h k a b,
+)

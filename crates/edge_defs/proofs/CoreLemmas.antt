@@ -1,6 +1,6 @@
 -- The links of a scenario tell its costs and neighbours.
 use Rattle.std.proofs.Common.{◌≡◌, ◌<◌, ℕ, inl, inr, List, length, Some, sym, ap, subst, ◌∙◌}
-use Rattle.std.proofs.lemmas.Bool.{cases_eq}
+use Rattle.std.proofs.lemmas.Bool.{cases_eq, cases_lt}
 use Rattle.std.proofs.Math.Nat.{le_antisymm}
 use Rattle.mv_base.specs.declared.core_link.Link.{Link}
 use Rattle.mv_base.specs.declared.ids.NodeId.{NodeId}
@@ -25,10 +25,18 @@ one_toward scenario core other from to h k a b = elim (cases_eq from.0 to.0) [
       own.1 ∙ ap (λ (node : NodeId). Some node) (one_node own.0 that.0 (one_step scenario.links from.0 to.0 own.0.0 that.0.0 own.2 that.2)) ∙ sym that.1)
 ]
 
--- Two cores of a scenario have the same costs and neighbours.
-pub one_core : (scenario : Scenario) (core other : Core) (from to : NodeId) → IsCoreOf scenario core → IsCoreOf scenario other → from.0 < length scenario.nodes → to.0 < length scenario.nodes
-    → (core.cost from to ≡ other.cost from to) × (core.toward from to ≡ other.toward from to)
-one_core scenario core other from to h k a b = (
-  one_cost scenario.links from.0 to.0 (core.cost from to) (other.cost from to) (h.least from to a b) (k.least from to a b),
-  one_toward scenario core other from to h k a b,
-)
+-- Two cores of a scenario have the same costs and neighbours, between its nodes and elsewhere.
+alike : (scenario : Scenario) (core other : Core) (from to : NodeId) → IsCoreOf scenario core → IsCoreOf scenario other → (core.cost from to ≡ other.cost from to) × (core.toward from to ≡ other.toward from to)
+alike scenario core other from to h k = elim (cases_lt from.0 (length scenario.nodes)) [
+  | inr a ↦ (let own = h.outside from to (inl a) in let that = k.outside from to (inl a) in (own.0 ∙ sym that.0, own.1 ∙ sym that.1))
+  | inl a ↦ elim (cases_lt to.0 (length scenario.nodes)) [
+    | inr b ↦ (let own = h.outside from to (inr b) in let that = k.outside from to (inr b) in (own.0 ∙ sym that.0, own.1 ∙ sym that.1))
+    | inl b ↦ (
+      one_cost scenario.links from.0 to.0 (core.cost from to) (other.cost from to) (h.least from to a b) (k.least from to a b),
+      one_toward scenario core other from to h k a b,
+    )
+  ]
+]
+
+pub one_core : (scenario : Scenario) (core other : Core) → IsCoreOf scenario core → IsCoreOf scenario other → core ≡ other
+one_core scenario core other h k = λ i. record { cost = λ from to. (alike scenario core other from to h k).0 i; toward = λ from to. (alike scenario core other from to h k).1 i }

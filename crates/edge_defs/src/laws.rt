@@ -55,8 +55,7 @@ pub fn leaves_are_those_wanted()
         new.edge.part.leaves ≡ leaves place new.edge.control }
 {}
 
-/// The links of a scenario tell its core: two cores of one scenario have the same costs and the same neighbours between its nodes.
+/// The links of a scenario tell its core.
 pub fn a_scenario_has_one_core()
-    ensures { (scenario : Scenario) (core other : Core) (from to : NodeId) → IsCoreOf scenario core → IsCoreOf scenario other → from.0 < length scenario.nodes → to.0 < length scenario.nodes →
-        (core.cost from to ≡ other.cost from to) × (core.toward from to ≡ other.toward from to) }
+    ensures { (scenario : Scenario) (core other : Core) → IsCoreOf scenario core → IsCoreOf scenario other → core ≡ other }
 {}

@@ -1,20 +1,18 @@
 //! Laws of runs of the whole network.
-ghost use Rattle.std.specs.Prelude.{◌≡◌, List, [], ◌∷◌, Some, None};
+ghost use Rattle.std.specs.Prelude.{◌≡◌, ℕ, List, [], ◌∷◌, Some, None};
 ghost use Rattle.scenario_defs.specs.declared.event.Script.{Script};
 ghost use Rattle.scenario_defs.specs.declared.event.Timed.{Timed};
 ghost use Rattle.scenario_defs.specs.declared.report.Refusal.{Refusal};
 ghost use Rattle.scenario_defs.specs.declared.report.ReportLine.TheVariants as lines;
-ghost use Rattle.edge_defs.specs.Place.{Core};
 ghost use Rattle.world_defs.specs.Events.{Done};
 ghost use Rattle.world_defs.specs.Example.{LabelSessionsComeUp};
 ghost use Rattle.world_defs.specs.Refusals.{refusal};
-ghost use Rattle.world_defs.specs.Run.{Traced, Run, outcome};
+ghost use Rattle.world_defs.specs.Run.{Traced, RunOf, outcome};
 ghost use Rattle.world_defs.specs.World.{World};
 
-/// Events have at most one run from the start of a network: the scenario, the core and the events tell what happens in them, and the
-/// network behind them.
+/// The first events of a script have at most one run: the script tells what happens in them, and the network behind them.
 pub fn a_script_has_one_run()
-    ensures { (core : Core) (script : Script) (events : List Timed) (trace other : List Traced) (new last : World) → Run core script events trace new → Run core script events other last → (trace ≡ other) × (new ≡ last) }
+    ensures { (script : Script) (count : ℕ) (trace other : List Traced) (new last : World) → RunOf script count trace new → RunOf script count other last → (trace ≡ other) × (new ≡ last) }
 {}
 
 /// A refused event changes nothing and gives the one line that says so.

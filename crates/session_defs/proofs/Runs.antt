@@ -10,7 +10,7 @@ use Rattle.session_defs.specs.System.{Put, Stepped, System, MessageNetwork, Mess
 use Rattle.session_defs.specs.System.MessageAct.{Call as CallNodes, Lose as LoseMessages, Join as JoinSessions}
 use Rattle.session_defs.specs.Octets.{OctetNetwork, OctetAct, with_step, moved, octet_act, octet_run}
 use Rattle.session_defs.specs.Octets.OctetAct.{Move, Call, Lose, Forget, Join}
-use Rattle.session_defs.specs.Refined.{IsLine, AreLines, seen, Keeps, IsHonest, IsHonestWhile, Refined, deliveries}
+use Rattle.session_defs.specs.Refined.{IsLine, AreLines, seen, Keeps, IsHonest, IsHonestWhile, Refined, IsRowOf, Ends, deliveries}
 use Rattle.session_defs.proofs.Lines.{line_lost, line_forgotten, line_joined}
 use Rattle.session_defs.proofs.Deliveries.{IsSeen, honest_while, seen_earlier, with_news, news_are}
 use Rattle.session_defs.proofs.Moves.{moved_seen}
@@ -20,6 +20,10 @@ use Rattle.session_defs.proofs.Moves.{moved_seen}
 nothing_earlier : {N : Type 0} (new : Option (Behind N)) → with_earlier [] new ≡ new
 nothing_earlier None = refl
 nothing_earlier (Some new) = refl
+
+none_behind : {N : Type 0} (puts : List Put) (new : Option (Behind N)) → with_earlier puts new ≡ None → new ≡ None
+none_behind puts None e = refl
+none_behind puts (Some new) e = absurd cc
 
 -- what was put before both
 both_earlier : {N : Type 0} (first then_puts : List Put) (new : Option (Behind N)) → with_earlier (first ++ then_puts) new ≡ with_earlier first (with_earlier then_puts new)
@@ -51,32 +55,34 @@ alone (Some next) = ap (λ (puts : List Put). Some (record { network = next.netw
 
 -- ---- one act
 
--- acts in messages with the same outcome
-pub record Acted {S X : Type 0} (system : System S X) (Good : S → Type 0) (old : OctetNetwork S) (pending : Direction → List SessionMessage) (new : Option (Behind (OctetNetwork S))) : Type 0 where
-  pub acts : List (MessageAct X)
-  pub outcome : IsSeen Good new (message_run system (seen old pending) acts)
-
 step_seen : {S : Type 0} (Good : S → Type 0) (old : OctetNetwork S) (pending : Direction → List SessionMessage) → AreLines old pending → (stepped : Option (Stepped S)) → Keeps Good stepped → IsSeen Good (with_step old stepped) (messages.with_step (seen old pending) stepped)
 step_seen Good old pending lines None keeps = refl
 step_seen Good old pending lines (Some new) keeps = (with_news old pending new.puts, news_are old pending new lines keeps.0, refl, keeps.1)
 
-called_seen : {S X : Type 0} (system : System S X) (Good : S → Type 0) → IsHonestWhile system Good → (old : OctetNetwork S) (pending : Direction → List SessionMessage) → AreLines old pending → Good old.state → (call : X) → Acted system Good old pending (octet_act system old (Call call))
+-- one act on octets, and the acts on messages that it is
+record ActSeen {S X : Type 0} (system : System S X) (Good : S → Type 0) (old : OctetNetwork S) (pending : Direction → List SessionMessage) (one : OctetAct X) (new : Option (Behind (OctetNetwork S))) : Type 0 where
+  pub acts : List (MessageAct X)
+  pub outcome : IsSeen Good new (message_run system (seen old pending) acts)
+  pub is_row : new ≡ None → IsRowOf pending one acts
+
+called_seen : {S X : Type 0} (system : System S X) (Good : S → Type 0) → IsHonestWhile system Good → (old : OctetNetwork S) (pending : Direction → List SessionMessage) → AreLines old pending → Good old.state → (call : X) → ActSeen system Good old pending (Call call) (octet_act system old (Call call))
 called_seen system Good honest old pending lines good call =
     let found : Option (Behind (MessageNetwork _)) = message_act system (seen old pending) (CallNodes call) in
     record {
       acts = CallNodes call ∷ [];
       outcome = subst (IsSeen Good (octet_act system old (Call call))) (sym (alone found)) (step_seen Good old pending lines (system.called call old.state) (honest.called call old.state good));
+      is_row = λ none. refl;
     }
 
 -- a move by whether the session is joined
 move_seen : {S X : Type 0} (system : System S X) (Good : S → Type 0) → IsHonestWhile system Good → (old : OctetNetwork S) (pending : Direction → List SessionMessage) → AreLines old pending → Good old.state → (direction : Direction) (count : ℕ) (joined : Bool) → old.joined direction ≡ joined
-    → IsLine direction.kind joined (old.stream direction) (old.transit direction) (pending direction) → Acted system Good old pending (cond joined (moved system old direction count) (Some (record { network = old; puts = [] })))
+    → IsLine direction.kind joined (old.stream direction) (old.transit direction) (pending direction) → ActSeen system Good old pending (Move direction count) (cond joined (moved system old direction count) (Some (record { network = old; puts = [] })))
 move_seen system Good honest old pending lines good direction count true joined line =
     let m = moved_seen system Good honest old pending direction count lines good joined line in
-    record { acts = deliveries direction m.first; outcome = m.outcome }
-move_seen system Good honest old pending lines good direction count false joined line = record { acts = []; outcome = (pending, lines, refl, good) }
+    record { acts = deliveries direction m.first; outcome = m.outcome; is_row = λ none. (m.first, m.rest, m.parts, refl) }
+move_seen system Good honest old pending lines good direction count false joined line = record { acts = []; outcome = (pending, lines, refl, good); is_row = λ none. absurd cc }
 
-act_seen : {S X : Type 0} (system : System S X) (Good : S → Type 0) → IsHonestWhile system Good → (old : OctetNetwork S) (pending : Direction → List SessionMessage) → AreLines old pending → Good old.state → (one : OctetAct X) → Acted system Good old pending (octet_act system old one)
+act_seen : {S X : Type 0} (system : System S X) (Good : S → Type 0) → IsHonestWhile system Good → (old : OctetNetwork S) (pending : Direction → List SessionMessage) → AreLines old pending → Good old.state → (one : OctetAct X) → ActSeen system Good old pending one (octet_act system old one)
 act_seen system Good honest old pending lines good (Move direction count) = move_seen system Good honest old pending lines good direction count (old.joined direction) refl (lines direction)
 act_seen system Good honest old pending lines good (Call call) = called_seen system Good honest old pending lines good call
 act_seen system Good honest old pending lines good (Lose hit) = record {
@@ -87,10 +93,12 @@ act_seen system Good honest old pending lines good (Lose hit) = record {
     refl,
     good,
   );
+  is_row = λ none. absurd cc;
 }
 act_seen system Good honest old pending lines good (Forget hit) = record {
   acts = [];
   outcome = (pending, (λ other. line_forgotten other.kind (hit other) (old.joined other) (old.stream other) (old.transit other) (pending other) (lines other)), refl, good);
+  is_row = λ none. absurd cc;
 }
 act_seen system Good honest old pending lines good (Join hit) = record {
   acts = JoinSessions hit ∷ [];
@@ -100,9 +108,15 @@ act_seen system Good honest old pending lines good (Join hit) = record {
     refl,
     good,
   );
+  is_row = λ none. absurd cc;
 }
 
 -- ---- a run
+
+-- acts in messages with the same outcome
+pub record Acted {S X : Type 0} (system : System S X) (Good : S → Type 0) (old : OctetNetwork S) (pending : Direction → List SessionMessage) (new : Option (Behind (OctetNetwork S))) : Type 0 where
+  pub acts : List (MessageAct X)
+  pub outcome : IsSeen Good new (message_run system (seen old pending) acts)
 
 -- a first act, and the run behind it
 run_on : {S X : Type 0} (system : System S X) (Good : S → Type 0) (old : OctetNetwork S) (pending : Direction → List SessionMessage) (acts : List (OctetAct X)) (new : Option (Behind (OctetNetwork S)))
@@ -122,7 +136,8 @@ run_on {S} {X} system Good old pending acts (Some next) others first =
 run_seen : {S X : Type 0} (system : System S X) (Good : S → Type 0) → IsHonestWhile system Good → (acts : List (OctetAct X)) (old : OctetNetwork S) (pending : Direction → List SessionMessage) → AreLines old pending → Good old.state → Acted system Good old pending (octet_run system old acts)
 run_seen system Good honest [] old pending lines good = record { acts = []; outcome = (pending, lines, refl, good) }
 run_seen system Good honest (one ∷ acts) old pending lines good =
-    run_on system Good old pending acts (octet_act system old one) (λ next waiting are fine. run_seen system Good honest acts next waiting are fine) (act_seen system Good honest old pending lines good one)
+    let first = act_seen system Good honest old pending lines good one in
+    run_on system Good old pending acts (octet_act system old one) (λ next waiting are fine. run_seen system Good honest acts next waiting are fine) (record { acts = first.acts; outcome = first.outcome })
 
 pub run_refined_while : {S X : Type 0} (system : System S X) (Good : S → Type 0) (old : OctetNetwork S) (pending : Direction → List SessionMessage) (acts : List (OctetAct X)) (new : Behind (OctetNetwork S)) → IsHonestWhile system Good → AreLines old pending → Good old.state
     → octet_run system old acts ≡ Some new → Refined system old pending new × Good new.network.state
@@ -130,16 +145,66 @@ run_refined_while {S} {X} system Good old pending acts new honest lines good e =
     let run : Acted system Good old pending (Some new) = subst (Acted system Good old pending) e (run_seen system Good honest acts old pending lines good) in
     (record { acts = run.acts; left = run.outcome.0; lines = run.outcome.1; same = run.outcome.2 }, run.outcome.3)
 
+-- ---- a run that ends
+
+-- the acts before the one at which a run in octets ends
+record Stops {S X : Type 0} (system : System S X) (old : OctetNetwork S) (acts : List (OctetAct X)) : Type 0 where
+  pub before : List (OctetAct X)
+  pub act : OctetAct X
+  pub after : List (OctetAct X)
+  pub parts : acts ≡ before ++ act ∷ after
+  pub middle : Behind (OctetNetwork S)
+  pub run : octet_run system old before ≡ Some middle
+  pub none : octet_act system middle.network act ≡ None
+
+-- a first act, and the run behind it
+stops_on : {S X : Type 0} (system : System S X) (old : OctetNetwork S) (one : OctetAct X) (acts : List (OctetAct X)) → ((next : OctetNetwork S) → octet_run system next acts ≡ None → Stops system next acts)
+    → (new : Option (Behind (OctetNetwork S))) → octet_act system old one ≡ new → (new >>? λ next. with_earlier next.puts (octet_run system next.network acts)) ≡ None → Stops system old (one ∷ acts)
+stops_on system old one acts others None is e = record { before = []; act = one; after = acts; parts = refl; middle = record { network = old; puts = [] }; run = refl; none = is }
+stops_on system old one acts others (Some next) is e =
+    let s = others next.network (none_behind next.puts (octet_run system next.network acts) e) in
+    record {
+      before = one ∷ s.before;
+      act = s.act;
+      after = s.after;
+      parts = ap (λ (l : List (OctetAct _)). one ∷ l) s.parts;
+      middle = record { network = s.middle.network; puts = next.puts ++ s.middle.puts };
+      run = ap (λ (o : Option (Behind (OctetNetwork _))). o >>? λ n. with_earlier n.puts (octet_run system n.network s.before)) is ∙ ap (with_earlier next.puts) s.run;
+      none = s.none;
+    }
+
+stops : {S X : Type 0} (system : System S X) (acts : List (OctetAct X)) (old : OctetNetwork S) → octet_run system old acts ≡ None → Stops system old acts
+stops system [] old e = absurd cc
+stops system (one ∷ acts) old e = stops_on system old one acts (λ next none. stops system acts next none) (octet_act system old one) refl e
+
+-- The state in which the act finds the nodes is a good one.
 pub run_ended_while : {S X : Type 0} (system : System S X) (Good : S → Type 0) (old : OctetNetwork S) (pending : Direction → List SessionMessage) (acts : List (OctetAct X)) → IsHonestWhile system Good → AreLines old pending → Good old.state
-    → octet_run system old acts ≡ None → (row : List (MessageAct X)) × (message_run system (seen old pending) row ≡ None)
+    → octet_run system old acts ≡ None → (ends : Ends system old pending acts) × Good ends.middle.network.state
 run_ended_while {S} {X} system Good old pending acts honest lines good e =
-    let run : Acted system Good old pending None = subst (Acted system Good old pending) e (run_seen system Good honest acts old pending lines good) in
-    (run.acts, run.outcome)
+    let s : Stops system old acts = stops system acts old e in
+    let r = run_refined_while system Good old pending s.before s.middle honest lines good s.run in
+    let refined : Refined system old pending s.middle = r.0 in
+    let last : ActSeen system Good s.middle.network refined.left s.act None = subst (ActSeen system Good s.middle.network refined.left s.act) s.none (act_seen system Good honest s.middle.network refined.left refined.lines r.1 s.act) in (
+      record {
+        before = s.before;
+        act = s.act;
+        after = s.after;
+        parts = s.parts;
+        middle = s.middle;
+        run = s.run;
+        refined = refined;
+        none = s.none;
+        row = last.acts;
+        is_row = last.is_row refl;
+        ends = last.outcome;
+      },
+      r.1,
+    )
 
 pub run_refined : {S X : Type 0} (system : System S X) (old : OctetNetwork S) (pending : Direction → List SessionMessage) (acts : List (OctetAct X)) (new : Behind (OctetNetwork S)) → IsHonest system → AreLines old pending
     → octet_run system old acts ≡ Some new → Refined system old pending new
 run_refined system old pending acts new honest lines e = (run_refined_while system (λ state. ⊤) old pending acts new (honest_while system honest) lines tt e).0
 
 pub run_ended : {S X : Type 0} (system : System S X) (old : OctetNetwork S) (pending : Direction → List SessionMessage) (acts : List (OctetAct X)) → IsHonest system → AreLines old pending
-    → octet_run system old acts ≡ None → (row : List (MessageAct X)) × (message_run system (seen old pending) row ≡ None)
-run_ended system old pending acts honest lines e = run_ended_while system (λ state. ⊤) old pending acts (honest_while system honest) lines tt e
+    → octet_run system old acts ≡ None → Ends system old pending acts
+run_ended system old pending acts honest lines e = (run_ended_while system (λ state. ⊤) old pending acts (honest_while system honest) lines tt e).0

@@ -6,8 +6,9 @@ use Rattle.scenario_defs.specs.declared.event.Kind.{Kind}
 use Rattle.session_defs.specs.declared.direction.Direction.{Direction}
 use Rattle.session_defs.specs.Message.{SessionMessage, IsPut}
 use Rattle.session_defs.specs.System.{Put, Stepped, System, MessageNetwork, MessageAct, Behind, message_run}
-use Rattle.session_defs.specs.System.MessageAct.{Deliver}
-use Rattle.session_defs.specs.Octets.{Stream, OctetNetwork}
+use Rattle.session_defs.specs.System.MessageAct.{Deliver, Call as CallNodes}
+use Rattle.session_defs.specs.Octets.{Stream, OctetNetwork, OctetAct, octet_act, octet_run}
+use Rattle.session_defs.specs.Octets.OctetAct.{Move, Call}
 
 -- what is held back, with what is in transit behind it, is whole units, and they carry what is pending
 pub record Carried (kind : Kind) (stream : Stream) (transit : List ℕ) (pending : List SessionMessage) : Type 0 where
@@ -79,3 +80,25 @@ pub record MovesFirst {S X : Type 0} (system : System S X) (old : OctetNetwork S
   pub left : Direction → List SessionMessage
   pub lines : AreLines new.network left
   pub same : message_run system (seen old pending) (deliveries direction first) ≡ Some (record { network = seen new.network left; puts = new.puts })
+
+-- The acts on messages that an act on octets is where it ends: a call is itself alone, and a move some first messages of those
+-- that are pending. No other act ends.
+abbrev pub IsRowOf : {X : Type 0} → (Direction → List SessionMessage) → OctetAct X → List (MessageAct X) → Type 0
+IsRowOf pending (Call call) row = row ≡ CallNodes call ∷ []
+IsRowOf pending (Move direction count) row = (first : List SessionMessage) × (rest : List SessionMessage) × (pending direction ≡ first ++ rest) × (row ≡ deliveries direction first)
+IsRowOf pending other row = ⊥
+
+-- A run in octets comes, as a run in messages does, to an act that has no step there, and the acts on messages that it is have none
+-- there either.
+pub record Ends {S X : Type 0} (system : System S X) (old : OctetNetwork S) (pending : Direction → List SessionMessage) (acts : List (OctetAct X)) : Type 0 where
+  pub before : List (OctetAct X)
+  pub act : OctetAct X
+  pub after : List (OctetAct X)
+  pub parts : acts ≡ before ++ act ∷ after
+  pub middle : Behind (OctetNetwork S)
+  pub run : octet_run system old before ≡ Some middle
+  pub refined : Refined system old pending middle
+  pub none : octet_act system middle.network act ≡ None
+  pub row : List (MessageAct X)
+  pub is_row : IsRowOf refined.left act row
+  pub ends : message_run system (seen middle.network refined.left) row ≡ None

@@ -2,18 +2,19 @@
 ghost use Rattle.std.specs.Prelude.{◌≡◌, ℕ, List, true, None, Some};
 ghost use Rattle.session_defs.specs.declared.direction.Direction.{Direction};
 ghost use Rattle.session_defs.specs.Message.{SessionMessage};
-ghost use Rattle.session_defs.specs.System.{System, MessageAct, Behind, message_run};
+ghost use Rattle.session_defs.specs.System.{System, Behind};
 ghost use Rattle.session_defs.specs.Octets.{OctetNetwork, OctetAct, octet_run, moved};
-ghost use Rattle.session_defs.specs.Refined.{AreLines, IsHonest, Refined, MovesFirst, seen};
+ghost use Rattle.session_defs.specs.Refined.{AreLines, IsHonest, Refined, MovesFirst, Ends};
 ghost use Rattle.session_defs.specs.Example.{CutInTwo};
 
 /// However the octets between honest nodes are moved, lost and cut, a run in octets is a run in messages that puts the same. Where
-/// it ends, a run in messages ends too. No stream of a joined session has a fault.
+/// it ends, it does so at one of its acts, and a run in messages ends at what that act is: the same call, or a delivery over the
+/// same direction. No stream of a joined session has a fault.
 pub fn octets_carry_messages<S, X>()
     ensures refined { (system : System S X) (old : OctetNetwork S) (pending : Direction → List SessionMessage) (acts : List (OctetAct X)) (new : Behind (OctetNetwork S)) → IsHonest system → AreLines old pending →
         octet_run system old acts ≡ Some new → Refined system old pending new }
     ensures ended { (system : System S X) (old : OctetNetwork S) (pending : Direction → List SessionMessage) (acts : List (OctetAct X)) → IsHonest system → AreLines old pending →
-        octet_run system old acts ≡ None → (row : List (MessageAct X)) × (message_run system (seen old pending) row ≡ None) }
+        octet_run system old acts ≡ None → Ends system old pending acts }
 {}
 
 /// A move over a joined session delivers some first messages of those that are pending, in order: all where all octets are moved.

@@ -1,11 +1,11 @@
 //! Laws of the sessions of the whole network.
-ghost use Rattle.std.specs.Prelude.{◌≡◌, List, None, Some};
+ghost use Rattle.std.specs.Prelude.{◌≡◌, ℕ, List, true, None, Some};
 ghost use Rattle.scenario_defs.specs.declared.scenario.Scenario.{Scenario};
 ghost use Rattle.session_defs.specs.declared.direction.Direction.{Direction};
 ghost use Rattle.session_defs.specs.Message.{SessionMessage};
-ghost use Rattle.session_defs.specs.System.{MessageAct, Behind, message_run};
-ghost use Rattle.session_defs.specs.Octets.{OctetNetwork, OctetAct, octet_run};
-ghost use Rattle.session_defs.specs.Refined.{AreLines, IsHonestWhile, Refined, seen};
+ghost use Rattle.session_defs.specs.System.{Behind};
+ghost use Rattle.session_defs.specs.Octets.{OctetNetwork, OctetAct, octet_run, moved};
+ghost use Rattle.session_defs.specs.Refined.{AreLines, IsHonestWhile, Refined, MovesFirst, Ends};
 ghost use Rattle.edge_defs.specs.Place.{Core};
 ghost use Rattle.world_defs.specs.Nodes.{Nodes, start_nodes};
 ghost use Rattle.world_laws.specs.Sound.{SoundScenario, Sound};
@@ -22,11 +22,19 @@ pub fn nodes_are_honest()
     ensures { (scenario : Scenario) → IsHonestWhile (sound_system scenario) (Sound scenario) }
 {}
 
+/// A move over a joined session of the network delivers some first messages of those that are pending, in order: all where all octets
+/// are moved.
+pub fn moves_of_the_network_deliver()
+    ensures { (scenario : Scenario) (old : OctetNetwork Nodes) (pending : Direction → List SessionMessage) (direction : Direction) (count : ℕ) (new : Behind (OctetNetwork Nodes)) → Sound scenario old.state → AreLines old pending →
+        old.joined direction ≡ true → moved (sound_system scenario) old direction count ≡ Some new → MovesFirst (sound_system scenario) old pending direction count new }
+{}
+
 /// However the octets of the network's sessions are moved, lost and cut, a run in octets is a run in messages that puts the same.
-/// Where it ends for want of a label, a run in messages ends too. No stream of a joined session has a fault, and the nodes stay sound.
+/// Where it ends for want of a label, it does so at one of its acts, and a run in messages ends at what that act is: the same call, or
+/// a delivery over the same direction. No stream of a joined session has a fault, and the nodes stay sound.
 pub fn octets_of_the_network_carry_messages()
     ensures refined { (scenario : Scenario) (old : OctetNetwork Nodes) (pending : Direction → List SessionMessage) (acts : List (OctetAct (SoundCall scenario))) (new : Behind (OctetNetwork Nodes)) → Sound scenario old.state → AreLines old pending →
         octet_run (sound_system scenario) old acts ≡ Some new → Refined (sound_system scenario) old pending new × Sound scenario new.network.state }
     ensures ended { (scenario : Scenario) (old : OctetNetwork Nodes) (pending : Direction → List SessionMessage) (acts : List (OctetAct (SoundCall scenario))) → Sound scenario old.state → AreLines old pending →
-        octet_run (sound_system scenario) old acts ≡ None → (row : List (MessageAct (SoundCall scenario))) × (message_run (sound_system scenario) (seen old pending) row ≡ None) }
+        octet_run (sound_system scenario) old acts ≡ None → Ends (sound_system scenario) old pending acts }
 {}

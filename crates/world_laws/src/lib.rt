@@ -3,4 +3,7 @@
 
 mod laws;
 
-pub use laws::{nodes_are_honest, octets_of_the_network_carry_messages, start_is_sound};
+pub use laws::{
+    moves_of_the_network_deliver, nodes_are_honest, octets_of_the_network_carry_messages,
+    start_is_sound,
+};

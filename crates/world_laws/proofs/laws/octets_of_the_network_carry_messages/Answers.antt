@@ -8,4 +8,4 @@ pub returns-clause-refined : goal.returns-clause-refined
 returns-clause-refined c scenario old pending acts new good lines e = run_refined_while (sound_system scenario) (Sound scenario) old pending acts new (honest_nodes scenario) lines good e
 
 pub returns-clause-ended : goal.returns-clause-ended
-returns-clause-ended c scenario old pending acts good lines e = run_ended_while (sound_system scenario) (Sound scenario) old pending acts (honest_nodes scenario) lines good e
+returns-clause-ended c scenario old pending acts good lines e = (run_ended_while (sound_system scenario) (Sound scenario) old pending acts (honest_nodes scenario) lines good e).0

@@ -3,4 +3,6 @@
 
 mod laws;
 
-pub use laws::{nodes_are_honest, octets_of_the_network_carry_messages, runs_stay_sound, start_is_sound};
+pub use laws::{
+    nodes_are_honest, octets_of_the_network_carry_messages, runs_stay_sound, start_is_sound,
+};

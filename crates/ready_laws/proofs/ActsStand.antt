@@ -11,7 +11,6 @@ use Rattle.scenario_defs.specs.declared.report.ReportLine.TheVariants as lines
 use Rattle.scenario_defs.specs.declared.scenario.Scenario.{Scenario}
 use Rattle.scenario_defs.specs.declared.scenario.Vrf.{Vrf}
 use Rattle.mvpn_model.specs.Report.{refused_line}
-use Rattle.label_defs.specs.declared.branch.Branch.{Branch}
 use Rattle.session_defs.specs.Octets as octets
 use Rattle.session_defs.specs.Octets.{OctetNetwork, OctetAct, octet_act, octet_run}
 use Rattle.session_defs.specs.System.{Put, Behind, octets_over}
@@ -19,12 +18,13 @@ use Rattle.session_defs.specs.declared.direction.Direction.{Direction}
 use Rattle.edge_defs.specs.Datagrams.{Fate, entering_fate}
 use Rattle.edge_defs.specs.Place.{OwnVrf}
 use Rattle.edge_defs.specs.Steps as steps
-use Rattle.world_defs.specs.Acts.{Act, Tick, Timers, Move, Lose, Notice, RaiseFirst, RaiseSecond, Restart, At, Enter, Land, Drop, Tell, Acted, put_line, put_lines, with_network, at_node, is_of_session, is_at, leads_to, is_from_peer, with_branches, copy_on, hop_line, fated, datagram_at, enters_at, entering, fate_at, with_ttl, landed, without_copy, landing, with_aged, act}
+use Rattle.world_defs.specs.Acts.{Act, Tick, Timers, Move, Lose, Notice, RaiseFirst, RaiseSecond, Restart, At, Enter, Land, Drop, Tell, Acted, put_line, put_lines, with_network, at_node, is_of_session, is_at, leads_to, is_from_peer, hop_line, fated, datagram_at, enters_at, entering, fate_at, with_ttl, landed, without_copy, landing, with_aged, act}
 use Rattle.world_defs.specs.Counts.{direction, directions}
 use Rattle.world_defs.specs.Nodes.{NodeState, Edge, CoreNode, Nodes, place_of}
 use Rattle.world_defs.specs.System.{NodeCall, Own, Elapse, Reset, system}
 use Rattle.ready_laws.specs.Unready.{SessionsStand, is_that}
-use Rattle.world_defs.specs.World.{World, Datagram, LinkCopy, scenario_of, clock_of, with_copies}
+use Rattle.world_defs.specs.World.{World, Datagram, LinkCopy, scenario_of, clock_of}
+use Rattle.world_defs.proofs.Kept.{branches_keep}
 use Rattle.ready_laws.proofs.Nodes.{call_stand, reset_stand}
 use Rattle.ready_laws.proofs.Octets.{Stands, Leads, run_then, call_stands, reset_stands, later, elapse_stands, move_stands, lost, lose_stands, forget_stands, joins, join_stands}
 
@@ -82,10 +82,6 @@ two_give P Q world node one two h k =
     (run_then P Q world.network one (two ∷ []) h (λ network p. run_then Q Q network two [] (k network p) (λ last q. q)))
 
 -- ---- copies
-
-branches_keep : (node : NodeId) (ttl number : ℕ) (branches : List Branch) (world : World) → (with_branches node ttl number branches world).network ≡ world.network
-branches_keep node ttl number [] world = refl
-branches_keep node ttl number (branch ∷ more) world = branches_keep node ttl number more (with_copies node branch.node (world.copies node branch.node ++ copy_on world ttl number branch ∷ []) world)
 
 fated_gives : (P : OctetNetwork Nodes → Type 0) (world : World) (node : NodeId) (ttl number : ℕ) (bytes : List ℕ) (before : List ReportLine) (fate : Fate) → refused_in before ≡ [] → P world.network → Gives (λ new. P new.network) (Ok (fated world node ttl number bytes before fate))
 fated_gives P world node ttl number bytes before fate b p = (

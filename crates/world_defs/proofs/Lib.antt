@@ -5,3 +5,4 @@ pub mod Small
 pub mod Readings
 pub mod Comings
 pub mod Example
+pub mod Kept

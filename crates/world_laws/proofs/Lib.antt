@@ -24,3 +24,7 @@ pub mod LabelCalls
 pub mod LabelTaken
 pub mod NodeCalls
 pub mod Nodes
+pub mod RunActs
+pub mod RunMessages
+pub mod RunNodes
+pub mod RunEvents

@@ -1,15 +1,18 @@
 -- The nodes of the whole network as a system with calls of sound values alone.
 use Rattle.std.specs.Prelude.{◌<◌, length}
 use Rattle.std.specs.List.{AllByRecursion}
+use Rattle.mv_base.specs.Octets.{IsOctets}
 use Rattle.pim_joinprune.specs.declared.group.Group.{Group}
 use Rattle.pim_joinprune.specs.declared.message.JoinPrune.{JoinPrune}
 use Rattle.pim_joinprune.specs.declared.source.JpSource.{JpSource}
+use Rattle.scenario_defs.specs.declared.event.Event.{Event}
+use Rattle.scenario_defs.specs.declared.event.Event.TheVariants as events
 use Rattle.scenario_defs.specs.declared.scenario.Scenario.{Scenario}
 use Rattle.session_defs.specs.System.{System}
 use Rattle.edge_defs.specs.Steps as steps
 use Rattle.world_defs.specs.Nodes.{Nodes}
 use Rattle.world_defs.specs.System.{NodeCall, Own, Elapse, Reset, system}
-use Rattle.world_laws.specs.Sound.{IsHost, IsGroupAddr, IsFlow, SoundPattern}
+use Rattle.world_laws.specs.Sound.{IsHost, IsGroupAddr, IsFlow, SoundEntry, SoundPattern}
 
 -- the groups of a Join/Prune message are multicast, and all its addresses are those of IPv4
 pub record SoundGroup (group : Group) : Type 0 where
@@ -46,3 +49,22 @@ pub record SoundCall (scenario : Scenario) : Type 0 where
 -- the nodes of a network, with such calls alone
 abbrev pub sound_system : (scenario : Scenario) → System Nodes (SoundCall scenario)
 sound_system scenario = record { taken = system.taken; called = λ call nodes. system.called call.call nodes }
+
+-- ---- events
+
+-- An event of sound values, which names nodes and sessions of the scenario, as the text of a script does.
+abbrev pub IsSoundEvent : Scenario → Event → Type 0
+IsSoundEvent scenario (events.Timers node) = node.0 < length scenario.nodes
+IsSoundEvent scenario (events.Restart node) = node.0 < length scenario.nodes
+IsSoundEvent scenario (events.Move kind from to count) = (from.0 < length scenario.nodes) × (to.0 < length scenario.nodes)
+IsSoundEvent scenario (events.Lose kind a b) = (a.0 < length scenario.nodes) × (b.0 < length scenario.nodes)
+IsSoundEvent scenario (events.Notice kind a b) = (a.0 < length scenario.nodes) × (b.0 < length scenario.nodes)
+IsSoundEvent scenario (events.Raise kind a b) = (a.0 < length scenario.nodes) × (b.0 < length scenario.nodes)
+IsSoundEvent scenario (events.Join iface entry) = (iface.0 < length scenario.ifaces) × SoundEntry entry
+IsSoundEvent scenario (events.Prune iface entry) = (iface.0 < length scenario.ifaces) × SoundEntry entry
+IsSoundEvent scenario (events.Pim iface bytes) = (iface.0 < length scenario.ifaces) × IsOctets bytes
+IsSoundEvent scenario (events.Active iface source group) = (iface.0 < length scenario.ifaces) × IsFlow source group
+IsSoundEvent scenario (events.Idle iface source group) = (iface.0 < length scenario.ifaces) × IsFlow source group
+IsSoundEvent scenario (events.Select vrf pattern) = (vrf.0 < length scenario.vrfs) × SoundPattern pattern
+IsSoundEvent scenario (events.Unselect vrf pattern) = (vrf.0 < length scenario.vrfs) × SoundPattern pattern
+IsSoundEvent scenario other = Unit {0}

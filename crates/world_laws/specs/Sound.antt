@@ -62,6 +62,7 @@ pub record HasOctets (scenario : Scenario) : Type 0 where
   pub rds : All (λ vrf. IsOctets vrf.rd.0) scenario.vrfs
   pub targets : All (λ vrf. All (λ target. IsOctets target.0.0) vrf.targets) scenario.vrfs
   pub prefixes : All (λ site. All (λ prefix. IsOctets (addr_octets prefix.addr)) site.prefixes) scenario.sites
+  pub ifaces : All (λ iface. IsOctets (addr_octets iface.addr)) scenario.ifaces
 
 -- A scenario that meets its rules.
 pub record SoundScenario (scenario : Scenario) : Type 0 where

@@ -1,5 +1,8 @@
 //! Laws of the sessions of the whole network.
 ghost use Rattle.std.specs.Prelude.{◌≡◌, ℕ, List, true, None, Some};
+ghost use Rattle.std.specs.List.{AllByRecursion};
+ghost use Rattle.scenario_defs.specs.declared.event.Script.{Script};
+ghost use Rattle.scenario_defs.specs.declared.event.Timed.{Timed};
 ghost use Rattle.scenario_defs.specs.declared.scenario.Scenario.{Scenario};
 ghost use Rattle.session_defs.specs.declared.direction.Direction.{Direction};
 ghost use Rattle.session_defs.specs.Message.{SessionMessage};
@@ -8,8 +11,10 @@ ghost use Rattle.session_defs.specs.Octets.{OctetNetwork, OctetAct, octet_run, m
 ghost use Rattle.session_defs.specs.Refined.{AreLines, IsHonestWhile, Refined, MovesFirst, Ends};
 ghost use Rattle.edge_defs.specs.Place.{Core};
 ghost use Rattle.world_defs.specs.Nodes.{Nodes, start_nodes};
+ghost use Rattle.world_defs.specs.Run.{Traced, Run};
+ghost use Rattle.world_defs.specs.World.{World};
 ghost use Rattle.world_laws.specs.Sound.{SoundScenario, Sound};
-ghost use Rattle.world_laws.specs.Honest.{SoundCall, sound_system};
+ghost use Rattle.world_laws.specs.Honest.{IsSoundEvent, SoundCall, sound_system};
 
 /// The nodes of a network in which nothing has happened are sound.
 pub fn start_is_sound()
@@ -37,4 +42,11 @@ pub fn octets_of_the_network_carry_messages()
         octet_run (sound_system scenario) old acts ≡ Some new → Refined (sound_system scenario) old pending new × Sound scenario new.network.state }
     ensures ended { (scenario : Scenario) (old : OctetNetwork Nodes) (pending : Direction → List SessionMessage) (acts : List (OctetAct (SoundCall scenario))) → Sound scenario old.state → AreLines old pending →
         octet_run (sound_system scenario) old acts ≡ None → Ends (sound_system scenario) old pending acts }
+{}
+
+/// In every run of a sound scenario, by events of sound values, the nodes stay sound, and the octets in transit over each session that
+/// is joined, behind what its receiver holds back, are whole units. So no stream ever has a fault.
+pub fn runs_stay_sound()
+    ensures { (core : Core) (script : Script) (events : List Timed) (trace : List Traced) (new : World) → SoundScenario script.scenario → AllByRecursion (λ (timed : Timed). IsSoundEvent script.scenario timed.event) events →
+        Run core script events trace new → Sound script.scenario new.network.state × ((pending : Direction → List SessionMessage) × AreLines new.network pending) }
 {}

@@ -5,5 +5,5 @@ mod laws;
 
 pub use laws::{
     moves_of_the_network_deliver, nodes_are_honest, octets_of_the_network_carry_messages,
-    start_is_sound,
+    runs_stay_sound, start_is_sound,
 };

@@ -140,20 +140,20 @@ done_stays world lines s (events.Timers node) sound = row_stays (scenario_of wor
 done_stays world lines s (events.Restart node) sound = row_stays (scenario_of world) (Restart node ∷ []) (tt, tt) world s
 done_stays world lines s (events.Move kind from to count) sound = row_stays (scenario_of world) (Move kind from to count ∷ []) (tt, tt) world s
 done_stays world lines s (events.Lose kind a b) sound = row_stays (scenario_of world) (Lose kind a b ∷ []) (tt, tt) world s
-done_stays world lines s (events.Notice kind a b) sound = row_stays (scenario_of world) (Notice kind a b ∷ []) (sound.0, tt) world s
+done_stays world lines s (events.Notice kind a b) sound = row_stays (scenario_of world) (Notice kind a b ∷ []) (sound, tt) world s
 done_stays world lines s (events.Raise kind a b) sound =
     row_stays (scenario_of world) (raises (sessions (scenario_of world)) kind a b) (raises_sound (scenario_of world) (sessions (scenario_of world)) kind a b (sessions_within (scenario_of world) lines)) world s
 done_stays world lines s (events.Join iface entry) sound = message_stays world lines (message_of (scenario_of world) (events.Join iface entry)) (join_is_sound (scenario_of world) lines iface entry sound.0 sound.1) s
 done_stays world lines s (events.Prune iface entry) sound = message_stays world lines (message_of (scenario_of world) (events.Prune iface entry)) (prune_is_sound (scenario_of world) lines iface entry sound.0 sound.1) s
-done_stays world lines s (events.Pim iface octets) sound = message_stays world lines (message_of (scenario_of world) (events.Pim iface octets)) (read_is_sound iface octets sound.1) s
+done_stays world lines s (events.Pim iface octets) sound = message_stays world lines (message_of (scenario_of world) (events.Pim iface octets)) (read_is_sound iface octets sound) s
 done_stays world lines s (events.Active iface source group) sound =
-    edge_stays (scenario_of world) (edge_of (scenario_of world) iface) (steps.Active iface source group) (edge_within (scenario_of world) lines iface) sound.1 world s
+    edge_stays (scenario_of world) (edge_of (scenario_of world) iface) (steps.Active iface source group) (edge_within (scenario_of world) lines iface) sound world s
 done_stays world lines s (events.Idle iface source group) sound =
     edge_stays (scenario_of world) (edge_of (scenario_of world) iface) (steps.Idle iface source group) (edge_within (scenario_of world) lines iface) tt world s
 done_stays world lines s (events.Send site source group payload) sound = sent_stays (scenario_of world) site source group (packet source group payload) world s
 done_stays world lines s (events.Packet site octets) sound = sent_stays (scenario_of world) site (source_in octets) (group_in octets) octets world s
 done_stays world lines s (events.Select vrf pattern) sound =
-    edge_stays (scenario_of world) (edge_of_vrf (scenario_of world) vrf) (steps.Select vrf pattern) (vrf_within (scenario_of world) lines vrf) sound.1 world s
+    edge_stays (scenario_of world) (edge_of_vrf (scenario_of world) vrf) (steps.Select vrf pattern) (vrf_within (scenario_of world) lines vrf) sound world s
 done_stays world lines s (events.Unselect vrf pattern) sound =
     edge_stays (scenario_of world) (edge_of_vrf (scenario_of world) vrf) (steps.Unselect vrf pattern) (vrf_within (scenario_of world) lines vrf) tt world s
 done_stays world lines s (events.Hop from to place) sound = row_stays (scenario_of world) (Land from to place ∷ []) (tt, tt) world s

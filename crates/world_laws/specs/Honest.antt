@@ -52,19 +52,14 @@ sound_system scenario = record { taken = system.taken; called = λ call nodes. s
 
 -- ---- events
 
--- An event of sound values, which names nodes and sessions of the scenario, as the text of a script does.
+-- An event of sound values. The node whose timers are run, or whose end notices a loss, and the interface of a join or a prune are those
+-- of the scenario.
 abbrev pub IsSoundEvent : Scenario → Event → Type 0
 IsSoundEvent scenario (events.Timers node) = node.0 < length scenario.nodes
-IsSoundEvent scenario (events.Restart node) = node.0 < length scenario.nodes
-IsSoundEvent scenario (events.Move kind from to count) = (from.0 < length scenario.nodes) × (to.0 < length scenario.nodes)
-IsSoundEvent scenario (events.Lose kind a b) = (a.0 < length scenario.nodes) × (b.0 < length scenario.nodes)
-IsSoundEvent scenario (events.Notice kind a b) = (a.0 < length scenario.nodes) × (b.0 < length scenario.nodes)
-IsSoundEvent scenario (events.Raise kind a b) = (a.0 < length scenario.nodes) × (b.0 < length scenario.nodes)
+IsSoundEvent scenario (events.Notice kind a b) = a.0 < length scenario.nodes
 IsSoundEvent scenario (events.Join iface entry) = (iface.0 < length scenario.ifaces) × SoundEntry entry
 IsSoundEvent scenario (events.Prune iface entry) = (iface.0 < length scenario.ifaces) × SoundEntry entry
-IsSoundEvent scenario (events.Pim iface bytes) = (iface.0 < length scenario.ifaces) × IsOctets bytes
-IsSoundEvent scenario (events.Active iface source group) = (iface.0 < length scenario.ifaces) × IsFlow source group
-IsSoundEvent scenario (events.Idle iface source group) = (iface.0 < length scenario.ifaces) × IsFlow source group
-IsSoundEvent scenario (events.Select vrf pattern) = (vrf.0 < length scenario.vrfs) × SoundPattern pattern
-IsSoundEvent scenario (events.Unselect vrf pattern) = (vrf.0 < length scenario.vrfs) × SoundPattern pattern
+IsSoundEvent scenario (events.Pim iface bytes) = IsOctets bytes
+IsSoundEvent scenario (events.Active iface source group) = IsFlow source group
+IsSoundEvent scenario (events.Select vrf pattern) = SoundPattern pattern
 IsSoundEvent scenario other = Unit {0}

@@ -131,7 +131,7 @@ is_vrf_step (Select vrf pattern) = false
 is_vrf_step (Unselect vrf pattern) = false
 is_vrf_step other = true
 
--- the flows are those that are asked for now
+-- the flows become those that some interface asks for at the clock
 abbrev pub refreshed : EdgePlace → ℕ → Control → Control
 refreshed place now control = record control { flows = flows_at place now control }
 

@@ -57,6 +57,7 @@ put_line puts over = elim (octets_over over puts) [ [] ↦ [] | octet ∷ more �
 abbrev pub put_lines : Scenario → List Put → List ReportLine
 put_lines scenario puts = flat_map (put_line puts) (directions scenario)
 
+-- the act's lines and the network behind it, where there is one
 abbrev pub with_network : World → List ReportLine → Option (Behind (octets.OctetNetwork Nodes)) → NodeId → Result Acted NodeId
 with_network world before None node = Err node
 with_network world before (Some new) node = Ok (record { world = record world { network = new.network }; lines = before ++ put_lines (scenario_of world) new.puts })

@@ -34,6 +34,7 @@ directions_of session = direction session.kind session.a session.b ∷ direction
 abbrev pub directions : Scenario → List Direction
 directions scenario = flat_map directions_of (sessions scenario)
 
+-- Whether the session is joined. The list of a scenario's sessions tells only which there are.
 abbrev pub is_joined : World → Session → Bool
 is_joined world session = world.network.joined (direction session.kind session.a session.b)
 

@@ -23,7 +23,7 @@ refreshed_sound : (place : EdgePlace) (now : ℕ) (control : Control) → SoundC
 refreshed_sound place now control h =
     record { entries = h.entries; notes = h.notes; selections = h.selections; flows = flows_are_sound place now control (sources_of control h); peers = h.peers }
 
--- the flows are those that are asked for now, or stay
+-- the flows become those that some interface asks for at the clock, or stay as they were
 stepped_sound : (place : EdgePlace) (now : ℕ) (own : Control) (vrf : Bool) → SoundControl own → SoundControl (cond vrf (refreshed place now own) own)
 stepped_sound place now own true h = refreshed_sound place now own h
 stepped_sound place now own false h = h

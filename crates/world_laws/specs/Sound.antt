@@ -128,7 +128,8 @@ abbrev pub IsBare : NodeState → Type 0
 IsBare (Edge edge) = ⊥
 IsBare (CoreNode part) = part.ids ≡ maps.empty
 
--- The nodes of that scenario are sound. A node that the scenario does not have is a core node, and has no session.
+-- The nodes of that scenario are sound. A node that the scenario does not have is a core node, and has no message id, so it puts
+-- nothing.
 pub record Sound (scenario : Scenario) (nodes : Nodes) : Type 0 where
   pub same : nodes.scenario ≡ scenario
   pub lines : SoundScenario scenario

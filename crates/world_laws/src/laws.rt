@@ -45,7 +45,7 @@ pub fn octets_of_the_network_carry_messages()
 {}
 
 /// In every run of a sound scenario, by events of sound values, the nodes stay sound, and the octets in transit over each session that
-/// is joined, behind what its receiver holds back, are whole units. So no stream ever has a fault.
+/// is joined, behind what its receiver holds back, are whole units. So no stream of a joined session has a fault.
 pub fn runs_stay_sound()
     ensures { (core : Core) (script : Script) (events : List Timed) (trace : List Traced) (new : World) → SoundScenario script.scenario → AllByRecursion (λ (timed : Timed). IsSoundEvent script.scenario timed.event) events →
         Run core script events trace new → Sound script.scenario new.network.state × ((pending : Direction → List SessionMessage) × AreLines new.network pending) }

@@ -1,0 +1,153 @@
+#!/usr/bin/env python3
+"""Measures what the gate costs: processor seconds of proof, tests and must-fail edits, crate by crate.
+
+    python3 bench/gate.py                  runs `rt ci --anew` here, writes bench/gate.json and the table in docs/PROVING.md
+    python3 bench/gate.py COMMAND WORD..   the same with another command, as `rt ci NAME`; what it proves replaces the rows
+                                           of these crates, and the rows of all others stay
+    python3 bench/gate.py --table          writes the table alone, from bench/gate.json
+
+The kit proves each crate in processes of its own. Every fifth of a second this reads from /proc what each process below the
+command has used; a process that ends in between counts as it was last seen. A crate that an earlier run proved costs a run
+of `rt ci` nothing, so only `--anew`, or a machine that has proved nothing, gives all rows.
+"""
+
+import json
+import os
+import re
+import subprocess
+import sys
+import time
+
+HERE = os.path.dirname(os.path.dirname(os.path.abspath(__file__)))
+COSTS = os.path.join(HERE, 'bench', 'gate.json')
+PAGE = os.path.join(HERE, 'docs', 'PROVING.md')
+BEGIN, END = '<!-- costs -->', '<!-- end of costs -->'
+PARTS = ('proof', 'tests', 'edits')
+TICKS = os.sysconf('SC_CLK_TCK')
+
+
+def processes():
+    """Each process by its number and when it began: its parent, and the processor seconds that it has used."""
+    found = {}
+    for name in filter(str.isdigit, os.listdir('/proc')):
+        try:
+            with open(f'/proc/{name}/stat') as file:
+                fields = file.read().rpartition(')')[2].split()
+        except OSError:
+            continue
+        found[int(name), fields[19]] = int(fields[1]), (int(fields[11]) + int(fields[12])) / TICKS
+    return found
+
+
+def below(root, found):
+    """The processes below this one."""
+    children = {}
+    for key, (parent, _) in found.items():
+        children.setdefault(parent, []).append(key)
+    reached, todo = [], [root]
+    while todo:
+        more = children.get(todo.pop(), [])
+        reached += more
+        todo += [number for number, _ in more]
+    return reached
+
+
+def words_of(number):
+    try:
+        with open(f'/proc/{number}/cmdline') as file:
+            return file.read().split('\0')
+    except OSError:
+        return []
+
+
+def row_of(words):
+    """The crate that a process of the prover works at, and at which part; or none."""
+    if not words or os.path.basename(words[0]) != 'rattle' or '--crate-name' not in words:
+        return None
+    crate = words[words.index('--crate-name') + 1]
+    return crate, 'edits' if words[1] == 'check' else 'tests' if '--test' in words else 'proof'
+
+
+def measure(command):
+    """Runs the command; its status and the processor seconds of each crate and part."""
+    run = subprocess.Popen(command, cwd=HERE)
+    rows, used = {}, {}
+    while run.poll() is None:
+        found = processes()
+        for key in below(run.pid, found):
+            if rows.get(key) is None:
+                rows[key] = row_of(words_of(key[0]))
+            used[key] = found[key][1]
+        time.sleep(0.2)
+    costs = {}
+    for key, row in rows.items():
+        if row:
+            parts = costs.setdefault(row[0], dict.fromkeys(PARTS, 0))
+            parts[row[1]] += used[key]
+    return run.returncode, costs
+
+
+def crate_names():
+    with open(os.path.join(HERE, 'crates.txt')) as file:
+        lines = [line for line in file if line.strip() and not line.startswith('#')]
+    return [line.split(':')[0].split()[0] for line in lines]
+
+
+def lines_of(crate, part):
+    """How many lines of the crate's part are not blank."""
+    count = 0
+    for at, _, names in os.walk(os.path.join(HERE, 'crates', crate, part)):
+        for name in names:
+            with open(os.path.join(at, name)) as file:
+                count += sum(1 for line in file if line.strip())
+    return count
+
+
+def number_of_edits(crate):
+    folder = os.path.join(HERE, 'crates', crate, 'must-fail')
+    return len(os.listdir(folder)) if os.path.isdir(folder) else 0
+
+
+def table(costs):
+    """The lines of the table, a crate each and then the sum."""
+    yield '| crate | src | specs | proofs | edits | proof, s | tests, s | edits, s | all, s |'
+    yield '|---|---|---|---|---|---|---|---|---|'
+    sums = [0] * 8
+    for crate in crate_names():
+        parts = [round(costs.get(crate, {}).get(part, 0)) for part in PARTS]
+        row = [lines_of(crate, part) for part in ('src', 'specs', 'proofs')] + [number_of_edits(crate)] + parts + [sum(parts)]
+        sums = [one + other for one, other in zip(sums, row)]
+        yield f'| {crate} | ' + ' | '.join(f'{number:,}' for number in row) + ' |'
+    yield '| all | ' + ' | '.join(f'{number:,}' for number in sums) + ' |'
+    yield ''
+    yield f'All in all {sums[7] / 60:.0f} processor minutes.'
+
+
+def write_table(costs):
+    with open(PAGE) as file:
+        page = file.read()
+    text = '\n'.join(table(costs))
+    page = re.sub(f'{BEGIN}.*?{END}', lambda _: f'{BEGIN}\n{text}\n{END}', page, flags=re.S)
+    with open(PAGE, 'w') as file:
+        file.write(page)
+
+
+def main():
+    costs = {}
+    if os.path.exists(COSTS):
+        with open(COSTS) as file:
+            costs = json.load(file)
+    status = 0
+    if sys.argv[1:] != ['--table']:
+        status, measured = measure(sys.argv[1:] or ['rt', 'ci', '--anew'])
+        costs = {crate: measured.get(crate) or costs.get(crate) for crate in crate_names()}
+        costs = {crate: parts for crate, parts in costs.items() if parts}
+        with open(COSTS, 'w') as file:
+            json.dump(costs, file, indent=1)
+            file.write('\n')
+    write_table(costs)
+    return status
+
+
+if __name__ == '__main__':
+    sys.exit(main())

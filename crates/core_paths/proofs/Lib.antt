@@ -1,3 +1,4 @@
 pub mod RowLemmas
 pub mod StepLemmas
 pub mod TableLemmas
+mod ChangeLemmas

@@ -2,6 +2,7 @@
 //! it leads first.
 #![tactic(auto)]
 
+mod costs;
 mod paths;
 mod rows;
 mod steps;

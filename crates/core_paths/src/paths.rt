@@ -1,9 +1,11 @@
 //! The core of the provider's network.
-ghost use Rattle.std.specs.Prelude.{◌≡◌, ◌<◌, ◌+◌, ◌*◌, ◌↔◌, IfOk, IfSome};
+ghost use Rattle.std.specs.Prelude.{◌≡◌, ◌<◌, ◌≤◌, ◌+◌, ◌*◌, ◌↔◌, IfOk, IfErr, IfSome};
 ghost use Rattle.mv_base.specs.declared.ids.NodeId.{NodeId};
 ghost use Rattle.core_walks.specs.Walks.{IsLeast, IsToward};
 ghost use Rattle.core_walks.specs.Topology.{IsTopology, IsConnected, IsFirstUnreached};
+ghost use Rattle.core_walks.specs.Costs.{with_cost};
 
+use crate::costs::with_cost;
 use crate::tables::{Tables, all_rows, first_unreached};
 use mv_base::{Link, NoMemory, NodeId};
 use std::alloc::Global;
@@ -83,6 +85,20 @@ impl Core {
         ensures connected { IsConnected self.now.nodes self.now.links }
     {
         self.nodes
+    }
+
+    /// The link between the two nodes costs so much from now on, in both directions. Without such a link nothing changes.
+    pub fn set_cost(&mut self, a: NodeId, b: NodeId, cost: u32) -> Result<(), NoMemory>
+        requires { (1 ≤ cost) × (cost ≤ 65535) }
+        ensures set { IfOk result (λ _. self.new ≡ record { nodes = self.old.nodes; links = with_cost a b cost self.old.links }) }
+        ensures unchanged { IfErr result (λ _. self.new ≡ self.old) }
+    {
+        let alloc = *self.links.allocator();
+        let links = with_cost(alloc, &self.links, a, b, cost)?;
+        let tables = all_rows(alloc, self.nodes, &links)?;
+        self.links = links;
+        self.tables = tables;
+        Ok(())
     }
 
     fn place(&self, from: NodeId, to: NodeId) -> usize

@@ -1,4 +1,5 @@
 pub mod Walks
 pub mod Topology
+pub mod Costs
 pub mod Reached
 pub mod Marks

@@ -1,0 +1,7 @@
+pub mod BlockGetMut
+pub mod BlockForm
+pub mod BlockShows
+pub mod BlockSteps
+pub mod CallerLemmas
+pub mod KeyLemmas
+pub mod TableLemmas

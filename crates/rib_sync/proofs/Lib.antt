@@ -1,0 +1,4 @@
+pub mod ListLemmas
+pub mod RibLemmas
+pub mod ChangeLemmas
+pub mod Replaying

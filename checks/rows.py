@@ -11,19 +11,19 @@ A file of rows is made of blocks, and the first word of a block says what it is.
 
     short               lines `NAME TEXT`: NAME stands for TEXT where it is a word of `do` or `>`
     scenario NAME       lines of input, for `use` and `behind`
-    table WORDS         rows of one line of input: `STATUS TEXT`, and below it the output, indented by four spaces.
-                        `table WORDS behind NAME` puts the scenario in front of each TEXT. It is escaped as behind `<`
+    table WORDS         rows of one line of input: `STATUS TEXT`, the text escaped as behind `<`, and below it the output, indented
+                        by four spaces. `table WORDS behind NAME` puts the lines of the scenario in front of each TEXT
     row TITLE           one row, of these lines in their order:
-        words WORDS         the words of the command; `replay` where this line lacks
+        words WORDS         the words of the command; `replay` where there is no such line
         by program          the reference program is too slow for it; `by reference`: the program cannot run it yet
         use NAME            the lines of the scenario; `use NAME WORD TEXT` puts TEXT for WORD in them
         < TEXT              a line of input. `\\t`, `\\r`, `\\n`, `\\\\` and `\\xHH` are octets; a `\\` at the end takes the line's LF away
         each M..N TEXT      that line for each of the numbers, which stands for `%`
         fill N TEXT         that line, filled with spaces up to N octets
-        do EVENTS           events parted by `;`. The first of these puts the line `events` in front
+        do EVENTS           events parted by `;`. The first of them puts the line `events` in front, unless it is there
         > LINE              a line of the output
         kinds K, K          only the lines of the output that begin with one of these are compared
-        status N            the status; 0 where this line lacks
+        status N            the status; 0 where there is no such line
 
 Scenarios and short words count in all files. Prints the rows that differ, and then 'N passed, M failed'.
 """
@@ -43,8 +43,8 @@ REFERENCE = [sys.executable, str(TOP / 'checks' / 'reference.py')]
 ESCAPES = {'n': '\n', 'r': '\r', 't': '\t', '\\': '\\', '\n': ''}
 # the first words of blocks
 KINDS = ['short', 'scenario', 'table', 'row']
-# the status of a text fault
-FAULT = 3
+# the statuses of a replay that came to its end, or to a halt
+REPLAYED = (0, 7)
 # seconds that a run may take: a program that is built without its proofs is not optimized, and slow at the limits
 LONGEST = 300
 
@@ -65,7 +65,8 @@ class Row:
         """Who runs the row. The reference program takes a text as well formed, and has no command but `replay`."""
         if self.by:
             return [self.by]
-        return ['program', 'reference'] if self.words[:1] == ['replay'] and self.status != FAULT else ['program']
+        is_replayed = self.words[:1] == ['replay'] and self.status in REPLAYED
+        return ['program', 'reference'] if is_replayed else ['program']
 
 
 # ---- texts of input

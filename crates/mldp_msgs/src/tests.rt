@@ -22,16 +22,16 @@ fn mapping() -> Option<LabelMessage> {
     Some(LabelMessage::Mapping(lsp()?, 16))
 }
 
-/// Whether a mapping alone maps the label.
-fn is_mapped_alone() -> Option<bool> {
-    Some(is_mapped(&[mapping()?], &lsp()?, 16))
+/// Whether the label 16 is mapped behind the message.
+fn is_mapped_behind(message: Option<LabelMessage>) -> Option<bool> {
+    Some(is_mapped(&[message?], &lsp()?, 16))
 }
 
 #[test]
 fn in_pieces(rt: HostRuntime) -> Result<(), Fail> {
-    for size in [1, 7, 40] {
+    for size in [1, 7, 40].iter() {
         let mut stream = Stream::of(rt.alloc());
-        for piece in MAPPING.chunks(size) {
+        for piece in MAPPING.chunks(*size) {
             assert_eq!(rt; stream.feed(piece), Ok(()));
         }
         assert_eq!(rt; stream.next(), mapping());
@@ -62,5 +62,5 @@ fn writes(rt: HostRuntime) -> Result<(), Fail> {
 
 #[test]
 fn maps(rt: HostRuntime) {
-    assert_eq!(rt; is_mapped_alone(), Some(true));
+    assert_eq!(rt; is_mapped_behind(mapping()), Some(true));
 }

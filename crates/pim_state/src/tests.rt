@@ -7,6 +7,8 @@ use std::test::*;
 
 const IFACE: IfaceId = IfaceId(3);
 
+const NEIGHBOUR: Addr = Addr::V4([10, 2, 0, 1]);
+
 const SOURCE: Addr = Addr::V4([10, 1, 0, 9]);
 
 const GROUP: Addr = Addr::V4([232, 1, 1, 1]);
@@ -17,13 +19,9 @@ fn shared_tree(rt: HostRuntime) -> Result<(), Fail> {
     let alloc = rt.alloc();
     let mut state = Downstream::of(alloc);
     let entry = JoinEntry::Star { group: GROUP };
-    let message = join_of(alloc, Addr::V4([10, 2, 0, 1]), &entry)
-        .ok()
-        .ok_or("memory")?;
-    assert_eq!(rt;
-        state.entries_after(alloc, IFACE, &message, 5).ok(),
-        Some(1)
-    );
+    let message = join_of(alloc, NEIGHBOUR, &entry).ok().ok_or("memory")?;
+    let after = state.entries_after(alloc, IFACE, &message, 5);
+    assert_eq!(rt; after.ok(), Some(1));
     state.take(IFACE, &message, 5).ok().ok_or("taken")?;
     assert!(rt; state.asks(IFACE, SOURCE, GROUP, true, 214));
     assert!(rt; !state.asks(IFACE, SOURCE, GROUP, false, 214));

@@ -18,6 +18,3 @@ pub use fault::{AttributesFault, StreamFault};
 pub use key::{Key, Keys};
 pub use reading::read_update;
 pub use update::{Advert, Adverts, Change, Comms, Message, Update};
-
-#[cfg(test)]
-mod tests;

@@ -1,4 +1,4 @@
-//! Messages and faults that were spelled by hand.
+//! Calls that take memory, where there is some, and octets that come in pieces.
 ghost use Rattle.std.specs.Prelude.{IfOk};
 ghost use Rattle.bgp_attributes.specs.Spelling.{AreComms};
 ghost use Rattle.bgp_update.specs.Written.{IsWritable, IsWritableKey};
@@ -18,11 +18,6 @@ const ADVERT: [u8; 84] = [
     0x00, 0x07, 0x16, 0x00, 0x00, 0xfd, 0xe8, 0x00, 0x00, 0x00, 0x01, 0x00, 0x00, 0xfd, 0xe8, 0x20,
     0x0a, 0x01, 0x00, 0x09, 0x20, 0xe8, 0x01, 0x01, 0x01, 0xc0, 0x10, 0x08, 0x01, 0x02, 0xc0, 0x00,
     0x02, 0x01, 0x00, 0x01,
-];
-
-const KEEPALIVE: [u8; 19] = [
-    0xff, 0xff, 0xff, 0xff, 0xff, 0xff, 0xff, 0xff, 0xff, 0xff, 0xff, 0xff, 0xff, 0xff, 0xff, 0xff,
-    0x00, 0x13, 0x04,
 ];
 
 const RD: Rd = Rd([0, 0, 0xfd, 0xe8, 0, 0, 0, 1]);
@@ -79,80 +74,16 @@ fn announces(message: Option<Message>) -> bool {
     }
 }
 
-fn is_keepalive(message: Option<Message>) -> bool {
-    match message {
-        Some(Message::Other(kind)) => kind == 4,
-        _ => false,
-    }
-}
-
 #[test]
 fn in_pieces(rt: HostRuntime) -> Result<(), Fail> {
-    let mut octets = Vec::new(rt.alloc());
-    octets.extend_from_slice(&ADVERT)?;
-    octets.extend_from_slice(&KEEPALIVE)?;
-    for size in [1, 7, 103] {
+    for size in [1, 7, 84] {
         let mut stream = Stream::of(rt.alloc());
-        for piece in octets.chunks(size) {
+        for piece in ADVERT.as_slice().chunks(size) {
             assert_eq!(rt; stream.feed(piece), Ok(()));
         }
         assert!(rt; announces(stream.next()));
-        assert!(rt; is_keepalive(stream.next()));
         assert!(rt; stream.next().is_none());
-        assert_eq!(rt; stream.unfinished(), None);
     }
-    Ok(())
-}
-
-#[test]
-fn held_back(rt: HostRuntime) -> Result<(), Fail> {
-    let mut stream = Stream::of(rt.alloc());
-    assert_eq!(rt; stream.feed(&KEEPALIVE), Ok(()));
-    assert_eq!(rt; stream.feed(&ADVERT[..83]), Ok(()));
-    assert_eq!(rt; stream.unfinished(), Some(19));
-    assert!(rt; is_keepalive(stream.next()));
-    assert!(rt; stream.next().is_none());
-    Ok(())
-}
-
-#[test]
-fn faults(rt: HostRuntime) -> Result<(), Fail> {
-    let cases: [(&[u8], u64, StreamFault); 6] = [
-        (b"\0\x12\x02", 16, StreamFault::MessageLength),
-        (b"\0\x13\x06", 18, StreamFault::MessageType),
-        (b"\0\x13\x02", 16, StreamFault::MessageLength),
-        (b"\0\x17\x02\0\x05\0\0", 19, StreamFault::AttributeList),
-        (b"\0\x17\x02\0\0\0\x01", 21, StreamFault::AttributeList),
-        (
-            b"\0\x21\x02\0\0\0\x0a\xc0\x10\x07\0\0\0\0\0\0\0",
-            23,
-            StreamFault::AttributeLength,
-        ),
-    ];
-    for (behind, place, fault) in cases.iter() {
-        let mut stream = Stream::of(rt.alloc());
-        assert_eq!(rt; stream.feed(&[0xff; 16]), Ok(()));
-        let first = FeedFault::First {
-            place: *place,
-            fault: *fault,
-        };
-        assert_eq!(rt; stream.feed(behind), Err(first));
-    }
-    Ok(())
-}
-
-#[test]
-fn failed(rt: HostRuntime) -> Result<(), Fail> {
-    let mut stream = Stream::of(rt.alloc());
-    assert_eq!(rt; stream.feed(&KEEPALIVE), Ok(()));
-    let first = FeedFault::First {
-        place: 19,
-        fault: StreamFault::Marker,
-    };
-    assert_eq!(rt; stream.feed(&[0; 19]), Err(first));
-    assert_eq!(rt; stream.feed(&KEEPALIVE), Err(FeedFault::Failed));
-    assert!(rt; is_keepalive(stream.next()));
-    assert!(rt; stream.next().is_none());
     Ok(())
 }
 

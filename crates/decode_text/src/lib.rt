@@ -6,8 +6,6 @@ mod hex_text;
 mod laws;
 mod session;
 mod telling;
-#[cfg(test)]
-mod tests;
 mod value;
 mod values;
 

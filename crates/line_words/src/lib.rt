@@ -13,6 +13,3 @@ pub use forms::{
 };
 pub use lists::{prefixes_at, targets_at};
 pub use words::{Row, Word, split_line, words_of};
-
-#[cfg(test)]
-mod tests;

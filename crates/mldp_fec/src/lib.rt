@@ -11,6 +11,3 @@ pub use fault::{FecFault, FecReason};
 pub use fec::{Fec, FecKind, Opaque};
 pub use reading::{decode, one_spelling};
 pub use writing::{encode, round_trip};
-
-#[cfg(test)]
-mod tests;

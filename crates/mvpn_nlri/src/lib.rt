@@ -13,6 +13,3 @@ pub use fault::{RouteFault, RouteReason};
 pub use reading::{decode, one_spelling};
 pub use route::{Afi, LeafKey, Raw, Route};
 pub use writing::{encode, round_trip};
-
-#[cfg(test)]
-mod tests;

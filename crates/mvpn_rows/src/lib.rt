@@ -1,12 +1,8 @@
-//! Worked scenarios, each run as a whole: what is written, and the status. The expected lines were worked by hand from
-//! the rules of the protocol and of the text.
+//! Runs over devices in memory, and the functions over histories: what no worked row of the built program shows. It is a
+//! crate of its own, since a crate with tests is proved twice.
 #![tactic(auto)]
 
 #[cfg(test)]
-mod edges;
+mod histories;
 #[cfg(test)]
-mod joined;
-#[cfg(test)]
-mod model;
-#[cfg(test)]
-mod rows;
+mod runs;

@@ -1,4 +1,4 @@
-//! Messages and faults that were spelled by hand.
+//! Calls that take memory, where there is some.
 use super::*;
 use mv_base::Addr;
 use std::test::*;
@@ -28,26 +28,4 @@ fn reads_and_writes(rt: HostRuntime) -> Result<(), Fail> {
     let octets = encode(alloc, &message).ok().ok_or("there is memory")?;
     assert_eq!(rt; octets.as_slice(), JOIN.as_slice());
     Ok(())
-}
-
-#[test]
-fn faults(rt: HostRuntime) {
-    let mut zeroed = JOIN;
-    zeroed[2] = 0;
-    zeroed[3] = 0;
-    let mut longer = [0; 35];
-    longer[..34].copy_from_slice(&JOIN);
-    let cases: [(&[u8], u32, PimFault); 4] = [
-        (&zeroed, 2, PimFault::Checksum),
-        (&longer, 34, PimFault::Trailing),
-        (&[0x23], 1, PimFault::Short),
-        (&[0x13, 0, 0, 0], 0, PimFault::Version),
-    ];
-    for (octets, place, fault) in cases.iter() {
-        let bad = DecodeFault::Bad {
-            place: *place,
-            fault: *fault,
-        };
-        assert_eq!(rt; decode(rt.alloc(), octets).err(), Some(bad));
-    }
 }

@@ -10,6 +10,3 @@ pub use fault::{PmsiFault, PmsiReason};
 pub use pmsi::{Ident, Pmsi, Tunnel};
 pub use reading::{decode, spellings};
 pub use writing::{encode, round_trip};
-
-#[cfg(test)]
-mod tests;

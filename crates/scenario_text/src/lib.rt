@@ -3,8 +3,6 @@
 
 mod laws;
 mod reader;
-#[cfg(test)]
-mod tests;
 
 pub use laws::first_faults;
 pub use line_words::{ReadFault, Reason, TextFault};

@@ -33,7 +33,8 @@ abbrev pub cut : {M E : Type 0} → (List ℕ → Front M E) → List ℕ → Cu
 cut front octets = cut_at front 0 0 octets
 
 -- Whole units carry the first messages. Behind them the front fails, and the last messages stand before the fault there.
-pub record Fails {M E : Type 0} (Spells : List M → List ℕ → Type 0) (Faulty : List ℕ → List M → ℕ → E → Type 0) (stream : List ℕ) (ms : List M) (place : ℕ) (e : E) : Type 0 where
+pub record Fails {M E : Type 0} (Spells : List M → List ℕ → Type 0) (Faulty : List ℕ → List M → ℕ → E → Type 0)
+    (stream : List ℕ) (ms : List M) (place : ℕ) (e : E) : Type 0 where
   pub first : List M
   pub last : List M
   pub rest : List ℕ
@@ -48,7 +49,8 @@ abbrev pub NoFault : {M E : Type 0} → (List ℕ → List M → ℕ → E → T
 NoFault {M} {E} Faulty rest = (last : List M) (offset : ℕ) (e : E) → ¬ (Faulty rest last offset e)
 
 -- The octets yield these messages: those of whole units, where no fault stands behind these; or those before the first fault.
-pub data Yields {M E : Type 0} (Spells : List M → List ℕ → Type 0) (Faulty : List ℕ → List M → ℕ → E → Type 0) (octets : List ℕ) (ms : List M) : Type 0 where
+pub data Yields {M E : Type 0} (Spells : List M → List ℕ → Type 0) (Faulty : List ℕ → List M → ℕ → E → Type 0)
+    (octets : List ℕ) (ms : List M) : Type 0 where
   sound : (rest : List ℕ) → Splits Spells octets ms rest → NoFault Faulty rest → Yields Spells Faulty octets ms
   faulty : (place : ℕ) (e : E) → Fails Spells Faulty octets ms place e → Yields Spells Faulty octets ms
 

@@ -69,7 +69,11 @@ pub data MessageFault (octets : List ℕ) (offset : ℕ) (e : LdpFault) : Type 0
 -- The PDU at the front of a stream fails, and these messages stand in it before the fault: its header with its first four
 -- octets, which come before any message; a message once the PDU is whole, behind those before it.
 pub data PduFault (octets : List ℕ) (ms : List LabelMessage) (offset : ℕ) (e : LdpFault) : Type 0 where
-  version : (number len : ℕ) (rest : List ℕ) → number < 2 ^ 16 → len < 2 ^ 16 → octets ≡ to_be_bytes w16 number ++ (to_be_bytes w16 len ++ rest) → number ≢ 1 → ms ≡ [] → offset ≡ 0 → e ≡ faults.Version → PduFault octets ms offset e
-  pdu_length : (len : ℕ) (rest : List ℕ) → len < 2 ^ 16 → octets ≡ to_be_bytes w16 1 ++ (to_be_bytes w16 len ++ rest) → (len < 6) ⊎ (4096 < len) → ms ≡ [] → offset ≡ 2 → e ≡ faults.PduLength → PduFault octets ms offset e
-  in_message : (ident body after : List ℕ) → length ident ≡ 6 → 6 + length body ≤ 4096 → octets ≡ to_be_bytes w16 1 ++ (to_be_bytes w16 (6 + length body) ++ (ident ++ (body ++ after)))
-      → (left : List ℕ) (place : ℕ) → Begins SpellsMessage body ms left → 0 < length left → MessageFault left place e → offset ≡ 10 + (length body - length left) + place → PduFault octets ms offset e
+  version : (number len : ℕ) (rest : List ℕ) → number < 2 ^ 16 → len < 2 ^ 16 → octets ≡ to_be_bytes w16 number ++ (to_be_bytes w16 len ++ rest)
+      → number ≢ 1 → ms ≡ [] → offset ≡ 0 → e ≡ faults.Version → PduFault octets ms offset e
+  pdu_length : (len : ℕ) (rest : List ℕ) → len < 2 ^ 16 → octets ≡ to_be_bytes w16 1 ++ (to_be_bytes w16 len ++ rest)
+      → (len < 6) ⊎ (4096 < len) → ms ≡ [] → offset ≡ 2 → e ≡ faults.PduLength → PduFault octets ms offset e
+  in_message : (ident body after : List ℕ) → length ident ≡ 6 → 6 + length body ≤ 4096
+      → octets ≡ to_be_bytes w16 1 ++ (to_be_bytes w16 (6 + length body) ++ (ident ++ (body ++ after)))
+      → (left : List ℕ) (place : ℕ) → Begins SpellsMessage body ms left → 0 < length left → MessageFault left place e
+      → offset ≡ 10 + (length body - length left) + place → PduFault octets ms offset e

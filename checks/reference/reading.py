@@ -188,12 +188,16 @@ def read_label_message(fields):
 
 
 def read_pdu(body):
+    """The messages, and the fault behind them, if there is one."""
     fields = Fields(body)
     fields.octets(6)
-    messages = []
-    while fields.left:
-        messages.append(read_label_message(fields))
-    return tuple(messages)
+    messages = ()
+    try:
+        while fields.left:
+            messages += (read_label_message(fields),)
+    except Misread as fault:
+        return messages, str(fault)
+    return messages, None
 
 
 # ---- what stands at the front of a stream
@@ -211,8 +215,11 @@ class Whole:
 
 @dataclass(frozen=True)
 class Bad:
+    """A fault, and the messages of its unit before it."""
+
     offset: int
     reason: str
+    messages: tuple = ()
 
 
 def number_at(octets, place):
@@ -250,10 +257,10 @@ def pdu_front(octets):
         return Bad(2, 'pdu-length')
     if len(octets) < 4 + length:
         return More()
-    try:
-        return Whole(4 + length, read_pdu(octets[4:4 + length]))
-    except Misread as fault:
-        return Bad(10, str(fault))
+    messages, fault = read_pdu(octets[4:4 + length])
+    if fault is not None:
+        return Bad(10, fault, messages)
+    return Whole(4 + length, messages)
 
 
 # ---- streams
@@ -269,14 +276,14 @@ class Fed:
 
 
 def cut(front, octets):
-    """The messages of the whole units, the octets behind these, and the fault that stands there."""
+    """The messages of the whole units and those before the fault behind them, the octets behind the units, and the fault."""
     messages, place = (), 0
     while place < len(octets):
         found = front(octets[place:])
         if isinstance(found, More):
             break
         if isinstance(found, Bad):
-            return messages, octets[place:], (place + found.offset, found.reason)
+            return messages + found.messages, octets[place:], (place + found.offset, found.reason)
         messages, place = messages + found.messages, place + found.count
     return messages, octets[place:], None
 

@@ -47,18 +47,18 @@ front_filled f ks text (k, one, s) = key_filled f k text s
 pub framing : (f : Family) → IsFraming (key_front f) (SpellsUnit f)
 framing f = record { empty = refl; taken = front_taken f; again = front_again f; filled = front_filled f }
 
-seen_bad : (f : Family) (xs : List ℕ) (offset : ℕ) (e : StreamFault) (r : Result (Key × ℕ) BadKey) → IsOctets xs → 0 < length xs → key_at f xs ≡ r → seen r ≡ bad offset e → KeyFault f xs offset e
-seen_bad f xs offset e (Ok x) fits pos is h = absurd cc
-seen_bad f xs offset e (Err b) fits pos is h =
-    let (at, same) = bad_is b.offset offset b.fault e h in
+seen_bad : (f : Family) (xs : List ℕ) (last : List Key) (offset : ℕ) (e : StreamFault) (r : Result (Key × ℕ) BadKey) → IsOctets xs → 0 < length xs → key_at f xs ≡ r → seen r ≡ bad last offset e → (last ≡ []) × KeyFault f xs offset e
+seen_bad f xs last offset e (Ok x) fits pos is h = absurd cc
+seen_bad f xs last offset e (Err b) fits pos is h =
+    let (at, same, none) = bad_is [] last b.offset offset b.fault e h in
     let made = key_fails f xs b fits pos is in
-    subst (λ (m : ℕ). KeyFault f xs m e) at (subst (λ (d : StreamFault). KeyFault f xs b.offset d) same made.0)
+    (sym none, subst (λ (m : ℕ). KeyFault f xs m e) at (subst (λ (d : StreamFault). KeyFault f xs b.offset d) same made.0))
 
-front_bad : (f : Family) (xs : List ℕ) (offset : ℕ) (e : StreamFault) → IsOctets xs → key_front f xs ≡ bad offset e → (0 < length xs) × KeyFault f xs offset e
-front_bad f [] offset e fits h = absurd cc
-front_bad f (b ∷ bs) offset e fits h = (omega arith, seen_bad f (b ∷ bs) offset e (key_at f (b ∷ bs)) fits (omega arith) refl h)
+front_bad : (f : Family) (xs : List ℕ) (last : List Key) (offset : ℕ) (e : StreamFault) → IsOctets xs → key_front f xs ≡ bad last offset e → (0 < length xs) × ((last ≡ []) × KeyFault f xs offset e)
+front_bad f [] last offset e fits h = absurd cc
+front_bad f (b ∷ bs) last offset e fits h = (omega arith, seen_bad f (b ∷ bs) last offset e (key_at f (b ∷ bs)) fits (omega arith) refl h)
 
-bad_again : (f : Family) (xs : List ℕ) (offset : ℕ) (e : StreamFault) → 0 < length xs → KeyFault f xs offset e → key_front f xs ≡ bad offset e
+bad_again : (f : Family) (xs : List ℕ) (offset : ℕ) (e : StreamFault) → 0 < length xs → KeyFault f xs offset e → key_front f xs ≡ bad [] offset e
 bad_again f xs offset e pos h = front_is f xs pos ∙ ap seen (fails_key f xs offset e h)
 
 seen_more : (r : Result (Key × ℕ) BadKey) → seen r ≡ more → ⊥
@@ -90,8 +90,8 @@ keys_taken f place xs ks fits e =
     let c : Cut Key StreamFault = cut (key_front f) xs in
     let (sound, same) = all_taken place c.messages ks c.fault e in
     let h = found (key_front f) (SpellsUnit f) (framing f) 0 xs fits in
-    let ends : key_front f c.rest ≡ more = subst (Ends (key_front f) (0 + length xs) c.rest) sound h.ends in
-    subst (λ (ms : List Key). AreKeys f ms xs []) same (subst (λ (ys : List ℕ). AreKeys f c.messages xs ys) (front_empty f c.rest ends) h.begins)
+    let ends = subst (Ends (key_front f) (0 + length xs) c.rest h.first c.messages) sound h.ends in
+    subst (λ (ms : List Key). AreKeys f ms xs []) (sym ends.1 ∙ same) (subst (λ (ys : List ℕ). AreKeys f h.first xs ys) (front_empty f c.rest ends.0) h.begins)
 
 -- Keys end to end are read.
 pub keys_again : (f : Family) (place : ℕ) (xs : List ℕ) (ks : List Key) → AreKeys f ks xs [] → keys_at f place xs ≡ Ok ks
@@ -112,10 +112,10 @@ keys_fail f place xs at e fits h =
     let c : Cut Key StreamFault = cut (key_front f) xs in
     let (x, some, there, same) = all_fails place at e c.messages c.fault h in
     let g = found (key_front f) (SpellsUnit f) (framing f) 0 xs fits in
-    let (inner, stops_at, place_is) = subst (Ends (key_front f) (0 + length xs) c.rest) some g.ends in
-    let (follow, faulty) = front_bad f c.rest inner x.1 (rest_octets f xs c.messages c.rest g.begins fits) stops_at in
-    let fault : KeyFault f c.rest inner e = subst (λ (d : StreamFault). KeyFault f c.rest inner d) (sym same) faulty in
-    (x.0, there, record { routes = c.messages; rest = c.rest; inner = inner; stand = g.begins; follow = follow; at = omega (arith, place_is); faulty = fault })
+    let (last, inner, stops_at, place_is, all) = subst (Ends (key_front f) (0 + length xs) c.rest g.first c.messages) some g.ends in
+    let (follow, faulty) = front_bad f c.rest last inner x.1 (rest_octets f xs g.first c.rest g.begins fits) stops_at in
+    let fault : KeyFault f c.rest inner e = subst (λ (d : StreamFault). KeyFault f c.rest inner d) (sym same) faulty.1 in
+    (x.0, there, record { routes = g.first; rest = c.rest; inner = inner; stand = g.begins; follow = follow; at = omega (arith, place_is); faulty = fault })
 
 -- The first fault is answered.
 pub fail_keys : (f : Family) (place : ℕ) (xs : List ℕ) (offset : ℕ) (e : StreamFault) → KeysFault f xs offset e → keys_at f place xs ≡ Err (place + offset, e)
@@ -126,7 +126,7 @@ fail_keys f place xs offset e h =
     let at : there + length h.rest ≡ 0 + length xs = omega (arith, ap (λ (ys : List ℕ). length ys) b.parts, length-append (octets_of b.units) h.rest) in
     let here : there + h.inner ≡ offset = omega (arith, h.at) in
     let stop : cut_at (key_front f) there 0 h.rest ≡ record { messages = []; rest = h.rest; fault = Some (there + h.inner, e) } =
-    stops (key_front f) there h.inner e h.rest refl (bad_again f h.rest h.inner e h.follow h.faulty) in
+    stops (key_front f) there h.inner e [] h.rest refl (bad_again f h.rest h.inner e h.follow h.faulty) in
     let is : cut (key_front f) xs ≡ with_front h.routes (record { messages = []; rest = h.rest; fault = Some (there + h.inner, e) }) =
     begun (key_front f) (SpellsUnit f) (framing f) 0 there xs h.routes h.rest b at ∙ ap (with_front h.routes) stop in
     ap (λ (c : Cut Key StreamFault). all_keys place c.messages c.fault) is ∙ ap (λ (n : ℕ). Err (place + n, e)) here

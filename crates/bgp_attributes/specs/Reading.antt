@@ -90,7 +90,7 @@ key_at VpnIpv4 octets = or_bad (vpn_at octets)
 
 abbrev pub seen : Result (Key × ℕ) BadKey → Front Key StreamFault
 seen (Ok x) = whole x.1 (x.0 ∷ [])
-seen (Err b) = bad b.offset b.fault
+seen (Err b) = bad [] b.offset b.fault
 
 -- what stands at the front of NLRI
 abbrev pub key_front : Family → List ℕ → Front Key StreamFault

@@ -1,5 +1,5 @@
 -- The header of a message, and what stands at the front by it.
-use Rattle.std.proofs.Common.{◌≡◌, ◌≢◌, ℕ, ◌+◌, ◌-◌, ◌^◌, ◌<◌, ◌≤◌, Bool, true, false, cond, ltb, not, inl, inr, List, ◌∷◌, ◌++◌, length, take, drop, slice_index, drop-cons, refl, sym, ap, ◌∙◌, arith}
+use Rattle.std.proofs.Common.{◌≡◌, ◌≢◌, ℕ, ◌+◌, ◌-◌, ◌^◌, ◌<◌, ◌≤◌, Bool, true, false, cond, ltb, not, inl, inr, List, [], ◌∷◌, ◌++◌, length, take, drop, slice_index, drop-cons, refl, sym, ap, ◌∙◌, arith}
 use Rattle.std.specs.Int.{w16, to_be_bytes, from_be_bytes}
 use Rattle.std.proofs.lemmas.Bool.{le-ltb, lt-ltb, cases_lt}
 use Rattle.std.proofs.lemmas.List.{length-append, length-drop, length-take-le, take-append-drop, drop-drop}
@@ -25,9 +25,9 @@ kind_in xs = slice_index xs 18
 -- what stands at the front, by the header and what stands behind it
 abbrev pub by_rest : ℕ → ℕ → List ℕ → Front Message StreamFault
 by_rest len kind rest =
-    cond (not (is_length len)) (bad 16 MessageLength)
-    (cond (not (is_type kind)) (bad 18 MessageType)
-    (cond (not (fits_type kind len)) (bad 16 MessageLength)
+    cond (not (is_length len)) (bad [] 16 MessageLength)
+    (cond (not (is_type kind)) (bad [] 18 MessageType)
+    (cond (not (fits_type kind len)) (bad [] 16 MessageLength)
     (cond (ltb (19 + length rest) len) more
     (message_of len (contents kind (take (len - 19) rest))))))
 
@@ -37,7 +37,7 @@ length_headed len kind rest = omega (arith, length-append (header len kind) rest
 by_headed : (len kind : ℕ) (rest : List ℕ) → message_by len kind (header len kind ++ rest) ≡ by_rest len kind rest
 by_headed len kind rest =
     let size : length (header len kind ++ rest) ≡ 19 + length rest = length_headed len kind rest in
-    ap (λ (n : ℕ). cond (not (is_length len)) (bad 16 MessageLength) (cond (not (is_type kind)) (bad 18 MessageType) (cond (not (fits_type kind len)) (bad 16 MessageLength) (cond (ltb n len) more (message_of len (contents kind (take (len - 19) rest))))))) size
+    ap (λ (n : ℕ). cond (not (is_length len)) (bad [] 16 MessageLength) (cond (not (is_type kind)) (bad [] 18 MessageType) (cond (not (fits_type kind len)) (bad [] 16 MessageLength) (cond (ltb n len) more (message_of len (contents kind (take (len - 19) rest))))))) size
 
 -- a header is read
 pub at_header : (len kind : ℕ) (rest : List ℕ) → len < 2 ^ 16 → message_front (header len kind ++ rest) ≡ by_rest len kind rest
@@ -55,12 +55,12 @@ unfolding message_front
 at_few xs lt = take_branch (ltb (length xs) 19) more _ (lt-ltb _ _ lt)
 
 -- another marker
-pub at_other_marker : (xs : List ℕ) → 19 ≤ length xs → take 16 xs ≢ marker → message_front xs ≡ bad 0 Marker
+pub at_other_marker : (xs : List ℕ) → 19 ≤ length xs → take 16 xs ≢ marker → message_front xs ≡ bad [] 0 Marker
 unfolding message_front
 at_other_marker xs le other =
     let len : length (take 16 xs) ≡ 16 = length-take-le 16 xs (omega (arith, le)) in
     let wrong : is_marker (take 16 xs) ≡ false = is_not (is_marker (take 16 xs)) (λ e. other (marker_told (take 16 xs) len e)) in
-    skip (ltb (length xs) 19) more _ (le-ltb _ _ le) ∙ take_branch (not (is_marker (take 16 xs))) (bad 0 Marker) _ (ap not wrong)
+    skip (ltb (length xs) 19) more _ (le-ltb _ _ le) ∙ take_branch (not (is_marker (take 16 xs))) (bad [] 0 Marker) _ (ap not wrong)
 
 -- octets that have a header with the marker
 pub is_headed : (xs : List ℕ) → IsOctets xs → 19 ≤ length xs → take 16 xs ≡ marker → xs ≡ header (len_in xs) (kind_in xs) ++ drop 19 xs

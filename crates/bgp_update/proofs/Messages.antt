@@ -16,7 +16,7 @@ use Rattle.bgp_attributes.specs.declared.update.Message.TheVariants as messages
 use Rattle.bgp_attributes.specs.declared.fault.StreamFault.{StreamFault}
 use Rattle.bgp_attributes.specs.declared.fault.StreamFault.TheVariants.{Marker, MessageLength, MessageType}
 use Rattle.bgp_update.specs.Spelling.{header, Means, SpellsMessage}
-use Rattle.bgp_update.specs.FirstFault.{MessageFault}
+use Rattle.bgp_update.specs.FirstFault.{MessageFault, UnitFault}
 use Rattle.bgp_update.specs.FirstFault.MessageFault.{wrong_marker, wrong_length, wrong_type, length_by_type, in_body}
 use Rattle.bgp_update.specs.Reading.{is_marker, is_length, is_type, fits_type, body_at, updated, contents, message_of, message_by, message_front}
 use Rattle.bgp_update.proofs.Bodies.{body_taken, body_again, body_fails, fails_body}
@@ -104,9 +104,9 @@ whole_message len (Err f) n ms e = absurd cc
 
 by_taken : (len kind : ℕ) (rest : List ℕ) (n : ℕ) (ms : List Message) → by_rest len kind rest ≡ whole n ms → Passed len kind rest × ((m : Message) × (contents kind (take (len - 19) rest) ≡ Ok m) × (len ≡ n) × (ms ≡ m ∷ []))
 by_taken len kind rest n ms e =
-    let a = not_bad (not (is_length len)) 16 MessageLength _ n ms e in
-    let b = not_bad (not (is_type kind)) 18 MessageType _ n ms a.1 in
-    let d = not_bad (not (fits_type kind len)) 16 MessageLength _ n ms b.1 in
+    let a = not_bad (not (is_length len)) [] 16 MessageLength _ n ms e in
+    let b = not_bad (not (is_type kind)) [] 18 MessageType _ n ms a.1 in
+    let d = not_bad (not (fits_type kind len)) [] 16 MessageLength _ n ms b.1 in
     let f = not_more (ltb (19 + length rest) len) _ n ms d.1 in
     let l = length_told len (not-false (is_length len) a.0) in
     (record { low = l.0; high = l.1; known = not-false (is_type kind) b.0; fit = not-false (fits_type kind len) d.0; room = ltb-false _ _ f.0 }, whole_message len (contents kind (take (len - 19) rest)) n ms f.1)
@@ -114,9 +114,9 @@ by_taken len kind rest n ms e =
 -- all tests are passed
 by_passed : (len kind : ℕ) (rest : List ℕ) → Passed len kind rest → by_rest len kind rest ≡ message_of len (contents kind (take (len - 19) rest))
 by_passed len kind rest p =
-    skip (not (is_length len)) (bad 16 MessageLength) _ (ap not (length_tells len p.low p.high))
-    ∙ skip (not (is_type kind)) (bad 18 MessageType) _ (ap not p.known)
-    ∙ skip (not (fits_type kind len)) (bad 16 MessageLength) _ (ap not p.fit)
+    skip (not (is_length len)) (bad [] 16 MessageLength) _ (ap not (length_tells len p.low p.high))
+    ∙ skip (not (is_type kind)) (bad [] 18 MessageType) _ (ap not p.known)
+    ∙ skip (not (fits_type kind len)) (bad [] 16 MessageLength) _ (ap not p.fit)
     ∙ skip (ltb (19 + length rest) len) more _ (le-ltb _ _ p.room)
 
 -- ---- whole messages
@@ -166,7 +166,7 @@ message_taken : (xs : List ℕ) (n : ℕ) (ms : List Message) → IsOctets xs �
 message_taken xs n ms fits e =
     elim (stands xs fits) [
       | Stands.few lt ↦ absurd (let clash : ◌≡◌ {A = Front Message StreamFault} more (whole n ms) = sym (at_few xs lt) ∙ e in cc)
-      | Stands.other_marker le other ↦ absurd (let clash : ◌≡◌ {A = Front Message StreamFault} (bad 0 Marker) (whole n ms) = sym (at_other_marker xs le other) ∙ e in cc)
+      | Stands.other_marker le other ↦ absurd (let clash : ◌≡◌ {A = Front Message StreamFault} (bad [] 0 Marker) (whole n ms) = sym (at_other_marker xs le other) ∙ e in cc)
       | Stands.headed len kind rest lt parts ↦ whole_taken len kind rest xs n ms fits parts (sym (at_header len kind rest lt) ∙ sym (ap message_front parts) ∙ e)
     ]
 
@@ -175,10 +175,10 @@ message_taken xs n ms fits e =
 body_same : (len : ℕ) (xs ys : List ℕ) → 19 ≤ length xs → len ≤ length xs → take (len - 19) (drop 19 (xs ++ ys)) ≡ take (len - 19) (drop 19 xs)
 body_same len xs ys le room = ap (take (len - 19)) (drop-append-le 19 xs ys le) ∙ take-append-le (len - 19) (drop 19 xs) ys (omega (arith, length-drop 19 xs, room, le))
 
-message_kept : (xs ys : List ℕ) (offset : ℕ) (e : StreamFault) → message_front xs ≡ bad offset e → message_front (xs ++ ys) ≡ bad offset e
+message_kept : (xs ys : List ℕ) (ms : List Message) (offset : ℕ) (e : StreamFault) → message_front xs ≡ bad ms offset e → message_front (xs ++ ys) ≡ bad ms offset e
 unfolding message_front
-message_kept xs ys offset e h =
-    let a = not_waiting (ltb (length xs) 19) _ offset e h in
+message_kept xs ys ms offset e h =
+    let a = not_waiting (ltb (length xs) 19) _ ms offset e h in
     let enough : 19 ≤ length xs = ltb-false _ _ a.0 in
     let sizes : length (xs ++ ys) ≡ length xs + length ys = length-append xs ys in
     let len : ℕ = len_in xs in
@@ -187,15 +187,15 @@ message_kept xs ys offset e h =
     ap (λ (zs : List ℕ). from_be_bytes w16 (take 2 zs)) (drop-append-le 16 xs ys (omega (arith, enough))) ∙ ap (from_be_bytes w16) (take-append-le 2 (drop 16 xs) ys (omega (arith, length-drop 16 xs, enough))) in
     let kind_same : kind_in (xs ++ ys) ≡ kind = get_or_append_left xs ys 0 18 (omega (arith, enough)) in
     skip (ltb (length (xs ++ ys)) 19) more _ (le-ltb _ _ (omega (arith, enough, sizes)))
-    ∙ ap (λ (zs : List ℕ). cond (not (is_marker zs)) (bad 0 Marker) (message_by (len_in (xs ++ ys)) (kind_in (xs ++ ys)) (xs ++ ys))) (take-append-le 16 xs ys (omega (arith, enough)))
-    ∙ ap (λ (l : ℕ). cond (not (is_marker (take 16 xs))) (bad 0 Marker) (message_by l (kind_in (xs ++ ys)) (xs ++ ys))) len_same
-    ∙ ap (λ (k : ℕ). cond (not (is_marker (take 16 xs))) (bad 0 Marker) (message_by len k (xs ++ ys))) kind_same
-    ∙ same_tests (not (is_marker (take 16 xs))) (bad 0 Marker) _ _ (bad offset e) a.1
-    (λ h1. same_tests (not (is_length len)) (bad 16 MessageLength) _ _ (bad offset e) h1
-    (λ h2. same_tests (not (is_type kind)) (bad 18 MessageType) _ _ (bad offset e) h2
-    (λ h3. same_tests (not (fits_type kind len)) (bad 16 MessageLength) _ _ (bad offset e) h3
+    ∙ ap (λ (zs : List ℕ). cond (not (is_marker zs)) (bad [] 0 Marker) (message_by (len_in (xs ++ ys)) (kind_in (xs ++ ys)) (xs ++ ys))) (take-append-le 16 xs ys (omega (arith, enough)))
+    ∙ ap (λ (l : ℕ). cond (not (is_marker (take 16 xs))) (bad [] 0 Marker) (message_by l (kind_in (xs ++ ys)) (xs ++ ys))) len_same
+    ∙ ap (λ (k : ℕ). cond (not (is_marker (take 16 xs))) (bad [] 0 Marker) (message_by len k (xs ++ ys))) kind_same
+    ∙ same_tests (not (is_marker (take 16 xs))) (bad [] 0 Marker) _ _ (bad ms offset e) a.1
+    (λ h1. same_tests (not (is_length len)) (bad [] 16 MessageLength) _ _ (bad ms offset e) h1
+    (λ h2. same_tests (not (is_type kind)) (bad [] 18 MessageType) _ _ (bad ms offset e) h2
+    (λ h3. same_tests (not (fits_type kind len)) (bad [] 16 MessageLength) _ _ (bad ms offset e) h3
     (λ h4.
-    let g = not_waiting (ltb (length xs) len) _ offset e h4 in
+    let g = not_waiting (ltb (length xs) len) _ ms offset e h4 in
     let room : len ≤ length xs = ltb-false _ _ g.0 in
     skip (ltb (length (xs ++ ys)) len) more _ (le-ltb _ _ (omega (arith, room, sizes)))
     ∙ ap (λ (zs : List ℕ). message_of len (contents kind zs)) (body_same len xs ys enough room)
@@ -209,10 +209,10 @@ message_waits xs e =
     elim (chosen (ltb (length xs) 19) more _ more e) [
       | inl t ↦ let short : length xs < 19 = ltb-true _ _ t.0 in omega (arith, short)
       | inr a ↦
-          let b = not_bad_yet (not (is_marker (take 16 xs))) 0 Marker _ a.1 in
-          let d = not_bad_yet (not (is_length (len_in xs))) 16 MessageLength _ b.1 in
-          let f = not_bad_yet (not (is_type (kind_in xs))) 18 MessageType _ d.1 in
-          let g = not_bad_yet (not (fits_type (kind_in xs) (len_in xs))) 16 MessageLength _ f.1 in
+          let b = not_bad_yet (not (is_marker (take 16 xs))) [] 0 Marker _ a.1 in
+          let d = not_bad_yet (not (is_length (len_in xs))) [] 16 MessageLength _ b.1 in
+          let f = not_bad_yet (not (is_type (kind_in xs))) [] 18 MessageType _ d.1 in
+          let g = not_bad_yet (not (fits_type (kind_in xs) (len_in xs))) [] 16 MessageLength _ f.1 in
           elim (chosen (ltb (length xs) (len_in xs)) more _ more g.1) [
             | inl t ↦
                 let lt : length xs < len_in xs = ltb-true _ _ t.0 in
@@ -228,11 +228,11 @@ message_waits xs e =
 
 -- ---- first faults
 
-bad_message : (len : ℕ) (r : Result Message (ℕ × StreamFault)) (offset : ℕ) (e : StreamFault) → message_of len r ≡ bad offset e → (place : ℕ) × (r ≡ Err (place, e)) × (offset ≡ 19 + place)
-bad_message len (Ok m) offset e h = absurd cc
-bad_message len (Err f) offset e h =
-    let b = bad_is {M = Message} (19 + f.0) offset f.1 e h in
-    (f.0, ap (λ (x : StreamFault). Err (f.0, x)) b.1, sym b.0)
+bad_message : (len : ℕ) (r : Result Message (ℕ × StreamFault)) (ms : List Message) (offset : ℕ) (e : StreamFault) → message_of len r ≡ bad ms offset e → (place : ℕ) × (r ≡ Err (place, e)) × (offset ≡ 19 + place) × (ms ≡ [])
+bad_message len (Ok m) ms offset e h = absurd cc
+bad_message len (Err f) ms offset e h =
+    let b = bad_is [] ms (19 + f.0) offset f.1 e h in
+    (f.0, ap (λ (x : StreamFault). Err (f.0, x)) b.1, sym b.0, sym b.2)
 
 -- only an UPDATE has faults in its body
 body_of_update : (kind : ℕ) (body : List ℕ) (place : ℕ) (e : StreamFault) → contents kind body ≡ Err (place, e) → (kind ≡ 2) × (body_at body ≡ Err (place, e))
@@ -242,24 +242,24 @@ body_of_update kind body place e h =
       | inr b ↦ (eqb-true _ _ (not-false (eqb kind 2) b.0), updated_err (body_at body) (place, e) b.1)
     ]
 
-by_fails : (len kind : ℕ) (rest xs : List ℕ) (offset : ℕ) (e : StreamFault) → len < 2 ^ 16 → IsOctets rest → xs ≡ header len kind ++ rest → by_rest len kind rest ≡ bad offset e → MessageFault xs offset e
-by_fails len kind rest xs offset e small fits parts h =
-    elim (chosen (not (is_length len)) (bad 16 MessageLength) _ (bad offset e) h) [
+by_fails : (len kind : ℕ) (rest xs : List ℕ) (ms : List Message) (offset : ℕ) (e : StreamFault) → len < 2 ^ 16 → IsOctets rest → xs ≡ header len kind ++ rest → by_rest len kind rest ≡ bad ms offset e → UnitFault xs ms offset e
+by_fails len kind rest xs ms offset e small fits parts h =
+    elim (chosen (not (is_length len)) (bad [] 16 MessageLength) _ (bad ms offset e) h) [
       | inl a ↦
-          let b = bad_is {M = Message} 16 offset MessageLength e a.1 in
-          wrong_length len kind rest small parts (length_wrong len (not_true (is_length len) a.0)) (sym b.0) (sym b.1)
+          let b = bad_is [] ms 16 offset MessageLength e a.1 in
+          (sym b.2, wrong_length len kind rest small parts (length_wrong len (not_true (is_length len) a.0)) (sym b.0) (sym b.1))
       | inr a ↦
           let l = length_told len (not-false (is_length len) a.0) in
-          elim (chosen (not (is_type kind)) (bad 18 MessageType) _ (bad offset e) a.1) [
+          elim (chosen (not (is_type kind)) (bad [] 18 MessageType) _ (bad ms offset e) a.1) [
             | inl d ↦
-                let b = bad_is {M = Message} 18 offset MessageType e d.1 in
-                wrong_type len kind rest l.0 l.1 parts (type_wrong kind (not_true (is_type kind) d.0)) (sym b.0) (sym b.1)
-            | inr d ↦ elim (chosen (not (fits_type kind len)) (bad 16 MessageLength) _ (bad offset e) d.1) [
+                let b = bad_is [] ms 18 offset MessageType e d.1 in
+                (sym b.2, wrong_type len kind rest l.0 l.1 parts (type_wrong kind (not_true (is_type kind) d.0)) (sym b.0) (sym b.1))
+            | inr d ↦ elim (chosen (not (fits_type kind len)) (bad [] 16 MessageLength) _ (bad ms offset e) d.1) [
               | inl f ↦
-                  let b = bad_is {M = Message} 16 offset MessageLength e f.1 in
-                  length_by_type len kind rest l.0 l.1 parts (fits_wrong kind len (not_true (fits_type kind len) f.0)) (sym b.0) (sym b.1)
+                  let b = bad_is [] ms 16 offset MessageLength e f.1 in
+                  (sym b.2, length_by_type len kind rest l.0 l.1 parts (fits_wrong kind len (not_true (fits_type kind len) f.0)) (sym b.0) (sym b.1))
               | inr f ↦
-                  let g = not_waiting (ltb (19 + length rest) len) _ offset e f.1 in
+                  let g = not_waiting (ltb (19 + length rest) len) _ ms offset e f.1 in
                   inside l.0 l.1 (not-false (fits_type kind len) f.0) (ltb-false _ _ g.0) g.1
             ]
           ]
@@ -269,48 +269,48 @@ by_fails len kind rest xs offset e small fits parts h =
     not_true true e = absurd cc
     not_true false e = refl
 
-    inside : 19 ≤ len → len ≤ 4096 → fits_type kind len ≡ true → len ≤ 19 + length rest → message_of len (contents kind (take (len - 19) rest)) ≡ bad offset e → MessageFault xs offset e
+    inside : 19 ≤ len → len ≤ 4096 → fits_type kind len ≡ true → len ≤ 19 + length rest → message_of len (contents kind (take (len - 19) rest)) ≡ bad ms offset e → UnitFault xs ms offset e
     inside low high fit room g =
         let body : List ℕ = take (len - 19) rest in
-        let m = bad_message len (contents kind body) offset e g in
+        let m = bad_message len (contents kind body) ms offset e g in
         let u = body_of_update kind body m.0 e m.1 in
         let size : length body ≡ len - 19 = length-take-le (len - 19) rest (omega (arith, room)) in
         let up : 19 + length body ≡ len = omega (arith, low) in
         let four : 23 ≤ len = (fits_told kind len fit).0 u.0 in
         let whole_text : xs ≡ header (19 + length body) 2 ++ (body ++ drop (len - 19) rest) =
         parts ∙ ap (λ (k : ℕ). header len k ++ rest) u.0 ∙ ap (λ (l : ℕ). header l 2 ++ rest) (sym up) ∙ ap (λ (ys : List ℕ). header (19 + length body) 2 ++ ys) (sym (take-append-drop (len - 19) rest)) in
-        in_body body (drop (len - 19) rest) m.0 (omega (arith, up, four)) (omega (arith, up, high)) whole_text (body_fails body m.0 e (octets_before (len - 19) rest fits) (omega (arith, up, four)) u.1) m.2
+        (m.3, in_body body (drop (len - 19) rest) m.0 (omega (arith, up, four)) (omega (arith, up, high)) whole_text (body_fails body m.0 e (octets_before (len - 19) rest fits) (omega (arith, up, four)) u.1) m.2)
 
-message_fails : (xs : List ℕ) (offset : ℕ) (e : StreamFault) → IsOctets xs → message_front xs ≡ bad offset e → MessageFault xs offset e
-message_fails xs offset e fits h =
+message_fails : (xs : List ℕ) (ms : List Message) (offset : ℕ) (e : StreamFault) → IsOctets xs → message_front xs ≡ bad ms offset e → UnitFault xs ms offset e
+message_fails xs ms offset e fits h =
     elim (stands xs fits) [
-      | Stands.few lt ↦ absurd (let clash : ◌≡◌ {A = Front Message StreamFault} more (bad offset e) = sym (at_few xs lt) ∙ h in cc)
+      | Stands.few lt ↦ absurd (let clash : ◌≡◌ {A = Front Message StreamFault} more (bad ms offset e) = sym (at_few xs lt) ∙ h in cc)
       | Stands.other_marker le other ↦
-          let b = bad_is {M = Message} 0 offset Marker e (sym (at_other_marker xs le other) ∙ h) in
-          wrong_marker le other (sym b.0) (sym b.1)
-      | Stands.headed len kind rest lt parts ↦ by_fails len kind rest xs offset e lt (IsOctets-behind (header len kind) rest (subst IsOctets parts fits)) parts (sym (at_header len kind rest lt) ∙ sym (ap message_front parts) ∙ h)
+          let b = bad_is [] ms 0 offset Marker e (sym (at_other_marker xs le other) ∙ h) in
+          (sym b.2, wrong_marker le other (sym b.0) (sym b.1))
+      | Stands.headed len kind rest lt parts ↦ by_fails len kind rest xs ms offset e lt (IsOctets-behind (header len kind) rest (subst IsOctets parts fits)) parts (sym (at_header len kind rest lt) ∙ sym (ap message_front parts) ∙ h)
     ]
 
-bad_same : (m n : ℕ) (d e : StreamFault) → m ≡ n → d ≡ e → ◌≡◌ {A = Front Message StreamFault} (bad m d) (bad n e)
-bad_same m n d e p q i = bad (p i) (q i)
+bad_same : (m n : ℕ) (d e : StreamFault) → m ≡ n → d ≡ e → ◌≡◌ {A = Front Message StreamFault} (bad [] m d) (bad [] n e)
+bad_same m n d e p q i = bad [] (p i) (q i)
 
-fails_message : (xs : List ℕ) (offset : ℕ) (e : StreamFault) → IsOctets xs → MessageFault xs offset e → message_front xs ≡ bad offset e
+fails_message : (xs : List ℕ) (offset : ℕ) (e : StreamFault) → IsOctets xs → MessageFault xs offset e → message_front xs ≡ bad [] offset e
 fails_message xs offset e fits (wrong_marker le other at fault) = at_other_marker xs le other ∙ bad_same 0 offset Marker e (sym at) (sym fault)
 fails_message xs offset e fits (wrong_length len kind rest small parts wrong at fault) =
     ap message_front parts ∙ at_header len kind rest small
-    ∙ take_branch (not (is_length len)) (bad 16 MessageLength) _ (ap not (wrong_length_told len wrong))
+    ∙ take_branch (not (is_length len)) (bad [] 16 MessageLength) _ (ap not (wrong_length_told len wrong))
     ∙ bad_same 16 offset MessageLength e (sym at) (sym fault)
 fails_message xs offset e fits (wrong_type len kind rest low high parts wrong at fault) =
     ap message_front parts ∙ at_header len kind rest (omega (arith, high))
-    ∙ skip (not (is_length len)) (bad 16 MessageLength) _ (ap not (length_tells len low high))
-    ∙ take_branch (not (is_type kind)) (bad 18 MessageType) _ (ap not (wrong_type_told kind wrong))
+    ∙ skip (not (is_length len)) (bad [] 16 MessageLength) _ (ap not (length_tells len low high))
+    ∙ take_branch (not (is_type kind)) (bad [] 18 MessageType) _ (ap not (wrong_type_told kind wrong))
     ∙ bad_same 18 offset MessageType e (sym at) (sym fault)
 fails_message xs offset e fits (length_by_type len kind rest low high parts wrong at fault) =
     let known : is_type kind ≡ true = elim wrong [ inl a ↦ type_tells kind (omega (arith, a.0)) (omega (arith, a.0)) | inr b ↦ type_tells kind (omega (arith, b.0)) (omega (arith, b.0)) ] in
     ap message_front parts ∙ at_header len kind rest (omega (arith, high))
-    ∙ skip (not (is_length len)) (bad 16 MessageLength) _ (ap not (length_tells len low high))
-    ∙ skip (not (is_type kind)) (bad 18 MessageType) _ (ap not known)
-    ∙ take_branch (not (fits_type kind len)) (bad 16 MessageLength) _ (ap not (wrong_fit_told kind len wrong))
+    ∙ skip (not (is_length len)) (bad [] 16 MessageLength) _ (ap not (length_tells len low high))
+    ∙ skip (not (is_type kind)) (bad [] 18 MessageType) _ (ap not known)
+    ∙ take_branch (not (fits_type kind len)) (bad [] 16 MessageLength) _ (ap not (wrong_fit_told kind len wrong))
     ∙ bad_same 16 offset MessageLength e (sym at) (sym fault)
 fails_message xs offset e fits (in_body body rest place low high parts faulty at) =
     let len : ℕ = 19 + length body in
@@ -333,10 +333,10 @@ messages_framed = record {
   filled = λ ms text s. omega (arith, ap (λ (xs : List ℕ). length xs) s.parts, length_headed (19 + length s.body) s.kind s.body);
 }
 
-pub message_format : IsFormat message_front SpellsMessage MessageFault 4096
+pub message_format : IsFormat message_front SpellsMessage UnitFault 4096
 message_format = record {
   stream = record { framing = messages_framed; kept = message_kept };
   waits = message_waits;
   fails = message_fails;
-  faulty = fails_message;
+  faulty = λ xs ms offset e fits h. fails_message xs offset e fits h.1 ∙ ap (λ (ns : List Message). bad ns offset e) (sym h.0);
 }

@@ -11,7 +11,7 @@ use Rattle.bgp_update.specs.declared.front.Front.TheVariants.{More, Whole, Bad}
 abbrev pub front_of : Front → cuts.Front Message StreamFault
 front_of More = more
 front_of (Whole len message) = whole len (message ∷ [])
-front_of (Bad offset fault) = bad offset fault
+front_of (Bad offset fault) = bad [] offset fault
 
 -- a message has octets, and these are there; a fault stands among them
 abbrev pub IsRoom : Front → ℕ → Type 0

@@ -1,8 +1,9 @@
 -- The first fault of a message: whole fields that meet their conditions stand before its place, and the next one fails.
-use Rattle.std.specs.Prelude.{◌≡◌, ◌≢◌, ◌⊎◌, ◌+◌, ◌<◌, ◌≤◌, ◌^◌, ℕ, List, ◌++◌, length, take}
+use Rattle.std.specs.Prelude.{◌≡◌, ◌≢◌, ◌⊎◌, ◌+◌, ◌<◌, ◌≤◌, ◌^◌, ℕ, List, [], ◌++◌, length, take}
 use Rattle.std.specs.Int.{w16, to_be_bytes}
 use Rattle.bgp_attributes.specs.declared.fault.StreamFault.{StreamFault}
 use Rattle.bgp_attributes.specs.declared.fault.StreamFault.TheVariants as faults
+use Rattle.bgp_attributes.specs.declared.update.Message.{Message}
 use Rattle.bgp_attributes.specs.FirstFault.{AttributesFault}
 use Rattle.bgp_update.specs.Spelling.{marker, header}
 
@@ -36,3 +37,7 @@ pub data MessageFault (octets : List ℕ) (offset : ℕ) (e : StreamFault) : Typ
       → offset ≡ 16 → e ≡ faults.MessageLength → MessageFault octets offset e
   in_body : (body rest : List ℕ) (place : ℕ) → 23 ≤ 19 + length body → 19 + length body ≤ 4096 → octets ≡ header (19 + length body) 2 ++ (body ++ rest) → BodyFault body place e
       → offset ≡ 19 + place → MessageFault octets offset e
+
+-- the message at the front of a stream fails, and no message stands in it before the fault
+abbrev pub UnitFault : List ℕ → List Message → ℕ → StreamFault → Type 0
+UnitFault octets ms offset e = (ms ≡ []) × MessageFault octets offset e

@@ -56,19 +56,19 @@ contents kind body = if not (kind == 2) then Ok (messages.Other kind) else updat
 -- a whole message of so many octets, or a fault behind its header
 abbrev pub message_of : ℕ → Result Message (ℕ × StreamFault) → Front Message StreamFault
 message_of len (Ok message) = whole len (message ∷ [])
-message_of len (Err f) = bad (19 + f.0) f.1
+message_of len (Err f) = bad [] (19 + f.0) f.1
 
 -- the message of that length and type
 abbrev pub message_by : ℕ → ℕ → List ℕ → Front Message StreamFault
 message_by len kind octets =
-    if not (is_length len) then bad 16 faults.MessageLength else
-    if not (is_type kind) then bad 18 faults.MessageType else
-    if not (fits_type kind len) then bad 16 faults.MessageLength else
+    if not (is_length len) then bad [] 16 faults.MessageLength else
+    if not (is_type kind) then bad [] 18 faults.MessageType else
+    if not (fits_type kind len) then bad [] 16 faults.MessageLength else
     if nat_lt (length octets) len then more else
     message_of len (contents kind (take (len - 19) (drop 19 octets)))
 
 unfoldable pub message_front : List ℕ → Front Message StreamFault
 message_front octets =
     if nat_lt (length octets) 19 then more else
-    if not (is_marker (take 16 octets)) then bad 0 faults.Marker else
+    if not (is_marker (take 16 octets)) then bad [] 0 faults.Marker else
     message_by (from_be_bytes w16 (take 2 (drop 16 octets))) (slice_index octets 18) octets

@@ -4,7 +4,7 @@ ghost use Rattle.framing.specs.Feed.{unfed};
 ghost use Rattle.framing.specs.Feeding.{FeedIs, Feeds, AnswersFirst, NextIs, unfinished};
 ghost use Rattle.bgp_update.specs.Reading.{message_front};
 ghost use Rattle.bgp_update.specs.Spelling.{SpellsMessage};
-ghost use Rattle.bgp_update.specs.FirstFault.{MessageFault};
+ghost use Rattle.bgp_update.specs.FirstFault.{UnitFault};
 
 use crate::cutting::cut_messages;
 use bgp_attributes::{Message, StreamFault};
@@ -49,9 +49,9 @@ impl Stream {
         // It is what cutting the octets held back and these gives.
         ensures exact { FeedIs message_front self.old bytes.now result self.new }
         // Messages that are spelled were added, and what is held back begins none that is whole and has no fault.
-        ensures feeds { Feeds SpellsMessage MessageFault 4096 self.old bytes.now result self.new }
+        ensures feeds { Feeds SpellsMessage UnitFault 4096 self.old bytes.now result self.new }
         // The first fault is answered.
-        ensures first { AnswersFirst SpellsMessage MessageFault self.old bytes.now result }
+        ensures first { AnswersFirst SpellsMessage UnitFault self.old bytes.now result }
     {
         let len = self.inbound.held().len();
         self.inbound.append(bytes)?;

@@ -13,6 +13,8 @@ use Rattle.bgp_attributes.specs.declared.update.Message.TheVariants as messages
 use Rattle.bgp_attributes.specs.declared.attribute.Attribute.{Attribute}
 use Rattle.bgp_attributes.specs.declared.attribute.Attribute.TheVariants.{Reach, Unreach, Communities, Tunnel, Passed}
 use Rattle.bgp_attributes.specs.Spelling.{SpellsAttribute, IsNew, Spells, pmsi_of, comms_of, adverts_in}
+use Rattle.bgp_attributes.specs.declared.fault.StreamFault.{StreamFault}
+use Rattle.bgp_update.specs.FirstFault.{UnitFault}
 use Rattle.bgp_update.specs.Spelling.{SpellsMessage, Means}
 use Rattle.mldp_msgs.specs.declared.message.LabelMessage.{LabelMessage}
 use Rattle.value_text.specs.MessageText.{HasOctets, IsTellable}
@@ -54,6 +56,10 @@ message_tellable (messages.Other k) kind body h = subst (λ (n : ℕ). IsTellabl
 -- Messages of BGP that are spelled can be told.
 pub bgp_tellable : (ms : List Message) (text : List ℕ) → SpellsMessage ms text → AllByRecursion IsTellable ms
 bgp_tellable ms text s = subst (AllByRecursion IsTellable) (sym s.one) (message_tellable s.message s.kind s.body s.means, tt)
+
+-- No message of BGP stands before the fault of another.
+pub none_before : (octets : List ℕ) (ms : List Message) (offset : ℕ) (e : StreamFault) → UnitFault octets ms offset e → AllByRecursion IsTellable ms
+none_before octets ms offset e h = subst (AllByRecursion IsTellable) (sym h.0) tt
 
 -- Label messages can be told.
 pub ldp_tellable : (ms : List LabelMessage) → AllByRecursion (λ (m : LabelMessage). Unit {0}) ms

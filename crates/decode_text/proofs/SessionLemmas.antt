@@ -65,12 +65,16 @@ all_carried P Spells each (u ∷ us) h = all_append P u.messages (messages_of us
 all_begun : {M : Type 0} (P : M → Type 0) (Spells : List M → List ℕ → Type 0) → ((ms : List M) (text : List ℕ) → Spells ms text → AllByRecursion P ms) → (octets : List ℕ) (ms waiting : List M) (rest : List ℕ) → Begins Spells octets ms rest → waiting ≡ ms → AllByRecursion P waiting
 all_begun P Spells each octets ms waiting rest b e = subst (AllByRecursion P) (sym (e ∙ b.carried)) (all_carried P Spells each b.units b.each)
 
--- What each unit's messages meet, the messages that wait meet.
-pub waiting_meet : {X M E : Type 0} (P : M → Type 0) (Spells : List M → List ℕ → Type 0) (Faulty : List ℕ → ℕ → E → Type 0) (limit : ℕ) → ((ms : List M) (text : List ℕ) → Spells ms text → AllByRecursion P ms) → (octets : List ℕ) (fed : Result X (FeedFault E)) (d : Fed M E) → Feeds Spells Faulty limit unfed octets fed d → AllByRecursion P d.waiting
-waiting_meet P Spells Faulty limit each octets (Ok x) d f = all_begun P Spells each octets f.added d.waiting d.held f.splits.begins f.waiting
-waiting_meet P Spells Faulty limit each octets (Err (faults.First place fault)) d f = all_begun P Spells each octets f.added d.waiting f.fails.rest f.fails.begins f.waiting
-waiting_meet {X} {M} {E} P Spells Faulty limit each octets (Err faults.Failed) d f = subst (λ (x : Fed M E). AllByRecursion P x.waiting) (sym f.1) tt
-waiting_meet {X} {M} {E} P Spells Faulty limit each octets (Err faults.NoMemory) d f = subst (λ (x : Fed M E). AllByRecursion P x.waiting) (sym f.1) tt
+-- What each unit's messages meet, and those before a fault, the messages that wait meet.
+pub waiting_meet : {X M E : Type 0} (P : M → Type 0) (Spells : List M → List ℕ → Type 0) (Faulty : List ℕ → List M → ℕ → E → Type 0) (limit : ℕ) → ((ms : List M) (text : List ℕ) → Spells ms text → AllByRecursion P ms)
+    → ((octets : List ℕ) (ms : List M) (offset : ℕ) (e : E) → Faulty octets ms offset e → AllByRecursion P ms) → (octets : List ℕ) (fed : Result X (FeedFault E)) (d : Fed M E) → Feeds Spells Faulty limit unfed octets fed d → AllByRecursion P d.waiting
+waiting_meet P Spells Faulty limit each before octets (Ok x) d f = all_begun P Spells each octets f.added d.waiting d.held f.splits.begins f.waiting
+waiting_meet P Spells Faulty limit each before octets (Err (faults.First place fault)) d f =
+    let k = f.fails in
+    let all = all_append P k.first k.last (all_begun P Spells each octets k.first k.first k.rest k.begins refl) (before k.rest k.last k.offset fault k.faulty) in
+    subst (AllByRecursion P) (sym (f.waiting ∙ k.messages)) all
+waiting_meet {X} {M} {E} P Spells Faulty limit each before octets (Err faults.Failed) d f = subst (λ (x : Fed M E). AllByRecursion P x.waiting) (sym f.1) tt
+waiting_meet {X} {M} {E} P Spells Faulty limit each before octets (Err faults.NoMemory) d f = subst (λ (x : Fed M E). AllByRecursion P x.waiting) (sym f.1) tt
 
 -- ---- octets are whole, or they stop
 
@@ -78,7 +82,7 @@ waiting_meet {X} {M} {E} P Spells Faulty limit each octets (Err faults.NoMemory)
 pub units_apart : {M E : Type 0} (front : List ℕ → Front M E) (s : Session M E) (limit : ℕ) → IsFormat front s.Spells s.Faulty limit → (octets : List ℕ) (ms ns : List M) (place : ℕ) (word : List ℕ) → IsOctets octets → AreUnits s octets ms → StopsAt s octets ns place word → ⊥
 units_apart front s limit format octets ms ns place word fits units (faulty e fails is) = whole_fails front s.Spells s.Faulty limit format octets ms ns place e fits units fails
 units_apart front s limit format octets ms ns place word fits units (inside ends is) =
-    let none = whole_rest front s.Spells format.stream.framing octets ms ns ends.rest fits units ends.splits in
+    let none = whole_rest front s.Spells format.stream.framing octets ms ns ends.rest units ends.splits in
     absurd (omega (arith, ends.more, ap (λ (xs : List ℕ). length xs) none))
 
 -- Octets that are whole units are told so.

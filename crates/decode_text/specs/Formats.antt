@@ -20,7 +20,7 @@ use Rattle.mvpn_nlri.specs.FirstFault as route_faults
 use Rattle.mvpn_nlri.specs.Spelling as routes
 use Rattle.bgp_attributes.specs.declared.fault.StreamFault.{StreamFault}
 use Rattle.bgp_attributes.specs.declared.update.Message.{Message}
-use Rattle.bgp_update.specs.FirstFault.{MessageFault}
+use Rattle.bgp_update.specs.FirstFault.{UnitFault}
 use Rattle.bgp_update.specs.Spelling.{SpellsMessage}
 use Rattle.mldp_msgs.specs.declared.fault.LdpFault.{LdpFault}
 use Rattle.mldp_msgs.specs.declared.message.LabelMessage.{LabelMessage}
@@ -75,7 +75,7 @@ of_pim = record {
 
 -- messages of BGP
 abbrev pub of_bgp : Session Message StreamFault
-of_bgp = record { Spells = SpellsMessage; Faulty = MessageFault; lines = message_lines; word = bgp_word }
+of_bgp = record { Spells = SpellsMessage; Faulty = UnitFault; lines = message_lines; word = bgp_word }
 
 -- PDUs of LDP, with their label messages
 abbrev pub of_ldp : Session LabelMessage LdpFault

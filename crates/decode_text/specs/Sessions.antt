@@ -1,20 +1,20 @@
--- Octets that are the units of a session end to end, or units behind which a fault stands or the octets end; and the
+-- Octets that are the units of a session end to end, or units behind which one at fault stands or the octets end; and the
 -- lines of both.
 use Rattle.std.specs.Prelude.{◌≡◌, ℕ, ◌+◌, ◌<◌, Bool, true, false, List, [], ◌++◌, length, codes, Option, None, Some, Result, Ok, Err}
 use Rattle.std.specs.List.{flat_map}
 use Rattle.framing.specs.Units.{Begins, Splits}
-use Rattle.framing.specs.Cut.{Fails}
+use Rattle.framing.specs.Cut.{Fails, NoFault}
 use Rattle.framing.specs.Feed.{Fed}
 use Rattle.framing.specs.Feeding.{unfinished}
 use Rattle.framing.specs.declared.fault.FeedFault.{FeedFault}
 use Rattle.framing.specs.declared.fault.FeedFault.TheVariants as faults
 use Rattle.value_text.specs.ValueText.{refused_line}
 
--- How the units of a session are spelled and told: the octets of a unit with its messages, the first fault of octets,
--- the lines of a message, and the word of a fault.
+-- How the units of a session are spelled and told: the octets of a unit with its messages, the first fault of octets with
+-- the messages that stand before it in the unit at fault, the lines of a message, and the word of a fault.
 pub record Session (M E : Type 0) : Type 1 where
   pub Spells : List M → List ℕ → Type 0
-  pub Faulty : List ℕ → ℕ → E → Type 0
+  pub Faulty : List ℕ → List M → ℕ → E → Type 0
   pub lines : M → List ℕ
   pub word : E → List ℕ
 
@@ -27,10 +27,11 @@ pub record EndsInside {M E : Type 0} (s : Session M E) (octets : List ℕ) (ms :
   pub rest : List ℕ
   pub splits : Splits s.Spells octets ms rest
   pub more : 0 < length rest
-  pub sound : (offset : ℕ) (e : E) → ¬ (s.Faulty rest offset e)
+  pub sound : NoFault s.Faulty rest
   pub at : place + length rest ≡ length octets
 
--- Behind whole units the octets stop at the place, for the reason of that word: a first fault, or that they end.
+-- The octets stop at the place behind these messages, for the reason of that word: a first fault, or that they end inside
+-- a unit.
 pub data StopsAt {M E : Type 0} (s : Session M E) (octets : List ℕ) (ms : List M) (place : ℕ) (word : List ℕ) : Type 0 where
   faulty : (e : E) → Fails s.Spells s.Faulty octets ms place e → word ≡ s.word e → StopsAt s octets ms place word
   inside : EndsInside s octets ms place → word ≡ codes "short" → StopsAt s octets ms place word

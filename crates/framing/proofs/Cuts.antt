@@ -1,12 +1,13 @@
 -- Cutting a stream into units, and its laws.
 use Rattle.std.proofs.Common.{◌≡◌, ℕ, zero, suc, ◌+◌, ◌-◌, ◌<◌, ◌≤◌, List, [], ◌∷◌, ◌++◌, length, take, drop, Option, Some, None, refl, sym, ap, subst, ◌∙◌, append_assoc, arith, inl, inr}
 use Rattle.std.proofs.Math.Nat.{add-zero}
-use Rattle.std.proofs.lemmas.List.{length-append, length-drop, length-take-le, drop_at, append-nil, take-append-drop, get_or-drop, get_or_append_left, get_or_past}
+use Rattle.std.proofs.lemmas.List.{length-append, length-drop, length-take-le, drop_at, take_at, take-append-drop, get_or-drop, get_or_append_left, get_or_past, append_cancel_left}
 use Rattle.std.proofs.lemmas.Bool.{cases_lt}
 use Rattle.mv_base.specs.Octets.{IsOctets}
 use Rattle.framing.specs.Units.{Spelled, octets_of, messages_of, AreUnits, Begins, NoUnit, Splits}
 use Rattle.framing.specs.Cut.{Front, Cut, with_front, cut_at, cut, Fails}
 use Rattle.framing.specs.Cut.Front.{more, whole, bad}
+use Rattle.framing.proofs.Fronts.{whole_is}
 
 -- what a front tells is what is spelled
 pub record IsFraming {M E : Type 0} (front : List ℕ → Front M E) (Spells : List M → List ℕ → Type 0) : Type 0 where
@@ -18,7 +19,7 @@ pub record IsFraming {M E : Type 0} (front : List ℕ → Front M E) (Spells : L
 -- and a fault stays, whatever comes later
 pub record IsStream {M E : Type 0} (front : List ℕ → Front M E) (Spells : List M → List ℕ → Type 0) : Type 0 where
   pub framing : IsFraming front Spells
-  pub kept : (xs ys : List ℕ) (offset : ℕ) (e : E) → front xs ≡ bad offset e → front (xs ++ ys) ≡ bad offset e
+  pub kept : (xs ys : List ℕ) (ms : List M) (offset : ℕ) (e : E) → front xs ≡ bad ms offset e → front (xs ++ ys) ≡ bad ms offset e
 
 pub IsOctets-drop : (n : ℕ) (octets : List ℕ) → IsOctets octets → IsOctets (drop n octets)
 IsOctets-drop n octets h i = rw get_or-drop (h (n + i))
@@ -60,10 +61,10 @@ waits front place [] e = refl
 waits front place (b ∷ bs) e = rw (e, cut_at) refl
 
 -- a fault stands here
-pub stops : {M E : Type 0} (front : List ℕ → Front M E) (place offset : ℕ) (fault : E) (xs : List ℕ) → front [] ≡ more → front xs ≡ bad offset fault → cut_at front place 0 xs ≡ record { messages = []; rest = xs; fault = Some (place + offset, fault) }
+pub stops : {M E : Type 0} (front : List ℕ → Front M E) (place offset : ℕ) (fault : E) (ms : List M) (xs : List ℕ) → front [] ≡ more → front xs ≡ bad ms offset fault → cut_at front place 0 xs ≡ record { messages = ms; rest = xs; fault = Some (place + offset, fault) }
 unfolding cut_at
-stops front place offset fault [] none e = absurd cc
-stops front place offset fault (b ∷ bs) none e = rw (e, cut_at) refl
+stops front place offset fault ms [] none e = absurd cc
+stops front place offset fault ms (b ∷ bs) none e = rw (e, cut_at) refl
 
 pub with_nothing : {M E : Type 0} (c : Cut M E) → with_front [] c ≡ c
 with_nothing c = refl
@@ -121,21 +122,27 @@ begun_behind Spells ms text after ns rest stream h parts b = record {
 
 -- ---- what a cut finds
 
--- what stands at the end of a cut that began at the place with so many octets
-abbrev pub Ends : {M E : Type 0} → (List ℕ → Front M E) → ℕ → List ℕ → Option (ℕ × E) → Type 0
-Ends front end rest None = front rest ≡ more
-Ends front end rest (Some f) = (offset : ℕ) × (front rest ≡ bad offset f.1) × (f.0 + length rest ≡ end + offset)
+-- what stands behind the whole units, whose messages are the first of all, in octets that end at this place
+abbrev pub Ends : {M E : Type 0} → (List ℕ → Front M E) → ℕ → List ℕ → List M → List M → Option (ℕ × E) → Type 0
+Ends front end rest first all None = (front rest ≡ more) × (all ≡ first)
+Ends {M} front end rest first all (Some f) = (last : List M) × (offset : ℕ) × (front rest ≡ bad last offset f.1) × (f.0 + length rest ≡ end + offset) × (all ≡ first ++ last)
 
 pub record Found {M E : Type 0} (front : List ℕ → Front M E) (Spells : List M → List ℕ → Type 0) (place : ℕ) (xs : List ℕ) (c : Cut M E) : Type 0 where
-  pub begins : Begins Spells xs c.messages c.rest
-  pub ends : Ends front (place + length xs) c.rest c.fault
+  pub first : List M
+  pub begins : Begins Spells xs first c.rest
+  pub ends : Ends front (place + length xs) c.rest first c.messages c.fault
+
+-- the same behind a unit
+ends_behind : {M E : Type 0} (front : List ℕ → Front M E) (end : ℕ) (rest : List ℕ) (ms first all : List M) (o : Option (ℕ × E)) → Ends front end rest first all o → Ends front end rest (ms ++ first) (ms ++ all) o
+ends_behind front end rest ms first all None (stands, same) = (stands, ap (λ (xs : List _). ms ++ xs) same)
+ends_behind front end rest ms first all (Some f) (last, offset, stands, at, same) = (last, offset, stands, at, ap (λ (xs : List _). ms ++ xs) same ∙ sym (append_assoc ms first last))
 
 found_at : {M E : Type 0} (front : List ℕ → Front M E) (Spells : List M → List ℕ → Type 0) (framing : IsFraming front Spells) (n place : ℕ) (xs : List ℕ) → length xs ≤ n → IsOctets xs
     → ((p : ℕ) (ys : List ℕ) → length ys < length xs → IsOctets ys → Found front Spells p ys (cut_at front p 0 ys)) → (o : Front M E) → front xs ≡ o → Found front Spells place xs (cut_at front place 0 xs)
 found_at front Spells framing n place xs le fits others more e =
-    subst (Found front Spells place xs) (sym (waits front place xs e)) (record { begins = nothing_begun Spells xs; ends = e })
-found_at front Spells framing n place xs le fits others (bad offset fault) e =
-    subst (Found front Spells place xs) (sym (stops front place offset fault xs framing.empty e)) (record { begins = nothing_begun Spells xs; ends = (offset, e, omega arith) })
+    subst (Found front Spells place xs) (sym (waits front place xs e)) (record { first = []; begins = nothing_begun Spells xs; ends = (e, refl) })
+found_at front Spells framing n place xs le fits others (bad ms offset fault) e =
+    subst (Found front Spells place xs) (sym (stops front place offset fault ms xs framing.empty e)) (record { first = []; begins = nothing_begun Spells xs; ends = (ms, offset, e, omega arith, refl) })
 found_at front Spells framing n place xs le fits others (whole k ms) e =
     let taken = framing.taken xs k ms fits e in
     let len : length (take k xs) ≡ k = length-take-le k xs taken.0 in
@@ -145,8 +152,9 @@ found_at front Spells framing n place xs le fits others (whole k ms) e =
     let end : place + k + length (drop k xs) ≡ place + length xs = omega (arith, taken.0) in
     let c : Cut _ _ = cut_at front (place + k) 0 (drop k xs) in
     subst (Found front Spells place xs) (sym (one_further front place k ms xs pos taken.0 e)) (record {
-      begins = begun_behind Spells ms (take k xs) (drop k xs) c.messages c.rest xs taken.1 (sym (take-append-drop k xs)) rest.begins;
-      ends = subst (λ (m : ℕ). Ends front m c.rest c.fault) end rest.ends;
+      first = ms ++ rest.first;
+      begins = begun_behind Spells ms (take k xs) (drop k xs) rest.first c.rest xs taken.1 (sym (take-append-drop k xs)) rest.begins;
+      ends = ends_behind front (place + length xs) c.rest ms rest.first c.messages c.fault (subst (λ (m : ℕ). Ends front m c.rest rest.first c.messages c.fault) end rest.ends);
     })
 
 found_by : {M E : Type 0} (front : List ℕ → Front M E) (Spells : List M → List ℕ → Type 0) (framing : IsFraming front Spells) (n place : ℕ) (xs : List ℕ) → length xs ≤ n → IsOctets xs → Found front Spells place xs (cut_at front place 0 xs)
@@ -163,10 +171,10 @@ none_whole front Spells framing rest e ms text after h same =
 
 -- ---- one cut and the next
 
--- where no fault stands, what comes later is cut behind what was held back
-pub cut_on : {M E : Type 0} (front : List ℕ → Front M E) (Spells : List M → List ℕ → Type 0) (framing : IsFraming front Spells) (place there : ℕ) (xs ys : List ℕ) (c : Cut M E) → Found front Spells place xs c → there + length c.rest ≡ place + length xs → cut_at front place 0 (xs ++ ys) ≡ with_front c.messages (cut_at front there 0 (c.rest ++ ys))
+-- what comes later is cut behind the whole units and what was held back
+pub cut_on : {M E : Type 0} (front : List ℕ → Front M E) (Spells : List M → List ℕ → Type 0) (framing : IsFraming front Spells) (place there : ℕ) (xs ys : List ℕ) (c : Cut M E) → (f : Found front Spells place xs c) → there + length c.rest ≡ place + length xs → cut_at front place 0 (xs ++ ys) ≡ with_front f.first (cut_at front there 0 (c.rest ++ ys))
 cut_on front Spells framing place there xs ys c f at =
-    begun front Spells framing place there (xs ++ ys) c.messages (c.rest ++ ys) (begun_more Spells xs c.messages c.rest ys f.begins) (omega (arith, at, length-append c.rest ys, length-append xs ys))
+    begun front Spells framing place there (xs ++ ys) f.first (c.rest ++ ys) (begun_more Spells xs f.first c.rest ys f.begins) (omega (arith, at, length-append c.rest ys, length-append xs ys))
 
 -- the rest of a cut is no longer than what was cut
 pub rest_le : {M E : Type 0} (front : List ℕ → Front M E) (Spells : List M → List ℕ → Type 0) (place : ℕ) (xs : List ℕ) (c : Cut M E) → Found front Spells place xs c → length c.rest ≤ length xs
@@ -175,52 +183,55 @@ rest_le front Spells place xs c f = omega (arith, ap (λ (ys : List ℕ). length
 -- a fault stays, with the messages before it
 pub cut_stays : {M E : Type 0} (front : List ℕ → Front M E) (Spells : List M → List ℕ → Type 0) (kind : IsStream front Spells) (place : ℕ) (xs ys : List ℕ) (c : Cut M E) (f : ℕ × E) → Found front Spells place xs c → c.fault ≡ Some f → cut_at front place 0 (xs ++ ys) ≡ record { messages = c.messages; rest = c.rest ++ ys; fault = Some f }
 cut_stays front Spells kind place xs ys c f h e =
-    let ends = subst (Ends front (place + length xs) c.rest) e h.ends in
+    let ends = subst (Ends front (place + length xs) c.rest h.first c.messages) e h.ends in
     let short = rest_le front Spells place xs c h in
     let there : ℕ = place + (length xs - length c.rest) in
     let at : there + length c.rest ≡ place + length xs = omega arith in
-    let here : there + ends.0 ≡ f.0 = omega (arith, ends.2) in
+    let here : there + ends.1 ≡ f.0 = omega (arith, ends.3) in
     cut_on front Spells kind.framing place there xs ys c h at
-    ∙ ap (with_front c.messages) (stops front there ends.0 f.1 (c.rest ++ ys) kind.framing.empty (kind.kept c.rest ys ends.0 f.1 ends.1))
-    ∙ ap (λ (p : ℕ). record { messages = c.messages ++ []; rest = c.rest ++ ys; fault = Some (p, f.1) }) here
-    ∙ ap (λ (ms : List _). record { messages = ms; rest = c.rest ++ ys; fault = Some f }) (append-nil c.messages)
+    ∙ ap (with_front h.first) (stops front there ends.1 f.1 ends.0 (c.rest ++ ys) kind.framing.empty (kind.kept c.rest ys ends.0 ends.1 f.1 ends.2))
+    ∙ ap (λ (p : ℕ). record { messages = h.first ++ ends.0; rest = c.rest ++ ys; fault = Some (p, f.1) }) here
+    ∙ ap (λ (ms : List _). record { messages = ms; rest = c.rest ++ ys; fault = Some f }) (sym ends.4)
 
 -- ---- one way to split
 
-only_nothing : {M : Type 0} (Spells : List M → List ℕ → Type 0) (rest : List ℕ) (ms : List M) (last : List ℕ) → NoUnit Spells rest → (units : List (Spelled M)) → AreUnits Spells units → rest ≡ octets_of units ++ last → ms ≡ messages_of units → (ms ≡ []) × (last ≡ rest)
-only_nothing Spells rest ms last none [] are parts carried = (carried, sym parts)
-only_nothing Spells rest ms last none (u ∷ us) are parts carried = absurd (none u.messages u.octets (octets_of us ++ last) are.0 (parts ∙ append_assoc u.octets (octets_of us) last))
+-- No unit's spelling begins another's.
+pub one_unit : {M E : Type 0} (front : List ℕ → Front M E) (Spells : List M → List ℕ → Type 0) → IsFraming front Spells → (ms ns : List M) (text other x y : List ℕ) → Spells ms text → Spells ns other → text ++ x ≡ other ++ y → (text ≡ other) × (ms ≡ ns)
+one_unit {M} {E} front Spells framing ms ns text other x y a b same =
+    let both : ◌≡◌ {A = Front M E} (whole (length text) ms) (whole (length other) ns) = sym (framing.again ms text x a) ∙ ap front same ∙ framing.again ns other y b in
+    let parts = whole_is (length text) (length other) ms ns both in
+    (sym (take_at text x (length text) refl) ∙ ap (take (length text)) same ∙ take_at other y (length text) (sym parts.0), parts.1)
 
--- a split is what the cut finds
-pub split_is : {M E : Type 0} (front : List ℕ → Front M E) (Spells : List M → List ℕ → Type 0) (framing : IsFraming front Spells) (stream : List ℕ) (ms : List M) (rest : List ℕ) → IsOctets stream → Splits Spells stream ms rest → ((cut front stream).messages ≡ ms) × ((cut front stream).rest ≡ rest)
-split_is {M} {E} front Spells framing stream ms rest fits s =
-    let b = s.begins in
-    let there : ℕ = length (octets_of b.units) in
-    let at : there + length rest ≡ 0 + length stream = omega (arith, ap (λ (xs : List ℕ). length xs) b.parts, length-append (octets_of b.units) rest) in
-    let d : Cut M E = cut_at front there 0 rest in
-    let is : cut front stream ≡ with_front ms d = begun front Spells framing 0 there stream ms rest b at in
-    let f = found front Spells framing there rest (IsOctets-behind (octets_of b.units) rest (subst IsOctets b.parts fits)) in
-    let n = only_nothing Spells rest d.messages d.rest s.no_unit f.begins.units f.begins.each f.begins.parts f.begins.carried in
-    (ap (λ (c : Cut M E). c.messages) is ∙ ap (λ (xs : List M). ms ++ xs) n.0 ∙ append-nil ms, ap (λ (c : Cut M E). c.rest) is ∙ n.1)
+same_units : {M E : Type 0} (front : List ℕ → Front M E) (Spells : List M → List ℕ → Type 0) → IsFraming front Spells → (us vs : List (Spelled M)) (a b : List ℕ) → AreUnits Spells us → AreUnits Spells vs → NoUnit Spells a → NoUnit Spells b → octets_of us ++ a ≡ octets_of vs ++ b → (messages_of us ≡ messages_of vs) × (a ≡ b)
+same_units front Spells framing [] [] a b h k none none' same = (refl, same)
+same_units front Spells framing [] (v ∷ vs) a b h k none none' same = absurd (none v.messages v.octets (octets_of vs ++ b) k.0 (same ∙ append_assoc v.octets (octets_of vs) b))
+same_units front Spells framing (u ∷ us) [] a b h k none none' same = absurd (none' u.messages u.octets (octets_of us ++ a) h.0 (sym same ∙ append_assoc u.octets (octets_of us) a))
+same_units {M} front Spells framing (u ∷ us) (v ∷ vs) a b h k none none' same =
+    let x : List ℕ = octets_of us ++ a in
+    let y : List ℕ = octets_of vs ++ b in
+    let both : u.octets ++ x ≡ v.octets ++ y = sym (append_assoc u.octets (octets_of us) a) ∙ same ∙ append_assoc v.octets (octets_of vs) b in
+    let one = one_unit front Spells framing u.messages v.messages u.octets v.octets x y h.0 k.0 both in
+    let behind : x ≡ y = append_cancel_left u.octets x y (both ∙ ap (λ (text : List ℕ). text ++ y) (sym one.0)) in
+    let rest = same_units front Spells framing us vs a b h.1 k.1 none none' behind in
+    (ap (λ (ms : List M). ms ++ messages_of us) one.1 ∙ ap (λ (ms : List M). v.messages ++ ms) rest.0, rest.1)
 
-pub one_split : {M E : Type 0} (front : List ℕ → Front M E) (Spells : List M → List ℕ → Type 0) (framing : IsFraming front Spells) (stream : List ℕ) (ms ns : List M) (a b : List ℕ) → IsOctets stream → Splits Spells stream ms a → Splits Spells stream ns b → (ms ≡ ns) × (a ≡ b)
-one_split front Spells framing stream ms ns a b fits s t =
-    let p = split_is front Spells framing stream ms a fits s in
-    let q = split_is front Spells framing stream ns b fits t in
-    (sym p.0 ∙ q.0, sym p.1 ∙ q.1)
+pub one_split : {M E : Type 0} (front : List ℕ → Front M E) (Spells : List M → List ℕ → Type 0) (framing : IsFraming front Spells) (stream : List ℕ) (ms ns : List M) (a b : List ℕ) → Splits Spells stream ms a → Splits Spells stream ns b → (ms ≡ ns) × (a ≡ b)
+one_split front Spells framing stream ms ns a b s t =
+    let is = same_units front Spells framing s.begins.units t.begins.units a b s.begins.each t.begins.each s.no_unit t.no_unit (sym s.begins.parts ∙ t.begins.parts) in
+    (s.begins.carried ∙ is.0 ∙ sym t.begins.carried, is.1)
 
 -- what a cut without a fault finds is a split
 pub cut_splits : {M E : Type 0} (front : List ℕ → Front M E) (Spells : List M → List ℕ → Type 0) (framing : IsFraming front Spells) (stream : List ℕ) → IsOctets stream → (cut front stream).fault ≡ None → Splits Spells stream (cut front stream).messages (cut front stream).rest × (front (cut front stream).rest ≡ more)
 cut_splits {M} {E} front Spells framing stream fits none =
     let f = found front Spells framing 0 stream fits in
     let c : Cut M E = cut front stream in
-    let ends : front c.rest ≡ more = subst (Ends front (0 + length stream) c.rest) none f.ends in
-    (record { begins = f.begins; no_unit = none_whole front Spells framing c.rest ends }, ends)
+    let ends = subst (Ends front (0 + length stream) c.rest f.first c.messages) none f.ends in
+    (record { begins = subst (λ (ms : List M). Begins Spells stream ms c.rest) (sym ends.1) f.begins; no_unit = none_whole front Spells framing c.rest ends.0 }, ends.0)
 
 -- ..and one with a fault
-pub cut_fails : {M E : Type 0} (front : List ℕ → Front M E) (Spells : List M → List ℕ → Type 0) (framing : IsFraming front Spells) (stream : List ℕ) (f : ℕ × E) → IsOctets stream → (cut front stream).fault ≡ Some f → Fails Spells (λ rest offset e. front rest ≡ bad offset e) stream (cut front stream).messages f.0 f.1
+pub cut_fails : {M E : Type 0} (front : List ℕ → Front M E) (Spells : List M → List ℕ → Type 0) (framing : IsFraming front Spells) (stream : List ℕ) (f : ℕ × E) → IsOctets stream → (cut front stream).fault ≡ Some f → Fails Spells (λ rest ms offset e. front rest ≡ bad ms offset e) stream (cut front stream).messages f.0 f.1
 cut_fails {M} {E} front Spells framing stream f fits some =
     let h = found front Spells framing 0 stream fits in
     let c : Cut M E = cut front stream in
-    let ends = subst (Ends front (0 + length stream) c.rest) some h.ends in
-    record { rest = c.rest; offset = ends.0; begins = h.begins; at = omega (arith, ends.2); faulty = ends.1 }
+    let ends = subst (Ends front (0 + length stream) c.rest h.first c.messages) some h.ends in
+    record { first = h.first; last = ends.0; rest = c.rest; offset = ends.1; begins = h.begins; faulty = ends.2; messages = ends.4; at = omega (arith, ends.3) }

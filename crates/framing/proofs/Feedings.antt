@@ -1,29 +1,29 @@
 -- What a feed answers and leaves.
-use Rattle.std.proofs.Common.{◌≡◌, ℕ, ◌+◌, ◌-◌, ◌<◌, ◌≤◌, List, [], ◌∷◌, ◌++◌, length, take, Option, Some, None, Result, Ok, Err, refl, sym, ap, subst, ◌∙◌, arith, inl, inr}
+use Rattle.std.proofs.Common.{◌≡◌, ℕ, ◌+◌, ◌-◌, ◌<◌, ◌≤◌, List, [], ◌∷◌, ◌++◌, length, take, drop, Option, Some, None, Result, Ok, Err, refl, sym, ap, subst, ◌∙◌, arith, inl, inr}
 use Rattle.std.specs.Option.{unwrap_or}
-use Rattle.std.proofs.lemmas.List.{append-nil, take_at, length-append}
+use Rattle.std.proofs.lemmas.List.{append-nil, take_at, length-append, take-append-drop}
 use Rattle.mv_base.specs.Octets.{IsOctets}
 use Rattle.mv_base.specs.declared.memory.NoMemory.{NoMemory}
 use Rattle.framing.specs.Units.{Splits, octets_of, Begins, NoUnit}
-use Rattle.framing.specs.Cut.{Front, Cut, cut, with_front, Fails, IsCutting, IsNear}
+use Rattle.framing.specs.Cut.{Front, Cut, cut, with_front, Fails, NoFault, Yields, IsCutting, IsNear}
 use Rattle.framing.specs.Cut.Front.{more, whole, bad}
+use Rattle.framing.specs.Cut.Yields.{sound as AllWhole, faulty as BehindFault}
 use Rattle.framing.specs.Feed.{Fed, fed, unfed, fed_by, fed_unless, further, moved, held_of}
 use Rattle.framing.specs.Feeding.{Appends, Accepts, accepted, Takes, FeedIs, Adds, Stops, Feeds, AnswersFirst}
 use Rattle.framing.specs.declared.cutting.Cutting.{Cutting}
 use Rattle.framing.specs.declared.fault.FeedFault.{FeedFault}
 use Rattle.framing.specs.declared.fault.FeedFault.TheVariants as faults
 use Rattle.framing.proofs.Cuts.{IsStream, IsFraming, cut_splits, cut_fails, begun, stops, waits, IsOctets-behind, one_split}
-use Rattle.framing.proofs.Fronts.{whole_is}
 use Rattle.framing.proofs.Loops.{fed_found}
 use Rattle.std.specs.Result.{IfOk}
 use Rattle.std.specs.Option.{IsSome}
 
 -- What stands at the front is what the format says: units, first faults, and less than the limit where more has to come.
-pub record IsFormat {M E : Type 0} (front : List ℕ → Front M E) (Spells : List M → List ℕ → Type 0) (Faulty : List ℕ → ℕ → E → Type 0) (limit : ℕ) : Type 0 where
+pub record IsFormat {M E : Type 0} (front : List ℕ → Front M E) (Spells : List M → List ℕ → Type 0) (Faulty : List ℕ → List M → ℕ → E → Type 0) (limit : ℕ) : Type 0 where
   pub stream : IsStream front Spells
   pub waits : (xs : List ℕ) → front xs ≡ more → length xs < limit
-  pub fails : (xs : List ℕ) (offset : ℕ) (e : E) → IsOctets xs → front xs ≡ bad offset e → Faulty xs offset e
-  pub faulty : (xs : List ℕ) (offset : ℕ) (e : E) → IsOctets xs → Faulty xs offset e → front xs ≡ bad offset e
+  pub fails : (xs : List ℕ) (ms : List M) (offset : ℕ) (e : E) → IsOctets xs → front xs ≡ bad ms offset e → Faulty xs ms offset e
+  pub faulty : (xs : List ℕ) (ms : List M) (offset : ℕ) (e : E) → IsOctets xs → Faulty xs ms offset e → front xs ≡ bad ms offset e
 
 -- ---- a feed, by what stands at the fronts
 
@@ -82,15 +82,15 @@ stopped {E} before place fault (Some f) e =
     (f.0, ap (λ (x : E). Some (f.0, x)) same, sym (ap (λ (o : Option (ℕ × E)). (unwrap_or o (place, fault)).0) e))
 
 -- where more has to come, there is no fault
-no_fault : {M E : Type 0} (front : List ℕ → Front M E) (Spells : List M → List ℕ → Type 0) (Faulty : List ℕ → ℕ → E → Type 0) (limit : ℕ) → IsFormat front Spells Faulty limit → (rest : List ℕ) → IsOctets rest → front rest ≡ more → (offset : ℕ) (e : E) → ¬ (Faulty rest offset e)
-no_fault {M} {E} front Spells Faulty limit format rest fits waits offset e faulty =
-    let clash : ◌≡◌ {A = Front M E} more (bad offset e) = sym waits ∙ format.faulty rest offset e fits faulty in
+no_fault : {M E : Type 0} (front : List ℕ → Front M E) (Spells : List M → List ℕ → Type 0) (Faulty : List ℕ → List M → ℕ → E → Type 0) (limit : ℕ) → IsFormat front Spells Faulty limit → (rest : List ℕ) → IsOctets rest → front rest ≡ more → NoFault Faulty rest
+no_fault {M} {E} front Spells Faulty limit format rest fits waits ms offset e faulty =
+    let clash : ◌≡◌ {A = Front M E} more (bad ms offset e) = sym waits ∙ format.faulty rest ms offset e fits faulty in
     absurd cc
 
 rest_octets : {M : Type 0} (Spells : List M → List ℕ → Type 0) (stream : List ℕ) (ms : List M) (rest : List ℕ) → IsOctets stream → Begins Spells stream ms rest → IsOctets rest
 rest_octets Spells stream ms rest fits b = IsOctets-behind (octets_of b.units) rest (subst IsOctets b.parts fits)
 
-adds : {M E : Type 0} (front : List ℕ → Front M E) (Spells : List M → List ℕ → Type 0) (Faulty : List ℕ → ℕ → E → Type 0) (limit : ℕ) → IsFormat front Spells Faulty limit → (old : Fed M E) (piece : List ℕ) (new : Fed M E) → Takes front old piece new None → Adds Spells Faulty limit old piece new
+adds : {M E : Type 0} (front : List ℕ → Front M E) (Spells : List M → List ℕ → Type 0) (Faulty : List ℕ → List M → ℕ → E → Type 0) (limit : ℕ) → IsFormat front Spells Faulty limit → (old : Fed M E) (piece : List ℕ) (new : Fed M E) → Takes front old piece new None → Adds Spells Faulty limit old piece new
 adds {M} {E} front Spells Faulty limit format old piece new t =
     let c : Cut M E = cut front (old.held ++ piece) in
     let is = fed_cut front old piece new None t in
@@ -102,14 +102,28 @@ adds {M} {E} front Spells Faulty limit format old piece new t =
       unfailed = t.unfailed;
       added = c.messages;
       splits = subst (Splits Spells (old.held ++ piece) c.messages) (sym held) s.0;
-      sound = λ offset e faulty. no_fault front Spells Faulty limit format c.rest fits s.1 offset e (subst (λ (xs : List ℕ). Faulty xs offset e) held faulty);
+      sound = subst (λ (xs : List ℕ). NoFault Faulty xs) (sym held) (no_fault front Spells Faulty limit format c.rest fits s.1);
       bound = subst (λ (xs : List ℕ). length xs < limit) (sym held) (format.waits c.rest s.1);
       waiting = ap (λ (d : Fed M E). d.waiting) is;
       before = ap (λ (d : Fed M E). d.before) is ∙ ap (λ (xs : List ℕ). further old.before (length (old.held ++ piece) - length xs)) (sym held);
       still = t.fault;
     }
 
-stops_at : {M E : Type 0} (front : List ℕ → Front M E) (Spells : List M → List ℕ → Type 0) (Faulty : List ℕ → ℕ → E → Type 0) (limit : ℕ) → IsFormat front Spells Faulty limit → (old : Fed M E) (piece : List ℕ) (new : Fed M E) (place : ℕ) (fault : E) → Takes front old piece new (Some (place, fault)) → Stops Spells Faulty old piece new place fault
+-- what the fronts say of a fault, the format does
+fails_by : {M E : Type 0} (front : List ℕ → Front M E) (Spells : List M → List ℕ → Type 0) (Faulty : List ℕ → List M → ℕ → E → Type 0) (limit : ℕ) → IsFormat front Spells Faulty limit → (stream : List ℕ) (ms : List M) (place : ℕ) (e : E) → IsOctets stream
+    → Fails Spells (λ rest last offset e. front rest ≡ bad last offset e) stream ms place e → Fails Spells Faulty stream ms place e
+fails_by front Spells Faulty limit format stream ms place e fits f = record {
+  first = f.first;
+  last = f.last;
+  rest = f.rest;
+  offset = f.offset;
+  begins = f.begins;
+  faulty = format.fails f.rest f.last f.offset e (rest_octets Spells stream f.first f.rest fits f.begins) f.faulty;
+  messages = f.messages;
+  at = f.at;
+}
+
+stops_at : {M E : Type 0} (front : List ℕ → Front M E) (Spells : List M → List ℕ → Type 0) (Faulty : List ℕ → List M → ℕ → E → Type 0) (limit : ℕ) → IsFormat front Spells Faulty limit → (old : Fed M E) (piece : List ℕ) (new : Fed M E) (place : ℕ) (fault : E) → Takes front old piece new (Some (place, fault)) → Stops Spells Faulty old piece new place fault
 stops_at {M} {E} front Spells Faulty limit format old piece new place fault t =
     let c : Cut M E = cut front (old.held ++ piece) in
     let is = fed_cut front old piece new (Some (place, fault)) t in
@@ -119,7 +133,7 @@ stops_at {M} {E} front Spells Faulty limit format old piece new place fault t =
       unfailed = t.unfailed;
       added = c.messages;
       offset = s.0;
-      fails = record { rest = f.rest; offset = f.offset; begins = f.begins; at = f.at; faulty = format.fails f.rest f.offset fault (rest_octets Spells (old.held ++ piece) c.messages f.rest t.octets f.begins) f.faulty };
+      fails = fails_by front Spells Faulty limit format (old.held ++ piece) c.messages s.0 fault t.octets f;
       waiting = ap (λ (d : Fed M E). d.waiting) is;
       near = subst (λ (o : Option (ℕ × E)). IsNear o (length (old.held ++ piece))) s.1 t.near;
       at = s.2;
@@ -127,30 +141,30 @@ stops_at {M} {E} front Spells Faulty limit format old piece new place fault t =
     }
 
 -- What a feed leaves is what is spelled.
-pub feeds : {X M E : Type 0} (front : List ℕ → Front M E) (Spells : List M → List ℕ → Type 0) (Faulty : List ℕ → ℕ → E → Type 0) (limit : ℕ) → IsFormat front Spells Faulty limit → (old : Fed M E) (piece : List ℕ) (r : Result X (FeedFault E)) (new : Fed M E) → FeedIs front old piece r new → Feeds Spells Faulty limit old piece r new
+pub feeds : {X M E : Type 0} (front : List ℕ → Front M E) (Spells : List M → List ℕ → Type 0) (Faulty : List ℕ → List M → ℕ → E → Type 0) (limit : ℕ) → IsFormat front Spells Faulty limit → (old : Fed M E) (piece : List ℕ) (r : Result X (FeedFault E)) (new : Fed M E) → FeedIs front old piece r new → Feeds Spells Faulty limit old piece r new
 feeds front Spells Faulty limit format old piece (Ok x) new t = adds front Spells Faulty limit format old piece new t
 feeds front Spells Faulty limit format old piece (Err (faults.First place fault)) new t = stops_at front Spells Faulty limit format old piece new place fault t
 feeds front Spells Faulty limit format old piece (Err faults.Failed) new t = t
 feeds front Spells Faulty limit format old piece (Err faults.NoMemory) new t = t
 
 -- what is cut of octets that have a first fault
-pub fails_cut : {M E : Type 0} (front : List ℕ → Front M E) (Spells : List M → List ℕ → Type 0) (Faulty : List ℕ → ℕ → E → Type 0) (limit : ℕ) → IsFormat front Spells Faulty limit → (stream : List ℕ) (ms : List M) (place : ℕ) (e : E) → IsOctets stream → Fails Spells Faulty stream ms place e
+pub fails_cut : {M E : Type 0} (front : List ℕ → Front M E) (Spells : List M → List ℕ → Type 0) (Faulty : List ℕ → List M → ℕ → E → Type 0) (limit : ℕ) → IsFormat front Spells Faulty limit → (stream : List ℕ) (ms : List M) (place : ℕ) (e : E) → IsOctets stream → Fails Spells Faulty stream ms place e
     → cut front stream ≡ record { messages = ms; rest = (cut front stream).rest; fault = Some (place, e) }
 fails_cut {M} {E} front Spells Faulty limit format stream ms place e fits f =
     let len : length f.rest ≤ length stream = omega (arith, ap (λ (xs : List ℕ). length xs) f.begins.parts, length-append (octets_of f.begins.units) f.rest) in
     let there : ℕ = length stream - length f.rest in
     let at : there + length f.rest ≡ 0 + length stream = omega (arith, len) in
     let here : there + f.offset ≡ place = omega (arith, f.at, len) in
-    let fronts : front f.rest ≡ bad f.offset e = format.faulty f.rest f.offset e (rest_octets Spells stream ms f.rest fits f.begins) f.faulty in
+    let fronts : front f.rest ≡ bad f.last f.offset e = format.faulty f.rest f.last f.offset e (rest_octets Spells stream f.first f.rest fits f.begins) f.faulty in
     let is : cut front stream ≡ record { messages = ms; rest = f.rest; fault = Some (place, e) } =
-    begun front Spells format.stream.framing 0 there stream ms f.rest f.begins at
-    ∙ ap (with_front ms) (stops front there f.offset e f.rest format.stream.framing.empty fronts)
-    ∙ ap (λ (p : ℕ). record { messages = ms ++ []; rest = f.rest; fault = Some (p, e) }) here
-    ∙ ap (λ (ns : List M). record { messages = ns; rest = f.rest; fault = Some (place, e) }) (append-nil ms) in
+    begun front Spells format.stream.framing 0 there stream f.first f.rest f.begins at
+    ∙ ap (with_front f.first) (stops front there f.offset e f.last f.rest format.stream.framing.empty fronts)
+    ∙ ap (λ (p : ℕ). record { messages = f.first ++ f.last; rest = f.rest; fault = Some (p, e) }) here
+    ∙ ap (λ (ns : List M). record { messages = ns; rest = f.rest; fault = Some (place, e) }) (sym f.messages) in
     is ∙ ap (λ (xs : List ℕ). record { messages = ms; rest = xs; fault = Some (place, e) }) (sym (ap (λ (c : Cut M E). c.rest) is))
 
 -- The first fault is answered.
-pub answers_first : {X M E : Type 0} (front : List ℕ → Front M E) (Spells : List M → List ℕ → Type 0) (Faulty : List ℕ → ℕ → E → Type 0) (limit : ℕ) → IsFormat front Spells Faulty limit → (old : Fed M E) (piece : List ℕ) (r : Result X (FeedFault E)) (new : Fed M E) → FeedIs front old piece r new → AnswersFirst Spells Faulty old piece r
+pub answers_first : {X M E : Type 0} (front : List ℕ → Front M E) (Spells : List M → List ℕ → Type 0) (Faulty : List ℕ → List M → ℕ → E → Type 0) (limit : ℕ) → IsFormat front Spells Faulty limit → (old : Fed M E) (piece : List ℕ) (r : Result X (FeedFault E)) (new : Fed M E) → FeedIs front old piece r new → AnswersFirst Spells Faulty old piece r
 answers_first {X} {M} {E} front Spells Faulty limit format old piece (Ok x) new t ms offset e unfailed f =
     let c = fails_cut front Spells Faulty limit format (old.held ++ piece) ms offset e t.octets f in
     let is = fed_cut front old piece new None t in
@@ -171,14 +185,7 @@ answers_first front Spells Faulty limit format old piece (Err faults.Failed) new
     some_none (Some x) h e = cc
 answers_first front Spells Faulty limit format old piece (Err faults.NoMemory) new t ms offset e unfailed f = inl refl
 
--- ---- units that are told apart
-
--- No unit's spelling begins another's.
-pub one_unit : {M E : Type 0} (front : List ℕ → Front M E) (Spells : List M → List ℕ → Type 0) → IsFraming front Spells → (ms ns : List M) (text other x y : List ℕ) → Spells ms text → Spells ns other → text ++ x ≡ other ++ y → (text ≡ other) × (ms ≡ ns)
-one_unit {M} {E} front Spells framing ms ns text other x y a b same =
-    let both : ◌≡◌ {A = Front M E} (whole (length text) ms) (whole (length other) ns) = sym (framing.again ms text x a) ∙ ap front same ∙ framing.again ns other y b in
-    let parts = whole_is (length text) (length other) ms ns both in
-    (sym (take_at text x (length text) refl) ∙ ap (take (length text)) same ∙ take_at other y (length text) (sym parts.0), parts.1)
+-- ---- one unit alone
 
 -- One whole unit that is fed at first waits alone.
 pub fed_one : {M E : Type 0} (front : List ℕ → Front M E) (Spells : List M → List ℕ → Type 0) → IsFraming front Spells → (ms : List M) (text : List ℕ) → Spells ms text → fed front unfed text ≡ record { waiting = ms; held = []; before = further 0 (length text); fault = None }
@@ -194,13 +201,13 @@ fed_one {M} {E} front Spells framing ms text spells =
 -- ---- whole octets
 
 -- Whole octets are split in one way: nothing is left.
-pub whole_rest : {M E : Type 0} (front : List ℕ → Front M E) (Spells : List M → List ℕ → Type 0) → IsFraming front Spells → (stream : List ℕ) (ms ns : List M) (rest : List ℕ) → IsOctets stream → Begins Spells stream ms [] → Splits Spells stream ns rest → rest ≡ []
-whole_rest front Spells framing stream ms ns rest fits whole_is splits =
+pub whole_rest : {M E : Type 0} (front : List ℕ → Front M E) (Spells : List M → List ℕ → Type 0) → IsFraming front Spells → (stream : List ℕ) (ms ns : List M) (rest : List ℕ) → Begins Spells stream ms [] → Splits Spells stream ns rest → rest ≡ []
+whole_rest front Spells framing stream ms ns rest whole_is splits =
     let none : NoUnit Spells [] = λ m text after spells same. absurd (omega (arith, framing.filled m text spells, ap (λ (xs : List ℕ). length xs) same, length-append text after)) in
-    (one_split front Spells framing stream ns ms rest [] fits splits (record { begins = whole_is; no_unit = none })).1
+    (one_split front Spells framing stream ns ms rest [] splits (record { begins = whole_is; no_unit = none })).1
 
 -- Whole octets have no fault.
-pub whole_fails : {M E : Type 0} (front : List ℕ → Front M E) (Spells : List M → List ℕ → Type 0) (Faulty : List ℕ → ℕ → E → Type 0) (limit : ℕ) → IsFormat front Spells Faulty limit → (stream : List ℕ) (ms ns : List M) (place : ℕ) (e : E) → IsOctets stream → Begins Spells stream ms [] → Fails Spells Faulty stream ns place e → ⊥
+pub whole_fails : {M E : Type 0} (front : List ℕ → Front M E) (Spells : List M → List ℕ → Type 0) (Faulty : List ℕ → List M → ℕ → E → Type 0) (limit : ℕ) → IsFormat front Spells Faulty limit → (stream : List ℕ) (ms ns : List M) (place : ℕ) (e : E) → IsOctets stream → Begins Spells stream ms [] → Fails Spells Faulty stream ns place e → ⊥
 whole_fails {M} {E} front Spells Faulty limit format stream ms ns place e fits whole_is fails =
     let framing = format.stream.framing in
     let is : cut front stream ≡ record { messages = ms ++ []; rest = []; fault = None } =
@@ -208,3 +215,26 @@ whole_fails {M} {E} front Spells Faulty limit format stream ms ns place e fits w
     let none : (cut front stream).fault ≡ None = ap (λ (c : Cut M E). c.fault) is in
     let some : (cut front stream).fault ≡ Some (place, e) = ap (λ (c : Cut M E). c.fault) (fails_cut front Spells Faulty limit format stream ns place e fits fails) in
     absurd cc
+
+-- ---- the messages that octets yield
+
+-- Octets yield the messages of the cut.
+pub yields_cut : {M E : Type 0} (front : List ℕ → Front M E) (Spells : List M → List ℕ → Type 0) (Faulty : List ℕ → List M → ℕ → E → Type 0) (limit : ℕ) → IsFormat front Spells Faulty limit → (octets : List ℕ) (ms : List M) → IsOctets octets → Yields Spells Faulty octets ms → (cut front octets).messages ≡ ms
+yields_cut {M} {E} front Spells Faulty limit format octets ms fits (BehindFault place e f) = ap (λ (c : Cut M E). c.messages) (fails_cut front Spells Faulty limit format octets ms place e fits f)
+yields_cut {M} {E} front Spells Faulty limit format octets ms fits (AllWhole rest splits none) =
+    let there : ℕ = length (octets_of splits.begins.units) in
+    let at : there + length rest ≡ 0 + length octets = omega (arith, ap (λ (xs : List ℕ). length xs) splits.begins.parts, length-append (octets_of splits.begins.units) rest) in
+    let rest_fits : IsOctets rest = rest_octets Spells octets ms rest fits splits.begins in
+    ap (λ (c : Cut M E). c.messages) (begun front Spells format.stream.framing 0 there octets ms rest splits.begins at ∙ ap (with_front ms) (waits front there rest (must_wait rest_fits (front rest) refl)))
+    ∙ append-nil ms
+  where
+    must_wait : IsOctets rest → (o : Front M E) → front rest ≡ o → front rest ≡ more
+    must_wait rest_fits more e = e
+    must_wait rest_fits (whole n ns) e =
+        let taken = format.stream.framing.taken rest n ns rest_fits e in
+        absurd (splits.no_unit ns (take n rest) (drop n rest) taken.1 (sym (take-append-drop n rest)))
+    must_wait rest_fits (bad last offset fault) e = absurd (none last offset fault (format.fails rest last offset fault rest_fits e))
+
+-- Octets yield one list of messages.
+pub one_yield : {M E : Type 0} (front : List ℕ → Front M E) (Spells : List M → List ℕ → Type 0) (Faulty : List ℕ → List M → ℕ → E → Type 0) (limit : ℕ) → IsFormat front Spells Faulty limit → (octets : List ℕ) (ms ns : List M) → IsOctets octets → Yields Spells Faulty octets ms → Yields Spells Faulty octets ns → ms ≡ ns
+one_yield front Spells Faulty limit format octets ms ns fits a b = sym (yields_cut front Spells Faulty limit format octets ms fits a) ∙ yields_cut front Spells Faulty limit format octets ns fits b

@@ -8,15 +8,15 @@ use Rattle.framing.specs.Units.{octets_of}
 use Rattle.framing.specs.Cut.{Front, Cut, with_front, cut_at, cut, shifted, shift}
 use Rattle.framing.specs.Cut.Front.{more, whole, bad}
 use Rattle.framing.specs.Feed.{Fed, further, moved, held_of, fed_by, fed_unless, fed, fed_all, unfed}
-use Rattle.framing.proofs.Cuts.{IsStream, Found, found, cut_on, cut_stays, rest_le, IsOctets-before, IsOctets-behind}
+use Rattle.framing.proofs.Cuts.{IsStream, Found, Ends, found, cut_on, cut_stays, rest_le, IsOctets-before, IsOctets-behind}
 
 -- ---- a place further on
 
 elsewhere_at : {M E : Type 0} (front : List ℕ → Front M E) (by place : ℕ) (b : ℕ) (bs : List ℕ) → ((n : ℕ) → cut_at front (by + (place + 1)) n bs ≡ shift by (cut_at front (place + 1) n bs)) → (o : Front M E) → front (b ∷ bs) ≡ o → cut_at front (by + place) 0 (b ∷ bs) ≡ shift by (cut_at front place 0 (b ∷ bs))
 unfolding cut_at
 elsewhere_at front by place b bs rest more e = rw (e, cut_at) refl
-elsewhere_at front by place b bs rest (bad offset fault) e =
-    rw (e, cut_at) (ap (λ (p : ℕ). record { messages = []; rest = b ∷ bs; fault = Some (p, fault) }) (omega arith))
+elsewhere_at front by place b bs rest (bad ms offset fault) e =
+    rw (e, cut_at) (ap (λ (p : ℕ). record { messages = ms; rest = b ∷ bs; fault = Some (p, fault) }) (omega arith))
 elsewhere_at front by place b bs rest (whole n ms) e =
     let there : by + place + 1 ≡ by + (place + 1) = omega arith in
     rw (e, cut_at) (ap (λ (p : ℕ). with_front ms (cut_at front p (n - 1) bs)) there ∙ ap (with_front ms) (rest (n - 1)))
@@ -57,6 +57,7 @@ behind len more_len there c e none at le =
 after : {M E : Type 0} (front : List ℕ → Front M E) (Spells : List M → List ℕ → Type 0) (kind : IsStream front Spells) (stream piece : List ℕ) → IsOctets (stream ++ piece) → (c : Cut M E) → Found front Spells 0 stream c → IsOctets (c.rest ++ piece) → (o : Option (ℕ × E)) → c.fault ≡ o
     → fed_unless front (moved 0 o) (at_once (length stream) c) piece ≡ at_once (length (stream ++ piece)) (cut front (stream ++ piece))
 after front Spells kind stream piece fits c f rest_fits None none =
+    let ends = subst (Ends front (0 + length stream) c.rest f.first c.messages) none f.ends in
     let held : held_of c.fault c.rest ≡ c.rest = ap (λ (o : Option _). held_of o c.rest) none in
     let there : ℕ = length stream - length c.rest in
     let short = rest_le front Spells 0 stream c f in
@@ -67,6 +68,7 @@ after front Spells kind stream piece fits c f rest_fits None none =
     let le : length e.rest ≤ length c.rest + length piece = omega (arith, rest_le front Spells 0 (c.rest ++ piece) e found_e, length-append c.rest piece) in
     let whole_cut : cut front (stream ++ piece) ≡ with_front c.messages (shift there e) =
     cut_on front Spells kind.framing 0 there stream piece c f at
+    ∙ ap (λ (ms : List _). with_front ms (cut_at front there 0 (c.rest ++ piece))) (sym ends.1)
     ∙ ap (with_front c.messages) (ap (λ (p : ℕ). cut_at front p 0 (c.rest ++ piece)) (sym (add-zero there)) ∙ elsewhere front there 0 0 (c.rest ++ piece)) in
     ap (λ (xs : List ℕ). fed_by (at_once (length stream) c) (length (xs ++ piece)) (cut front (xs ++ piece))) held
     ∙ ap (λ (n : ℕ). fed_by (at_once (length stream) c) n e) (length-append c.rest piece)

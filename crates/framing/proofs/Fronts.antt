@@ -4,9 +4,9 @@ use Rattle.framing.specs.Cut.{Front}
 use Rattle.framing.specs.Cut.Front.{more, whole, bad}
 
 -- Where a whole unit stands, no fault was met.
-pub not_bad : {M E : Type 0} (b : Bool) (offset : ℕ) (e : E) (r : Front M E) (n : ℕ) (ms : List M) → cond b (bad offset e) r ≡ whole n ms → (b ≡ false) × (r ≡ whole n ms)
-not_bad true offset e r n ms h = absurd cc
-not_bad false offset e r n ms h = (refl, h)
+pub not_bad : {M E : Type 0} (b : Bool) (before : List M) (offset : ℕ) (e : E) (r : Front M E) (n : ℕ) (ms : List M) → cond b (bad before offset e) r ≡ whole n ms → (b ≡ false) × (r ≡ whole n ms)
+not_bad true before offset e r n ms h = absurd cc
+not_bad false before offset e r n ms h = (refl, h)
 
 -- Where a whole unit stands, enough came.
 pub not_more : {M E : Type 0} (b : Bool) (r : Front M E) (n : ℕ) (ms : List M) → cond b more r ≡ whole n ms → (b ≡ false) × (r ≡ whole n ms)
@@ -14,17 +14,17 @@ not_more true r n ms h = absurd cc
 not_more false r n ms h = (refl, h)
 
 -- Where a fault stands, enough came to tell it.
-pub not_waiting : {M E : Type 0} (b : Bool) (r : Front M E) (offset : ℕ) (e : E) → cond b more r ≡ bad offset e → (b ≡ false) × (r ≡ bad offset e)
-not_waiting true r offset e h = absurd cc
-not_waiting false r offset e h = (refl, h)
+pub not_waiting : {M E : Type 0} (b : Bool) (r : Front M E) (before : List M) (offset : ℕ) (e : E) → cond b more r ≡ bad before offset e → (b ≡ false) × (r ≡ bad before offset e)
+not_waiting true r before offset e h = absurd cc
+not_waiting false r before offset e h = (refl, h)
 
 -- Where more has to come, no fault was met.
-pub not_bad_yet : {M E : Type 0} (b : Bool) (offset : ℕ) (e : E) (r : Front M E) → cond b (bad offset e) r ≡ more → (b ≡ false) × (r ≡ more)
-not_bad_yet true offset e r h = absurd cc
-not_bad_yet false offset e r h = (refl, h)
+pub not_bad_yet : {M E : Type 0} (b : Bool) (before : List M) (offset : ℕ) (e : E) (r : Front M E) → cond b (bad before offset e) r ≡ more → (b ≡ false) × (r ≡ more)
+not_bad_yet true before offset e r h = absurd cc
+not_bad_yet false before offset e r h = (refl, h)
 
-pub bad_is : {M E : Type 0} (m n : ℕ) (e f : E) → ◌≡◌ {A = Front M E} (bad m e) (bad n f) → (m ≡ n) × (e ≡ f)
-bad_is m n e f h = (cc, cc)
+pub bad_is : {M E : Type 0} (before others : List M) (m n : ℕ) (e f : E) → ◌≡◌ {A = Front M E} (bad before m e) (bad others n f) → (m ≡ n) × (e ≡ f) × (before ≡ others)
+bad_is before others m n e f h = (cc, cc, cc)
 
 pub whole_is : {M E : Type 0} (m n : ℕ) (ms ns : List M) → ◌≡◌ {A = Front M E} (whole m ms) (whole n ns) → (m ≡ n) × (ms ≡ ns)
 whole_is m n ms ns h = (cc, cc)

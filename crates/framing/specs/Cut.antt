@@ -1,14 +1,16 @@
 -- Cutting octets into units, from left to right.
 use Rattle.std.specs.Prelude.{◌≡◌, ℕ, zero, suc, ◌+◌, ◌-◌, ◌≤◌, List, [], ◌∷◌, ◌++◌, length, drop, Option, Some, None, ⊤}
-use Rattle.framing.specs.Units.{Begins}
+use Rattle.framing.specs.Units.{Begins, Splits}
 
--- what stands at the front: too few octets to tell, a whole unit of so many octets with its messages, or a fault at an offset
+-- What stands at the front: too few octets to tell; a whole unit of so many octets, with its messages; or a unit at fault, with
+-- the messages in it that stand before the fault, and the fault at an offset.
 pub data Front (M E : Type 0) : Type 0 where
   more : Front M E
   whole : ℕ → List M → Front M E
-  bad : ℕ → E → Front M E
+  bad : List M → ℕ → E → Front M E
 
--- the messages of the whole units, the octets behind these, and the fault that stands there, with its place
+-- the messages of the whole units and of the unit at fault behind them, the octets behind the whole units, and the fault that
+-- stands there, with its place
 pub record Cut (M E : Type 0) : Type 0 where
   pub messages : List M
   pub rest : List ℕ
@@ -24,19 +26,33 @@ cut_at front place (suc passed) (b ∷ bs) = cut_at front (place + 1) passed bs
 cut_at front place zero (b ∷ bs) = elim (front (b ∷ bs)) [
   | more ↦ record { messages = []; rest = b ∷ bs; fault = None }
   | whole n ms ↦ with_front ms (cut_at front (place + 1) (n - 1) bs)
-  | bad offset e ↦ record { messages = []; rest = b ∷ bs; fault = Some (place + offset, e) }
+  | bad ms offset e ↦ record { messages = ms; rest = b ∷ bs; fault = Some (place + offset, e) }
 ]
 
 abbrev pub cut : {M E : Type 0} → (List ℕ → Front M E) → List ℕ → Cut M E
 cut front octets = cut_at front 0 0 octets
 
--- whole units carry the messages, and behind them the front fails
-pub record Fails {M E : Type 0} (Spells : List M → List ℕ → Type 0) (Faulty : List ℕ → ℕ → E → Type 0) (stream : List ℕ) (ms : List M) (place : ℕ) (e : E) : Type 0 where
+-- Whole units carry the first messages. Behind them the front fails, and the last messages stand before the fault there.
+pub record Fails {M E : Type 0} (Spells : List M → List ℕ → Type 0) (Faulty : List ℕ → List M → ℕ → E → Type 0)
+    (stream : List ℕ) (ms : List M) (place : ℕ) (e : E) : Type 0 where
+  pub first : List M
+  pub last : List M
   pub rest : List ℕ
   pub offset : ℕ
-  pub begins : Begins Spells stream ms rest
+  pub begins : Begins Spells stream first rest
+  pub faulty : Faulty rest last offset e
+  pub messages : ms ≡ first ++ last
   pub at : place + length rest ≡ length stream + offset
-  pub faulty : Faulty rest offset e
+
+-- no fault stands at the front
+abbrev pub NoFault : {M E : Type 0} → (List ℕ → List M → ℕ → E → Type 0) → List ℕ → Type 0
+NoFault {M} {E} Faulty rest = (last : List M) (offset : ℕ) (e : E) → ¬ (Faulty rest last offset e)
+
+-- The octets yield these messages: those of whole units, where no fault stands behind these; or those before the first fault.
+pub data Yields {M E : Type 0} (Spells : List M → List ℕ → Type 0) (Faulty : List ℕ → List M → ℕ → E → Type 0)
+    (octets : List ℕ) (ms : List M) : Type 0 where
+  sound : (rest : List ℕ) → Splits Spells octets ms rest → NoFault Faulty rest → Yields Spells Faulty octets ms
+  faulty : (place : ℕ) (e : E) → Fails Spells Faulty octets ms place e → Yields Spells Faulty octets ms
 
 abbrev pub shifted : {E : Type 0} → ℕ → Option (ℕ × E) → Option (ℕ × E)
 shifted by None = None

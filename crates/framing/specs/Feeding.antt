@@ -1,9 +1,10 @@
--- What the calls of a stream answer and leave. A format tells units by `Spells`, and the first fault of octets by `Faulty`.
+-- What the calls of a stream answer and leave. A format tells units by `Spells`; `Faulty` tells the first
+-- fault of octets, with the messages that stand before it in the unit at fault.
 use Rattle.std.specs.Prelude.{◌≡◌, ℕ, List, [], ◌∷◌, ◌-◌, ◌<◌, ◌≤◌, ◌++◌, ◌⊎◌, length, take, drop, Result, Ok, Err, Option, Some, None, IsSome}
 use Rattle.mv_base.specs.Octets.{IsOctets}
 use Rattle.mv_base.specs.declared.memory.NoMemory.{NoMemory}
 use Rattle.framing.specs.Units.{Splits}
-use Rattle.framing.specs.Cut.{Front, cut, Fails, IsNear}
+use Rattle.framing.specs.Cut.{Front, cut, Fails, NoFault, IsNear}
 use Rattle.framing.specs.Feed.{Fed, fed, further, moved, held_of}
 use Rattle.framing.specs.declared.cutting.Cutting.{Cutting}
 use Rattle.framing.specs.declared.fault.FeedFault.{FeedFault}
@@ -60,18 +61,21 @@ NextIs old (Some m) new = (old.waiting ≡ m ∷ new.waiting) × (new ≡ record
 
 -- What was held back, with the piece behind it, is the units of the messages added, and then what is held back now:
 -- shorter than the limit, it begins no whole unit and has no fault.
-pub record Adds {M E : Type 0} (Spells : List M → List ℕ → Type 0) (Faulty : List ℕ → ℕ → E → Type 0) (limit : ℕ) (old : Fed M E) (piece : List ℕ) (new : Fed M E) : Type 0 where
+pub record Adds {M E : Type 0} (Spells : List M → List ℕ → Type 0) (Faulty : List ℕ → List M → ℕ → E → Type 0)
+    (limit : ℕ) (old : Fed M E) (piece : List ℕ) (new : Fed M E) : Type 0 where
   pub unfailed : old.fault ≡ None
   pub added : List M
   pub splits : Splits Spells (old.held ++ piece) added new.held
-  pub sound : (offset : ℕ) (e : E) → ¬ (Faulty new.held offset e)
+  pub sound : NoFault Faulty new.held
   pub bound : length new.held < limit
   pub waiting : new.waiting ≡ old.waiting ++ added
   pub before : new.before ≡ further old.before (length (old.held ++ piece) - length new.held)
   pub still : new.fault ≡ None
 
--- The first fault of the stream stands at the place, behind the units of the messages added.
-pub record Stops {M E : Type 0} (Spells : List M → List ℕ → Type 0) (Faulty : List ℕ → ℕ → E → Type 0) (old : Fed M E) (piece : List ℕ) (new : Fed M E) (place : ℕ) (fault : E) : Type 0 where
+-- The first fault of the stream stands at the place. The messages added are those before it: of whole units, and behind them of
+-- the unit at fault.
+pub record Stops {M E : Type 0} (Spells : List M → List ℕ → Type 0) (Faulty : List ℕ → List M → ℕ → E → Type 0)
+    (old : Fed M E) (piece : List ℕ) (new : Fed M E) (place : ℕ) (fault : E) : Type 0 where
   pub unfailed : old.fault ≡ None
   pub added : List M
   pub offset : ℕ
@@ -82,14 +86,16 @@ pub record Stops {M E : Type 0} (Spells : List M → List ℕ → Type 0) (Fault
   pub failed : new.fault ≡ Some (place, fault)
 
 -- what a feed answers and leaves, by what is spelled
-abbrev pub Feeds : {X M E : Type 0} → (List M → List ℕ → Type 0) → (List ℕ → ℕ → E → Type 0) → ℕ → Fed M E → List ℕ → Result X (FeedFault E) → Fed M E → Type 0
+abbrev pub Feeds : {X M E : Type 0} → (List M → List ℕ → Type 0) → (List ℕ → List M → ℕ → E → Type 0) → ℕ
+    → Fed M E → List ℕ → Result X (FeedFault E) → Fed M E → Type 0
 Feeds Spells Faulty limit old piece (Ok x) new = Adds Spells Faulty limit old piece new
 Feeds Spells Faulty limit old piece (Err (faults.First place fault)) new = Stops Spells Faulty old piece new place fault
 Feeds Spells Faulty limit old piece (Err faults.Failed) new = IsSome old.fault × (new ≡ old)
 Feeds Spells Faulty limit old piece (Err faults.NoMemory) new = (old.fault ≡ None) × (new ≡ old)
 
 -- the first fault of what was held back and the piece is answered, unless there is no memory
-abbrev pub AnswersFirst : {X M E : Type 0} → (List M → List ℕ → Type 0) → (List ℕ → ℕ → E → Type 0) → Fed M E → List ℕ → Result X (FeedFault E) → Type 0
+abbrev pub AnswersFirst : {X M E : Type 0} → (List M → List ℕ → Type 0) → (List ℕ → List M → ℕ → E → Type 0)
+    → Fed M E → List ℕ → Result X (FeedFault E) → Type 0
 AnswersFirst Spells Faulty old piece result =
     (ms : List _) (offset : ℕ) (e : _) → old.fault ≡ None → Fails Spells Faulty (old.held ++ piece) ms offset e
     → (result ≡ Err faults.NoMemory) ⊎ (result ≡ Err (faults.First (further old.before offset) e))

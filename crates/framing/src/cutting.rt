@@ -1,7 +1,7 @@
 //! What was found in octets.
 
-/// How far octets were cut into units: the messages of the whole ones, how many octets these have, and the fault that
-/// stands behind them, with its place.
+/// How far octets were cut into units: the messages of the whole ones and those before the fault in the unit behind them,
+/// how many octets the whole ones have, and that fault, with its place.
 #[derive(Debug, Drop)]
 pub struct Cutting<M, E> {
     pub messages: Vec<M>,

@@ -159,11 +159,11 @@ fails_message octets offset e fits (faulty.missing body ts s are none at is) = f
 abbrev pub FrontMeans : List ℕ → Front LabelMessage LdpFault → Type 0
 FrontMeans octets more = octets ≡ []
 FrontMeans octets (whole n ms) = (n ≤ length octets) × SpellsMessage ms (take n octets)
-FrontMeans octets (bad offset e) = MessageFault octets offset e
+FrontMeans octets (bad before offset e) = (before ≡ []) × MessageFault octets offset e
 
 seen_is : (octets : List ℕ) (r : Result (LabelMessage × ℕ) (ℕ × LdpFault)) → MessageMeans octets r → FrontMeans octets (seen r)
 seen_is octets (Ok x) h = h
-seen_is octets (Err f) h = h
+seen_is octets (Err f) h = (refl, h)
 
 pub front_is : (octets : List ℕ) → IsOctets octets → FrontMeans octets (message_front octets)
 front_is [] fits = refl
@@ -184,7 +184,7 @@ fault_more octets offset e (faulty.length_wrong kind len rest k l parts why at i
 fault_more octets offset e (faulty.in_tlvs body place s h at) = omega (arith, ap (λ (xs : List ℕ). length xs) s.parts, length_headed s.kind (4 + length body) (s.id ++ (body ++ s.after)))
 fault_more octets offset e (faulty.missing body ts s are none at is) = omega (arith, ap (λ (xs : List ℕ). length xs) s.parts, length_headed s.kind (4 + length body) (s.id ++ (body ++ s.after)))
 
-pub fails_front : (octets : List ℕ) (offset : ℕ) (e : LdpFault) → IsOctets octets → MessageFault octets offset e → message_front octets ≡ bad offset e
+pub fails_front : (octets : List ℕ) (offset : ℕ) (e : LdpFault) → IsOctets octets → MessageFault octets offset e → message_front octets ≡ bad [] offset e
 fails_front octets offset e fits h = front_seen octets (fault_more octets offset e h) ∙ ap seen (fails_message octets offset e fits h)
 
 pub messages_framed : IsFraming message_front SpellsMessage

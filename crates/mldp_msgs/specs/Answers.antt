@@ -11,10 +11,10 @@ use Rattle.mldp_msgs.specs.declared.pdu.Front.TheVariants.{More, Whole, Bad}
 abbrev pub front_of : pdu.Front → Front LabelMessage LdpFault
 front_of More = more
 front_of (Whole n messages) = whole n messages.items
-front_of (Bad offset fault) = bad offset fault
+front_of (Bad messages offset fault) = bad messages.items offset fault
 
 -- a PDU is among so many octets, and a fault too
 abbrev pub IsRoom : pdu.Front → ℕ → Type 0
 IsRoom More len = Unit {0}
 IsRoom (Whole n messages) len = (0 < n) × (n ≤ len)
-IsRoom (Bad offset fault) len = offset ≤ len
+IsRoom (Bad messages offset fault) len = offset ≤ len

@@ -1,5 +1,5 @@
 -- The first fault of octets, with its place: what stands before it is whole and has no fault (RFC 5036 section 3).
-use Rattle.std.specs.Prelude.{◌≡◌, ◌≢◌, ℕ, ◌+◌, ◌-◌, ◌*◌, ◌^◌, ◌<◌, ◌≤◌, ◌⊎◌, List, ◌++◌, length}
+use Rattle.std.specs.Prelude.{◌≡◌, ◌≢◌, ℕ, ◌+◌, ◌-◌, ◌*◌, ◌^◌, ◌<◌, ◌≤◌, ◌⊎◌, List, [], ◌++◌, length}
 use Rattle.std.specs.Int.{w16, w32, to_be_bytes}
 use Rattle.framing.specs.Parts.{PartFails}
 use Rattle.framing.specs.Units.{Begins}
@@ -66,9 +66,14 @@ pub data MessageFault (octets : List ℕ) (offset : ℕ) (e : LdpFault) : Type 0
 
 -- ---- PDUs
 
--- the PDU at the front of a stream fails: its header with its first four octets, a message once the PDU is whole
-pub data PduFault (octets : List ℕ) (offset : ℕ) (e : LdpFault) : Type 0 where
-  version : (number len : ℕ) (rest : List ℕ) → number < 2 ^ 16 → len < 2 ^ 16 → octets ≡ to_be_bytes w16 number ++ (to_be_bytes w16 len ++ rest) → number ≢ 1 → offset ≡ 0 → e ≡ faults.Version → PduFault octets offset e
-  pdu_length : (len : ℕ) (rest : List ℕ) → len < 2 ^ 16 → octets ≡ to_be_bytes w16 1 ++ (to_be_bytes w16 len ++ rest) → (len < 6) ⊎ (4096 < len) → offset ≡ 2 → e ≡ faults.PduLength → PduFault octets offset e
-  in_message : (ident body after : List ℕ) → length ident ≡ 6 → 6 + length body ≤ 4096 → octets ≡ to_be_bytes w16 1 ++ (to_be_bytes w16 (6 + length body) ++ (ident ++ (body ++ after)))
-      → (ms : List LabelMessage) (left : List ℕ) (place : ℕ) → Begins SpellsMessage body ms left → 0 < length left → MessageFault left place e → offset ≡ 10 + (length body - length left) + place → PduFault octets offset e
+-- The PDU at the front of a stream fails, and these messages stand in it before the fault: its header with its first four
+-- octets, which come before any message; a message once the PDU is whole, behind those before it.
+pub data PduFault (octets : List ℕ) (ms : List LabelMessage) (offset : ℕ) (e : LdpFault) : Type 0 where
+  version : (number len : ℕ) (rest : List ℕ) → number < 2 ^ 16 → len < 2 ^ 16 → octets ≡ to_be_bytes w16 number ++ (to_be_bytes w16 len ++ rest)
+      → number ≢ 1 → ms ≡ [] → offset ≡ 0 → e ≡ faults.Version → PduFault octets ms offset e
+  pdu_length : (len : ℕ) (rest : List ℕ) → len < 2 ^ 16 → octets ≡ to_be_bytes w16 1 ++ (to_be_bytes w16 len ++ rest)
+      → (len < 6) ⊎ (4096 < len) → ms ≡ [] → offset ≡ 2 → e ≡ faults.PduLength → PduFault octets ms offset e
+  in_message : (ident body after : List ℕ) → length ident ≡ 6 → 6 + length body ≤ 4096
+      → octets ≡ to_be_bytes w16 1 ++ (to_be_bytes w16 (6 + length body) ++ (ident ++ (body ++ after)))
+      → (left : List ℕ) (place : ℕ) → Begins SpellsMessage body ms left → 0 < length left → MessageFault left place e
+      → offset ≡ 10 + (length body - length left) + place → PduFault octets ms offset e

@@ -1,9 +1,10 @@
 -- The labels that a session leaves mapped (RFC 5036 sections 3.5.7 and 3.5.10).
 use Rattle.std.specs.Prelude.{◌≡◌, ◌↔◌, ◌⊎◌, ℕ, Bool, IsTrue, List, ◌∷◌, ◌++◌, Contains}
-use Rattle.framing.specs.Units.{Splits}
+use Rattle.framing.specs.Cut.{Yields}
 use Rattle.mldp_fec.specs.declared.fec.Fec.{Fec}
 use Rattle.mldp_msgs.specs.declared.message.LabelMessage.{LabelMessage}
 use Rattle.mldp_msgs.specs.declared.message.LabelMessage.TheVariants as messages
+use Rattle.mldp_msgs.specs.FirstFault.{PduFault}
 use Rattle.mldp_msgs.specs.Spelling.{SpellsPdu}
 
 -- the last message that maps the label to the FEC, or withdraws it, maps it
@@ -13,9 +14,9 @@ pub record IsMapped (ms : List LabelMessage) (f : Fec) (l : ℕ) : Type 0 where
   pub parts : ms ≡ before ++ messages.Mapping f l ∷ after
   pub kept : ¬ Contains after (messages.Withdraw f l)
 
--- the octets of a session leave the label mapped to the FEC
+-- the octets of a session leave the label mapped to the FEC: by the messages of whole PDUs, and those before a first fault
 abbrev pub HasLabel : List ℕ → Fec → ℕ → Type 0
-HasLabel octets f l = (ms : List LabelMessage) × (rest : List ℕ) × Splits SpellsPdu octets ms rest × IsMapped ms f l
+HasLabel octets f l = (ms : List LabelMessage) × Yields SpellsPdu PduFault octets ms × IsMapped ms f l
 
 -- whether the label is mapped behind one more message, by whether it was before
 abbrev pub MappedBy : LabelMessage → Fec → ℕ → Bool → Bool → Type 0

@@ -172,7 +172,7 @@ message_at octets =
 -- what stands at the front of a PDU's octets
 abbrev pub seen : Result (LabelMessage × ℕ) (ℕ × LdpFault) → Front LabelMessage LdpFault
 seen (Ok x) = whole x.1 (x.0 ∷ [])
-seen (Err f) = bad f.0 f.1
+seen (Err f) = bad [] f.0 f.1
 
 abbrev pub message_front : List ℕ → Front LabelMessage LdpFault
 message_front [] = more
@@ -180,19 +180,19 @@ message_front (b ∷ bs) = seen (message_at (b ∷ bs))
 
 -- ---- PDUs
 
--- a whole PDU whose messages were cut so
+-- a whole PDU whose messages were cut so: where one is at fault, those before it are given with the fault
 abbrev pub pdu_of : ℕ → List LabelMessage → Option (ℕ × LdpFault) → Front LabelMessage LdpFault
 pdu_of n ms None = whole n ms
-pdu_of n ms (Some f) = bad (10 + f.0) f.1
+pdu_of n ms (Some f) = bad ms (10 + f.0) f.1
 
 abbrev pub pdu_cut : ℕ → Cut LabelMessage LdpFault → Front LabelMessage LdpFault
 pdu_cut n c = pdu_of n c.messages c.fault
 
 abbrev pub pdu_by : ℕ → ℕ → List ℕ → Front LabelMessage LdpFault
 pdu_by version len octets =
-    if not (version == 1) then bad 0 faults.Version else
-    if nat_lt len 6 then bad 2 faults.PduLength else
-    if nat_lt 4096 len then bad 2 faults.PduLength else
+    if not (version == 1) then bad [] 0 faults.Version else
+    if nat_lt len 6 then bad [] 2 faults.PduLength else
+    if nat_lt 4096 len then bad [] 2 faults.PduLength else
     if nat_lt (length octets) (4 + len) then more else
     pdu_cut (4 + len) (cut message_front (take (len - 6) (drop 10 octets)))
 

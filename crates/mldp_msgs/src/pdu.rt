@@ -19,8 +19,8 @@ enum Front {
     More,
     /// A PDU of so many octets, with its messages.
     Whole(usize, Vec<LabelMessage>),
-    /// A fault at this place.
-    Bad(usize, LdpFault),
+    /// A PDU with a fault at this place, and its messages before that.
+    Bad(Vec<LabelMessage>, usize, LdpFault),
 }
 
 #[tactic(auto, unfolding(crate::specs::Reading::pdu_front))]
@@ -32,11 +32,11 @@ fn read_pdu(alloc: Global, octets: &[u8]) -> Result<Front, NoMemory>
         return Ok(Front::More);
     }
     if u16::from_be_bytes([octets[0], octets[1]]) != 1 {
-        return Ok(Front::Bad(0, LdpFault::Version));
+        return Ok(Front::Bad(Vec::new(alloc), 0, LdpFault::Version));
     }
     let len = u16::from_be_bytes([octets[2], octets[3]]) as usize;
     if len < 6 || 4096 < len {
-        return Ok(Front::Bad(2, LdpFault::PduLength));
+        return Ok(Front::Bad(Vec::new(alloc), 2, LdpFault::PduLength));
     }
     if octets.len() < 4 + len {
         return Ok(Front::More);
@@ -48,7 +48,7 @@ fn read_pdu(alloc: Global, octets: &[u8]) -> Result<Front, NoMemory>
     } = cut_messages(alloc, &octets[10..4 + len])?;
     match fault {
         None => Ok(Front::Whole(4 + len, messages)),
-        Some((place, fault)) => Ok(Front::Bad(10 + place, fault)),
+        Some((place, fault)) => Ok(Front::Bad(messages, 10 + place, fault)),
     }
 }
 
@@ -75,7 +75,8 @@ pub(crate) fn cut_pdus(
                 messages.append(&mut found)?;
                 place += len;
             }
-            Front::Bad(offset, fault) => {
+            Front::Bad(mut found, offset, fault) => {
+                messages.append(&mut found)?;
                 return Ok(Cutting {
                     messages,
                     len: place,

@@ -39,13 +39,13 @@ impl Stream {
         }
     }
 
-    /// Takes the next piece of the stream. The messages of each PDU that is whole wait then, unless one of its messages
-    /// has a fault. A fault of a PDU's version or length is answered with its first four octets, another once the PDU is
-    /// whole. Behind a fault each call answers `Failed`.
+    /// Takes the next piece of the stream. The messages of each PDU that is whole wait then, and of one in which a message
+    /// has a fault those before it. A fault of a PDU's version or length is answered with its first four octets, another
+    /// once the PDU is whole. Behind a fault each call answers `Failed`, and adds no message.
     pub fn feed(&mut self, bytes: &[u8]) -> Result<(), FeedFault>
         // It is what cutting from left to right gives.
         ensures exact { FeedIs pdu_front self.old bytes.now result self.new }
-        // Whole PDUs were added, and less than one is held back; or all those before the first fault were.
+        // The messages of whole PDUs were added, and less than one is held back; or all those before the first fault were.
         ensures feeds { Feeds SpellsPdu PduFault 4100 self.old bytes.now result self.new }
         // The first fault is answered.
         ensures first { AnswersFirst SpellsPdu PduFault self.old bytes.now result }

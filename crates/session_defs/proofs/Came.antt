@@ -24,9 +24,9 @@ pub record Came {M E : Type 0} (front : List ℕ → Front M E) (Spells : List M
 short : {M E : Type 0} (front : List ℕ → Front M E) (Spells : List M → List ℕ → Type 0) → IsStream front Spells → (here coming : List ℕ) (unit : Spelled M) (after : List ℕ) → Spells unit.messages unit.octets → IsOctets here → here ++ coming ≡ unit.octets ++ after
     → length here < length unit.octets → (o : Front M E) → front here ≡ o → front here ≡ more
 short front Spells stream here coming unit after spells fits same lt more e = e
-short front Spells stream here coming unit after spells fits same lt (bad offset fault) e =
+short front Spells stream here coming unit after spells fits same lt (bad before offset fault) e =
     let there : front (here ++ coming) ≡ whole (length unit.octets) unit.messages = ap front same ∙ stream.framing.again unit.messages unit.octets after spells in
-    let stays : front (here ++ coming) ≡ bad offset fault = stream.kept here coming offset fault e in
+    let stays : front (here ++ coming) ≡ bad before offset fault = stream.kept here coming before offset fault e in
     absurd cc
 short front Spells stream here coming unit after spells fits same lt (whole n messages) e =
     let there : front (here ++ coming) ≡ whole (length unit.octets) unit.messages = ap front same ∙ stream.framing.again unit.messages unit.octets after spells in

@@ -26,14 +26,14 @@ whole_in : {M E : Type 0} (message : M → SessionMessage) (fault : E → Sessio
 whole_in message fault more n messages e = absurd cc
 whole_in message fault (whole count plain) n messages e =
     let same = whole_is count n (map message plain) messages e in (plain, sym same.1, ap (λ (k : ℕ). whole k plain) same.0)
-whole_in message fault (bad offset reason) n messages e = absurd cc
+whole_in message fault (bad before offset reason) n messages e = absurd cc
 
-bad_in : {M E : Type 0} (message : M → SessionMessage) (fault : E → SessionFault) (front : Front M E) (offset : ℕ) (reason : SessionFault) → as_front message fault front ≡ bad offset reason
-    → (own : E) × (fault own ≡ reason) × (front ≡ bad offset own)
-bad_in message fault more offset reason e = absurd cc
-bad_in message fault (whole count plain) offset reason e = absurd cc
-bad_in message fault (bad place own) offset reason e =
-    let same = bad_is {M = SessionMessage} place offset (fault own) reason e in (own, same.1, ap (λ (k : ℕ). bad k own) same.0)
+bad_in : {M E : Type 0} (message : M → SessionMessage) (fault : E → SessionFault) (front : Front M E) (messages : List SessionMessage) (offset : ℕ) (reason : SessionFault) → as_front message fault front ≡ bad messages offset reason
+    → (plain : List M) × (own : E) × (messages ≡ map message plain) × (fault own ≡ reason) × (front ≡ bad plain offset own)
+bad_in message fault more messages offset reason e = absurd cc
+bad_in message fault (whole count plain) messages offset reason e = absurd cc
+bad_in message fault (bad plain place own) messages offset reason e =
+    let same = bad_is (map message plain) messages place offset (fault own) reason e in (plain, own, sym same.2, same.1, ap (λ (k : ℕ). bad plain k own) same.0)
 
 stream_as : {M E : Type 0} (message : M → SessionMessage) (fault : E → SessionFault) (front : List ℕ → Front M E) (Plain : List M → List ℕ → Type 0) → IsStream front Plain
     → IsStream (λ octets. as_front message fault (front octets)) (SpellsAs message Plain)
@@ -47,9 +47,9 @@ stream_as message fault front Plain stream = record {
     again = λ messages text after spells. ap (as_front message fault) (stream.framing.again spells.0 text after spells.2) ∙ ap (λ (ms : List SessionMessage). whole (length text) ms) (sym spells.1);
     filled = λ messages text spells. stream.framing.filled spells.0 text spells.2;
   };
-  kept = λ octets later offset reason e.
-      let is = bad_in message fault (front octets) offset reason e in
-      ap (as_front message fault) (stream.kept octets later offset is.0 is.2) ∙ ap (λ (r : SessionFault). bad offset r) is.1;
+  kept = λ octets later messages offset reason e.
+      let is = bad_in message fault (front octets) messages offset reason e in
+      ap (as_front message fault) (stream.kept octets later is.0 offset is.1 is.4) ∙ ap (λ (ms : List SessionMessage). bad ms offset (fault is.1)) (sym is.2) ∙ ap (λ (r : SessionFault). bad messages offset r) is.3;
 }
 
 pub stream_of : (kind : Kind) → IsStream (front_of kind) (Spells kind)

@@ -38,7 +38,7 @@ same_direction a b = same_kind a.kind b.kind && (a.from.0 == b.from.0) && (a.to.
 abbrev pub as_front : {M E : Type 0} → (M → SessionMessage) → (E → SessionFault) → Front M E → Front SessionMessage SessionFault
 as_front message fault more = more
 as_front message fault (whole count messages) = whole count (map message messages)
-as_front message fault (bad offset reason) = bad offset (fault reason)
+as_front message fault (bad messages offset reason) = bad (map message messages) offset (fault reason)
 
 abbrev pub front_of : Kind → List ℕ → Front SessionMessage SessionFault
 front_of kinds.Bgp octets = as_front (λ message. Bgp message) (λ fault. BgpFault fault) (message_front octets)

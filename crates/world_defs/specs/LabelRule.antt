@@ -6,8 +6,9 @@ use Rattle.std.specs.FinMap as maps
 use Rattle.std.specs.FinSet as sets
 use Rattle.mv_base.specs.declared.ids.NodeId.{NodeId}
 use Rattle.mv_base.specs.declared.ids.VrfId.{VrfId}
-use Rattle.framing.specs.Units.{Splits}
+use Rattle.framing.specs.Cut.{Yields}
 use Rattle.mldp_fec.specs.declared.fec.Fec.{Fec}
+use Rattle.mldp_msgs.specs.FirstFault.{PduFault}
 use Rattle.mldp_msgs.specs.Spelling.{SpellsPdu}
 use Rattle.mldp_msgs.specs.declared.message.LabelMessage.{LabelMessage}
 use Rattle.mldp_msgs.specs.declared.message.LabelMessage.TheVariants as messages
@@ -74,8 +75,7 @@ Holds fec u usage = (usage ≡ Some (uses.Mapped fec u)) ⊎ (usage ≡ Some (us
 -- the withdraw of the label is among what u's stream holds back from n, followed by what is in transit there
 pub record IsWithdrawnTo (world : World) (u n : NodeId) (fec : Fec) (label : ℕ) : Type 0 where
   pub all : List LabelMessage
-  pub rest : List ℕ
-  pub octets : Splits SpellsPdu ((world.network.stream (direction kinds.Ldp n u)).held ++ world.network.transit (direction kinds.Ldp n u)) all rest
+  pub octets : Yields SpellsPdu PduFault ((world.network.stream (direction kinds.Ldp n u)).held ++ world.network.transit (direction kinds.Ldp n u)) all
   pub among : Contains all (messages.Withdraw fec label)
 
 abbrev pub HasBranch : World → NodeId → NodeId → Fec → ℕ → Type 0

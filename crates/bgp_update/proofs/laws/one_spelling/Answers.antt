@@ -1,4 +1,4 @@
-use Rattle.framing.proofs.Feedings.{one_unit}
+use Rattle.framing.proofs.Cuts.{one_unit}
 use Rattle.bgp_update.specs.Reading.{message_front}
 use Rattle.bgp_update.specs.Spelling.{SpellsMessage}
 use Rattle.bgp_update.proofs.Messages.{messages_framed}

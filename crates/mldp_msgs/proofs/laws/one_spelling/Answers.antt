@@ -1,4 +1,4 @@
-use Rattle.framing.proofs.Feedings.{one_unit}
+use Rattle.framing.proofs.Cuts.{one_unit}
 use Rattle.mldp_msgs.specs.Reading.{pdu_front}
 use Rattle.mldp_msgs.specs.Spelling.{SpellsPdu}
 use Rattle.mldp_msgs.proofs.Pdus.{pdu_format}

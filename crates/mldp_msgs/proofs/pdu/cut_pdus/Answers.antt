@@ -1,5 +1,6 @@
-use Rattle.std.proofs.Common.{◌+◌, ◌∙◌, ap, subst, sym, List, length}
-use Rattle.framing.proofs.Loops.{OnWay, tail_of, on_way_more, on_way_fault, on_way_wait}
+use Rattle.std.proofs.Common.{◌+◌, ◌∙◌, ap, subst, sym, List, Some, length}
+use Rattle.framing.specs.Cut.{cut, IsCutting}
+use Rattle.framing.proofs.Loops.{OnWay, tail_of, on_way_more, on_way_fault_behind, on_way_wait}
 use Rattle.mldp_msgs.specs.declared.message.LabelMessage.{LabelMessage}
 use Rattle.mldp_msgs.specs.declared.pdu.Front as pdu
 use Rattle.mldp_msgs.specs.Reading.{pdu_front}
@@ -19,4 +20,6 @@ pdus-preserved c =
 pub returns-in-Bad-clause-exact : goal.returns-in-Bad-clause-exact
 returns-in-Bad-clause-exact c =
     let room = subst (λ (f : pdu.Front). IsRoom f (length (tail_of c.args.octets.now c.pdus.place))) c.in-Bad.is c.in_ok-read_pdu.ensures.room in
-    on_way_fault pdu_front c.args.octets.now c.pdus.place c.in-Bad.offset c.in-Bad.fault c.pdus.messages.items no_pdu c.pdus.invariant room (c.in_ok-read_pdu.ensures.value ∙ ap front_of c.in-Bad.is)
+    let octets = c.args.octets.now in
+    let P : List LabelMessage → Type 0 = λ ms. IsCutting octets (cut pdu_front octets) ms c.pdus.place (Some (c.pdus.place + c.in-Bad.offset, c.in-Bad.fault)) in
+    subst P (sym c.in_ok-append-in-Bad.ensures.items) (on_way_fault_behind pdu_front octets c.pdus.place c.in-Bad.offset c.in-Bad.fault c.pdus.messages.items c.in-Bad.found.items no_pdu c.pdus.invariant room (c.in_ok-read_pdu.ensures.value ∙ ap front_of c.in-Bad.is))

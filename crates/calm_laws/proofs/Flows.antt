@@ -22,9 +22,10 @@ use Rattle.edge_laws.specs.Acts.{Act, act, run, is_up, stepped, message_of, left
 use Rattle.edge_laws.specs.Acts as acts
 use Rattle.edge_laws.specs.Network.{EdgeNetwork, place_of}
 use Rattle.calm_laws.specs.Calm.{FlowsStand}
-use Rattle.calm_laws.proofs.Maps.{empty_entries, empty_items}
+use Rattle.calm_laws.proofs.Maps.{empty_entries}
 use Rattle.label_defs.specs.Keys.{node_cmp}
 use Rattle.label_defs.proofs.KeyLemmas.{node_equal}
+use Rattle.label_defs.proofs.MemberLemmas.{none_in_order}
 use Rattle.scenario_defs.specs.declared.event.IfaceEntry.{IfaceEntry}
 use Rattle.pim_defs.specs.Entries.{entry_cmp}
 use Rattle.pim_defs.specs.declared.expiry.Expiry.{Expiry}
@@ -41,23 +42,23 @@ no_flows f none (x ∷ xs) = ap (λ front. front ++ flat_map f xs) (none x) ∙ 
 blank_possible : (place : EdgePlace) (own : OwnVrf) → possible_flows place no_control own ≡ []
 blank_possible place own =
     ap (λ (es : List (IfaceEntry × Expiry)). found_in (joined_by place own) (map (λ e. e.0) es) ++ active_flows place no_control own) (empty_entries entry_cmp)
-    ∙ ap (λ (notes : List Note). map noted_flow (filter (λ note. is_iface_of place.scenario own.id note.iface) notes) ++ flat_map (active_from own) (maps.entries (maps.empty {X = Taken} {R = node_cmp}))) (empty_items note_total)
+    ∙ ap (λ (notes : List Note). map noted_flow (filter (λ note. is_iface_of place.scenario own.id note.iface) notes) ++ flat_map (active_from own) (maps.entries (maps.empty {X = Taken} {R = node_cmp}))) (none_in_order note_total)
     ∙ ap (flat_map (active_from own)) (empty_entries {V = Taken} node_cmp)
 
 blank : (place : EdgePlace) → flows_at place 0 no_control ≡ maps.empty
 blank place = ap maps.from_entries (no_flows (vrf_flows place 0 no_control)
     (λ own. ap (λ (flows : List FlowRoute). map (with_upstream place no_control own) (filter (is_flow place 0 no_control own) flows)) (blank_possible place own)) (own_vrfs place))
 
-fresh_stands : (place : EdgePlace) (now : ℕ) → Stands place now no_control
+pub fresh_stands : (place : EdgePlace) (now : ℕ) → Stands place now no_control
 fresh_stands place now = (0, omega arith, sym (blank place))
 
 refreshed_stands : (place : EdgePlace) (now : ℕ) (control : Control) → Stands place now (refreshed place now control)
 refreshed_stands place now control = (now, le_refl now, refl)
 
-later_stands : (place : EdgePlace) (now later : ℕ) (control : Control) → now ≤ later → Stands place now control → Stands place later control
+pub later_stands : (place : EdgePlace) (now later : ℕ) (control : Control) → now ≤ later → Stands place now control → Stands place later control
 later_stands place now later control le h = (h.0, le_trans h.1 le, h.2)
 
-step_stands : (place : EdgePlace) (now : ℕ) (old : Control) (call : Call) → Stands place now old → Stands place now (control_step place now old call)
+pub step_stands : (place : EdgePlace) (now : ℕ) (old : Control) (call : Call) → Stands place now old → Stands place now (control_step place now old call)
 step_stands place now old (steps.Update peer message) h = refreshed_stands place now (steps.effect place now old (steps.Update peer message))
 step_stands place now old (steps.Label neighbour message) h = refreshed_stands place now old
 step_stands place now old (steps.Pim iface message) h = refreshed_stands place now (steps.effect place now old (steps.Pim iface message))

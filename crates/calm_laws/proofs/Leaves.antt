@@ -45,7 +45,7 @@ leaf_of place control own fec a b =
 
 -- ---- the inclusive tunnel
 
-wants_inclusive : (network : EdgeNetwork) (root egress : NodeId) (root_vrf own : OwnVrf) → Rule network → CalmSession network root egress → Among root_vrf (own_vrfs (place_of network root)) → AreOfOneVpn root_vrf own
+pub wants_inclusive : (network : EdgeNetwork) (root egress : NodeId) (root_vrf own : OwnVrf) → Rule network → CalmSession network root egress → Among root_vrf (own_vrfs (place_of network root)) → AreOfOneVpn root_vrf own
     → Among (lsp (own_addr (place_of network root)) (tunnel_number root_vrf.vrf 0)) (tunnels_of (place_of network egress) (network.node egress) own)
 wants_inclusive network root egress root_vrf own rule calm a vpn =
     let place : EdgePlace = place_of network root in
@@ -62,7 +62,7 @@ wants_inclusive network root egress root_vrf own rule calm a vpn =
 
 -- ---- a selective tunnel
 
-wants_selective : (network : EdgeNetwork) (root egress : NodeId) (root_vrf own : OwnVrf) (flow : VrfFlow) (rd : Rd) (import : Import) (source_as : ℕ) (selection : Selection) → Rule network → CalmSession network root egress → NoneDue network root
+pub wants_selective : (network : EdgeNetwork) (root egress : NodeId) (root_vrf own : OwnVrf) (flow : VrfFlow) (rd : Rd) (import : Import) (source_as : ℕ) (selection : Selection) → Rule network → CalmSession network root egress → NoneDue network root
     → Among root_vrf (own_vrfs (place_of network root)) → Among own (own_vrfs (place_of network egress)) → AreOfOneVpn root_vrf own → own.id ≡ flow.vrf → maps.get (network.node egress).flows flow ≡ Some (Some (Remote root rd import source_as))
     → transmitted (selections_of (network.node root) root_vrf.id) flow.source flow.group ≡ Some selection
     → Among (lsp (own_addr (place_of network root)) (tunnel_number root_vrf.vrf selection.number)) (tunnels_of (place_of network egress) (network.node egress) own)

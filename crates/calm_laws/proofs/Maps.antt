@@ -1,6 +1,5 @@
 -- The entries of a map and what it has at a key.
 use Rattle.std.proofs.Common.{◌≡◌, Bool, true, false, cond, T, ◌&&◌, inl, inr, List, [], ◌∷◌, map, length, Option, Some, None, option_map, refl, sym, ap, ◌∙◌, arith}
-use Rattle.std.specs.List.{list_any}
 use Rattle.std.specs.Ordering.{eq_by_cmp, is_eq, is_lt}
 use Rattle.std.specs.declared.cmp.Ordering.{Ordering}
 use Rattle.std.specs.declared.cmp.Ordering.TheVariants.{Less, Equal, Greater}
@@ -8,25 +7,16 @@ use Rattle.std.specs.Cmp.{IsTotalOrder, tied_itself, Equal-is}
 use Rattle.std.specs.FinMap as maps
 use Rattle.std.specs.FinMap.{FinMap, IsAntisymmetric, find}
 use Rattle.std.specs.FinMap.Entries.{is_sorted, below_all}
-use Rattle.std.specs.FinSet as sets
-use Rattle.std.proofs.lemmas.Bool.{or_left}
 use Rattle.label_defs.proofs.KeyLemmas.{ties}
 use Rattle.selective_defs.specs.Selective.{Among}
 use Rattle.calm_laws.proofs.Lists.{not_both}
 
-none_of_length : {X : Type 0} (xs : List X) → length xs ≡ 0 → xs ≡ []
+pub none_of_length : {X : Type 0} (xs : List X) → length xs ≡ 0 → xs ≡ []
 none_of_length [] e = refl
 none_of_length (x ∷ xs) e = absurd (omega (arith, e))
 
 pub empty_entries : {K V : Type 0} (R : K → K → Ordering) → maps.entries (maps.empty {X = V} {R = R}) ≡ []
 empty_entries {V = V} R = none_of_length (maps.entries maps.empty) (sym (maps.len-entries maps.empty) ∙ maps.len-empty R V)
-
-no_items : {K : Type 0} {R : K → K → Ordering} (total : IsTotalOrder R) (xs : List K) → ((k : K) → list_any (eq_by_cmp R k) xs ≡ false) → xs ≡ []
-no_items total [] none = refl
-no_items {R = R} total (x ∷ xs) none = absurd (not_both (list_any (eq_by_cmp R x) (x ∷ xs)) (or_left (eq_by_cmp R x x) (list_any (eq_by_cmp R x) xs) (ap is_eq (tied_itself total x))) (none x))
-
-pub empty_items : {K : Type 0} {R : K → K → Ordering} (total : IsTotalOrder R) → sets.items (sets.empty {R = R}) ≡ []
-empty_items {R = R} total = no_items total (sets.items sets.empty) (λ k. sym (sets.contains-items sets.empty k) ∙ sets.contains-empty R k)
 
 first : (a b : Bool) → T (a && b) → T a
 first true b p = tt

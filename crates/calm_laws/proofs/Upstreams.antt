@@ -179,7 +179,7 @@ pub record RootVrf (network : EdgeNetwork) (root : NodeId) (own : OwnVrf) (rd : 
   pub named : import ≡ own_import (place_of network root) root_vrf.vrf
   pub system : source_as ≡ network.scenario.system
 
-admitted_unicast : (network : EdgeNetwork) (root egress : NodeId) (root_vrf own : OwnVrf) (value : Value) → Rules network.scenario → Among root_vrf (own_vrfs (place_of network root)) → Among own (own_vrfs (place_of network egress))
+pub admitted_unicast : (network : EdgeNetwork) (root egress : NodeId) (root_vrf own : OwnVrf) (value : Value) → Rules network.scenario → Among root_vrf (own_vrfs (place_of network root)) → Among own (own_vrfs (place_of network egress))
     → value ≡ unicast_value (place_of network root) root_vrf.vrf → is_admitted own.vrf value.comms ≡ true → AreOfOneVpn root_vrf own
 admitted_unicast network root egress root_vrf own value rules a b e h =
     let t = admitted_target own.vrf value.comms h in

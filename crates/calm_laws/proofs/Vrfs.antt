@@ -84,7 +84,7 @@ one_vpn place own other rules a b e = one_of place own other rules a b
 
 -- ---- VRFs of two edges
 
-not_apart : (a b : Vrf) → AreApart a b → shares a.targets b.targets ≡ true → same a.targets b.targets ≡ true
+pub not_apart : (a b : Vrf) → AreApart a b → shares a.targets b.targets ≡ true → same a.targets b.targets ≡ true
 not_apart a b apart h = elim apart.overlap [
   | inl e ↦ e
   | inr e ↦ absurd (not_both (shares a.targets b.targets) h e)

@@ -21,7 +21,9 @@ use Rattle.choice_defs.specs.declared.origin.Origin.TheVariants as origins
 use Rattle.scenario_defs.specs.Home.{local_routes}
 use Rattle.label_defs.specs.Keys.{fec_cmp, node_cmp}
 use Rattle.label_defs.proofs.KeyLemmas.{node_cmp_total, fec_cmp_total, fec_cmp_exact}
+use Rattle.label_defs.proofs.MemberLemmas.{none_in_order}
 use Rattle.label_defs.specs.Steps as labels
+use Rattle.label_defs.specs.Members.{in_order}
 use Rattle.selective_defs.specs.Selective.{Among}
 use Rattle.edge_defs.specs.Edge.{Note, Upstream, Remote, VrfPattern, Selected, VrfFlow, TakenRoute, Taken, note_cmp, pattern_cmp, flow_cmp, no_control}
 use Rattle.edge_defs.specs.Imported.{found_in, imported_inclusive, join_by}
@@ -48,8 +50,8 @@ pub no_members : {K : Type 0} {R : K → K → Ordering} → IsTotalOrder R → 
 no_members total [] none = refl
 no_members {R = R} total (k ∷ list) none = absurd (let itself = ap is_eq (tied_itself total k) in let other = none k in cc)
 
-no_notes : sets.items (sets.empty {R = note_cmp}) ≡ []
-no_notes = no_members note_total (sets.items sets.empty) (λ note. sym (sets.contains-items sets.empty note) ∙ sets.contains-empty note_cmp note)
+no_notes : in_order (sets.empty {R = note_cmp}) ≡ []
+no_notes = none_in_order note_total
 
 -- ---- the first edge
 
@@ -65,7 +67,7 @@ originated_with selections notes = flat_map (λ (own : OwnVrf).
 
 pub originates : originated (place_of first) no_control ≡ (inclusive_key, inclusive_value) ∷ (unicast_key, unicast_value) ∷ []
 originates =
-    ap (λ (selections : List (VrfPattern × Selected)). originated_with selections (sets.items no_control.notes)) (no_entries pattern_cmp Selected)
+    ap (λ (selections : List (VrfPattern × Selected)). originated_with selections (in_order no_control.notes)) (no_entries pattern_cmp Selected)
     ∙ ap (λ (notes : List Note). originated_with [] notes) no_notes
 
 -- ---- the second edge

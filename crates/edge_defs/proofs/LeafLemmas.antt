@@ -10,7 +10,9 @@ use Rattle.std.proofs.lemmas.Bool.{or_cases, or_left, or_right}
 use Rattle.mldp_fec.specs.declared.fec.Fec.{Fec}
 use Rattle.label_defs.specs.Keys.{fec_cmp}
 use Rattle.label_defs.specs.Steps as labels
+use Rattle.label_defs.specs.Members.{in_order}
 use Rattle.label_defs.proofs.KeyLemmas.{fec_cmp_total, fec_cmp_exact}
+use Rattle.label_defs.proofs.MemberLemmas.{contains_in_order}
 use Rattle.selective_defs.specs.Selective.{Among}
 use Rattle.edge_defs.specs.Steps.{changed_leaves}
 
@@ -44,9 +46,9 @@ module _ (old new : FinSet fec_cmp) where
 
   pub changed_from : (call : labels.Call) → Among call (changed_leaves old new) → (fec : Fec) × (call ≡ call_for fec) × (differs fec ≡ true) × ((sets.contains old fec || sets.contains new fec) ≡ true)
   changed_from call h =
-      let own = made_from differs call_for call (sets.items (sets.union old new)) h in
-      (own.0, own.1, own.2, sym (sets.contains-union fec_cmp_total old new own.0) ∙ sets.contains-items (sets.union old new) own.0 ∙ own.3)
+      let own = made_from differs call_for call (in_order (sets.union old new)) h in
+      (own.0, own.1, own.2, sym (sets.contains-union fec_cmp_total old new own.0) ∙ contains_in_order fec_cmp_total (sets.union old new) own.0 ∙ own.3)
 
   pub changed_to : (fec : Fec) → differs fec ≡ true → (sets.contains old fec || sets.contains new fec) ≡ true → Among (call_for fec) (changed_leaves old new)
   changed_to fec e h =
-      made_to differs call_for fec (sets.items (sets.union old new)) e (sym (sets.contains-items (sets.union old new) fec) ∙ sets.contains-union fec_cmp_total old new fec ∙ h)
+      made_to differs call_for fec (in_order (sets.union old new)) e (sym (contains_in_order fec_cmp_total (sets.union old new) fec) ∙ sets.contains-union fec_cmp_total old new fec ∙ h)

@@ -19,10 +19,12 @@ use Rattle.label_defs.specs.LabelData.{Place, LabelData, use_of}
 use Rattle.label_defs.specs.Settling.{Stepped, with_use}
 use Rattle.label_defs.specs.Steps as labels
 use Rattle.label_defs.specs.Steps.{label_step}
+use Rattle.label_defs.specs.Members.{in_order}
 use Rattle.label_defs.proofs.KeyLemmas.{fec_cmp_total, fec_cmp_exact, fec_cases, same_fec_equal}
 use Rattle.label_defs.proofs.SetLemmas.{inserted_here, inserted_other, removed_here, removed_other}
 use Rattle.label_defs.proofs.SettleLemmas.{bind_some}
 use Rattle.label_defs.proofs.WithdrawLemmas.{same_leaves}
+use Rattle.label_defs.proofs.MemberLemmas.{contains_in_order}
 use Rattle.edge_defs.specs.Edge.{VrfFlow, Upstream, Taken, EdgeData, flow_cmp, no_control, fresh}
 use Rattle.edge_defs.specs.Place.{EdgePlace, OwnVrf, own_vrfs, label_place}
 use Rattle.edge_defs.specs.Steps as steps
@@ -133,15 +135,15 @@ kept_by passes fec (other ∷ list) e h = elim (or_cases (eq_by_cmp fec_cmp fec 
 
 -- the trees whose calls are made
 abbrev changing : FinSet fec_cmp → FinSet fec_cmp → List Fec
-changing old new = filter (differs old new) (sets.items (sets.union old new))
+changing old new = filter (differs old new) (in_order (sets.union old new))
 
 same_but : (old new : FinSet fec_cmp) → SameBut (changing old new) old new
 same_but old new fec = by (sets.contains old fec) (sets.contains new fec) refl refl
   where
     found : (a b : Bool) → sets.contains old fec ≡ a → sets.contains new fec ≡ b → not (a && b) ≡ true → (a || b) ≡ true → list_any (eq_by_cmp fec_cmp fec) (changing old new) ≡ true
     found a b p q apart one =
-        kept_by (differs old new) fec (sets.items (sets.union old new)) ((λ i. not (p i && q i)) ∙ apart)
-        (sym (sets.contains-items (sets.union old new) fec) ∙ sets.contains-union fec_cmp_total old new fec ∙ (λ i. p i || q i) ∙ one)
+        kept_by (differs old new) fec (in_order (sets.union old new)) ((λ i. not (p i && q i)) ∙ apart)
+        (sym (contains_in_order fec_cmp_total (sets.union old new) fec) ∙ sets.contains-union fec_cmp_total old new fec ∙ (λ i. p i || q i) ∙ one)
 
     by : (a b : Bool) → sets.contains old fec ≡ a → sets.contains new fec ≡ b → (list_any (eq_by_cmp fec_cmp fec) (changing old new) ≡ true) ⊎ (sets.contains old fec ≡ sets.contains new fec)
     by true true p q = inr (p ∙ sym q)

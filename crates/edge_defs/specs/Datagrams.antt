@@ -11,7 +11,7 @@ use Rattle.mldp_fec.specs.declared.fec.Fec.{Fec}
 use Rattle.bgp_attributes.specs.declared.key.Key.{Key}
 use Rattle.scenario_defs.specs.Vpn.{is_of_site}
 use Rattle.scenario_defs.specs.declared.scenario.Scenario.{Scenario}
-use Rattle.label_defs.specs.LabelData.{LabelData, same_fec, use_of}
+use Rattle.label_defs.specs.LabelData.{same_fec, use_of, branches_of}
 use Rattle.label_defs.specs.declared.branch.Branch.{Branch}
 use Rattle.label_defs.specs.declared.label_use.LabelUse.{LabelUse}
 use Rattle.label_defs.specs.declared.label_use.LabelUse.TheVariants as uses
@@ -30,10 +30,6 @@ pub record Fate : Type 0 where
 
 abbrev pub discarded : Fate
 discarded = record { outs = []; branches = [] }
-
--- the branches of a tree
-abbrev pub branches_of : LabelData → Fec → List Branch
-branches_of part fec = filter (λ branch. same_fec branch.fec fec) (sets.items part.branches)
 
 -- ---- a datagram that enters
 

@@ -3,7 +3,6 @@ use Rattle.std.specs.Prelude.{ℕ, ◌==◌, Bool, false, List, [], ◌∷◌, �
 use Rattle.std.specs.List.{filter, flat_map}
 use Rattle.std.specs.Int.{w16, to_be_bytes}
 use Rattle.std.specs.FinMap as maps
-use Rattle.std.specs.FinSet as sets
 use Rattle.mv_base.specs.Address.{addr_octets}
 use Rattle.mv_base.specs.declared.addr.Addr.{Addr}
 use Rattle.mv_base.specs.declared.addr.Addr.TheVariants.{V4, V6}
@@ -25,6 +24,7 @@ use Rattle.scenario_defs.specs.declared.scenario.Vrf.{Vrf}
 use Rattle.edge_defs.specs.Edge.{Import, Note, Selected, VrfPattern, Control}
 use Rattle.edge_defs.specs.Keys.{Value}
 use Rattle.edge_defs.specs.Place.{EdgePlace, OwnVrf, own_addr, own_vrfs, lsp, tunnel_number}
+use Rattle.label_defs.specs.Members.{in_order}
 
 -- ---- communities
 
@@ -95,7 +95,7 @@ is_iface_of scenario vrf iface = elim (slice_get scenario.ifaces iface.0) [ None
 
 -- the notes at the VRF's interfaces
 abbrev pub notes_of : EdgePlace → Control → VrfId → List Note
-notes_of place control vrf = filter (λ note. is_iface_of place.scenario vrf note.iface) (sets.items control.notes)
+notes_of place control vrf = filter (λ note. is_iface_of place.scenario vrf note.iface) (in_order control.notes)
 
 -- a Source Active A-D route for each source and group that is noted there
 abbrev pub active_routes : EdgePlace → Control → OwnVrf → List (Key × Value)

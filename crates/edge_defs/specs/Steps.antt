@@ -26,6 +26,7 @@ use Rattle.label_defs.specs.LabelData.{LabelData}
 use Rattle.label_defs.specs.Settling.{Stepped}
 use Rattle.label_defs.specs.Steps as labels
 use Rattle.label_defs.specs.Steps.{label_step}
+use Rattle.label_defs.specs.Members.{in_order}
 use Rattle.edge_defs.specs.Edge.{VrfPattern, pattern_cmp, Selected, TakenRoute, Taken, Control, EdgeData}
 use Rattle.edge_defs.specs.Flows.{flows_at}
 use Rattle.edge_defs.specs.Imported.{imported_selective}
@@ -153,7 +154,7 @@ own_label_call other = None
 abbrev pub changed_leaves : FinSet fec_cmp → FinSet fec_cmp → List labels.Call
 changed_leaves old new =
     map (λ fec. if sets.contains new fec then labels.Want fec else labels.Unwant fec)
-    (filter (λ fec. not (sets.contains old fec && sets.contains new fec)) (sets.items (sets.union old new)))
+    (filter (λ fec. not (sets.contains old fec && sets.contains new fec)) (in_order (sets.union old new)))
 
 abbrev pub one_call : Option labels.Call → List labels.Call
 one_call None = []

@@ -22,7 +22,7 @@ along {clock} {delay} {a} {b} {c} {d} {e} {f} {o} {n} {p} {r} {k} {l} {xs} {ys} 
     let h6 = subst (λ x. View clock delay b d f n r x xs) (sym taken) h5 in
     subst (λ x. View clock delay b d f n r l x) (sym pending) h6
 
-both_none : {X : Type 0} (xs ys : List X) → xs ++ ys ≡ [] → (xs ≡ []) × (ys ≡ [])
+pub both_none : {X : Type 0} (xs ys : List X) → xs ++ ys ≡ [] → (xs ≡ []) × (ys ≡ [])
 both_none [] ys e = (refl, e)
 both_none (x ∷ xs) ys e = absurd cc
 

@@ -17,6 +17,7 @@ use Rattle.label_defs.specs.LabelData.{Place, LabelData, same_fec, use_of, has_b
 use Rattle.label_defs.specs.Settling.{with_use}
 use Rattle.label_defs.specs.Steps.{branch_to, released, with_release}
 use Rattle.label_defs.specs.Settled.{Maps, AllSettled}
+use Rattle.label_defs.specs.Members.{in_order}
 use Rattle.label_defs.proofs.KeyLemmas.{fec_cmp_total, fec_cmp_exact, branch_cmp_total, branch_cmp_exact, node_cmp_total, node_cmp_exact, same_fec_equal, same_fec_from, node_cases}
 use Rattle.label_defs.proofs.UseLemmas.{set_here, set_there}
 use Rattle.label_defs.proofs.SetLemmas.{any_as, inserted_other, removed_other, put_here, put_other}
@@ -41,7 +42,7 @@ other_branch : (branch own : Branch) (fec : Fec) → (fec ≡ branch.fec → ⊥
 other_branch branch own fec ne h e = ne (sym (same_fec_equal own.fec fec h) ∙ ap (λ (b : Branch). b.fec) e)
 
 any_branch : (fec : Fec) (s t : FinSet branch_cmp) → ((own : Branch) → same_fec own.fec fec ≡ true → sets.contains s own ≡ sets.contains t own)
-    → list_any (λ (own : Branch). same_fec own.fec fec) (sets.items s) ≡ list_any (λ (own : Branch). same_fec own.fec fec) (sets.items t)
+    → list_any (λ (own : Branch). same_fec own.fec fec) (in_order s) ≡ list_any (λ (own : Branch). same_fec own.fec fec) (in_order t)
 any_branch fec s t same = any_as branch_cmp_total branch_cmp_exact (λ own. same_fec own.fec fec) s t same
 
 pub branch_added : (place : Place) (part : LabelData) (branch : Branch) → AllSettled place part → Good place (branch.fec ∷ []) (record part { branches = sets.insert part.branches branch })

@@ -1,4 +1,5 @@
 pub mod KeyLemmas
+pub mod MemberLemmas
 pub mod UseLemmas
 pub mod SetLemmas
 pub mod TreeLemmas

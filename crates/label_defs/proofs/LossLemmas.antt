@@ -15,7 +15,9 @@ use Rattle.label_defs.specs.Keys.{fec_cmp}
 use Rattle.label_defs.specs.LabelData.{Place, LabelData, same_fec, use_of, has_branch, has_tree, is_ready, mapped_trees, trees}
 use Rattle.label_defs.specs.Steps.{freed, without_session}
 use Rattle.label_defs.specs.Settled.{Maps, Settled, AllSettled}
+use Rattle.label_defs.specs.Members.{in_order}
 use Rattle.label_defs.proofs.KeyLemmas.{fec_cmp_total, branch_cmp_total, branch_cmp_exact, node_cmp_total, node_cmp_exact, same_fec_itself, node_itself, node_cases, node_apart}
+use Rattle.label_defs.proofs.MemberLemmas.{contains_in_order}
 use Rattle.label_defs.proofs.UseLemmas.{used_some, used-map, map_some}
 use Rattle.label_defs.proofs.SetLemmas.{member_passes, passing_member, retained, cut_other}
 use Rattle.label_defs.proofs.TreeLemmas.{Tied, tied, not_both}
@@ -85,16 +87,16 @@ pub record Absent (part : LabelData) (fec : Fec) : Type 0 where
 
 pub absent : (part : LabelData) (fec : Fec) → list_any (same_fec fec) (trees part) ≡ false → Absent part fec
 absent part fec h =
-    let branches = map (λ (branch : Branch). branch.fec) (sets.items part.branches) in
-    let leaves = sets.items part.leaves in
+    let branches = map (λ (branch : Branch). branch.fec) (in_order part.branches) in
+    let leaves = in_order part.leaves in
     let mapped = mapped_trees part.labels in
     let all = branches ++ (leaves ++ mapped) in
-    let out : list_any (same_fec fec) all ≡ false = sym (sets.contains-from_list fec_cmp_total all fec) ∙ sets.contains-items (sets.from_list {R = fec_cmp} all) fec ∙ h in
+    let out : list_any (same_fec fec) all ≡ false = sym (sets.contains-from_list fec_cmp_total all fec) ∙ contains_in_order fec_cmp_total (sets.from_list {R = fec_cmp} all) fec ∙ h in
     let x = or_parts (list_any (same_fec fec) branches) (list_any (same_fec fec) (leaves ++ mapped)) (sym (list_any-append (same_fec fec) branches (leaves ++ mapped)) ∙ out) in
     let y = or_parts (list_any (same_fec fec) leaves) (list_any (same_fec fec) mapped) (sym (list_any-append (same_fec fec) leaves mapped) ∙ x.1) in
     record {
-      branches = sym (any_fec fec (sets.items part.branches)) ∙ x.0;
-      leaves = sets.contains-items part.leaves fec ∙ y.0;
+      branches = sym (any_fec fec (in_order part.branches)) ∙ x.0;
+      leaves = contains_in_order fec_cmp_total part.leaves fec ∙ y.0;
       none = λ label u p. not_both (list_any (same_fec fec) mapped) (in_mapped fec u part.labels _ (used_some part.labels label (uses.Mapped fec u) p).1) y.1;
     }
 

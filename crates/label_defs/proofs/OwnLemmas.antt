@@ -14,13 +14,14 @@ use Rattle.label_defs.specs.LabelData.{Place, LabelData, same_fec, use_of, has_t
 use Rattle.label_defs.specs.Settling.{Stepped, with_use, settle_all}
 use Rattle.label_defs.specs.Steps.{Call, Taken, Want, Unwant, Raised, Noticed, Timers, released, with_release, freed, woken, effect, counted, label_step}
 use Rattle.label_defs.specs.Laws.{is_free_in, FreeIn}
+use Rattle.label_defs.specs.Members.{in_order}
 use Rattle.label_defs.proofs.UseLemmas.{set_here, set_there, used-map, map_some}
 use Rattle.label_defs.proofs.EffectLemmas.{held}
 use Rattle.label_defs.proofs.TurnLemmas.{SameRest, Turn, settle_all_keeps}
 
 -- what a turn keeps of trees and ends
 pub rest_tree : (old new : LabelData) → SameRest old new → (fec : Fec) → has_tree new fec ≡ has_tree old fec
-rest_tree old new same fec = λ i. list_any (λ branch. same_fec branch.fec fec) (sets.items (same.branches i)) || sets.contains (same.leaves i) fec
+rest_tree old new same fec = λ i. list_any (λ branch. same_fec branch.fec fec) (in_order (same.branches i)) || sets.contains (same.leaves i) fec
 
 pub rest_ready : (old new : LabelData) → SameRest old new → (node : NodeId) → is_ready new node ≡ is_ready old node
 rest_ready old new same node = ap (λ ends. held (maps.get ends node)) same.ends

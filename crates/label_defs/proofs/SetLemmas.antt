@@ -9,7 +9,9 @@ use Rattle.std.specs.FinMap.{FinMap, IsAntisymmetric, find}
 use Rattle.std.specs.FinSet as sets
 use Rattle.std.specs.FinSet.{FinSet}
 use Rattle.std.proofs.lemmas.Bool.{cases_Bool, or_cases, or_left, or_right}
+use Rattle.label_defs.specs.Members.{in_order}
 use Rattle.label_defs.proofs.KeyLemmas.{ties, apart}
+use Rattle.label_defs.proofs.MemberLemmas.{contains_in_order}
 
 module _ {K : Type 0} {R : K → K → Ordering} (total : IsTotalOrder R) (exact : IsAntisymmetric R) where
   -- an item that passes
@@ -27,15 +29,15 @@ module _ {K : Type 0} {R : K → K → Ordering} (total : IsTotalOrder R) (exact
     | inr t ↦ let more = any_to p xs t in (more.0, or_right (eq_by_cmp R more.0 x) (list_any (eq_by_cmp R more.0) xs) more.1, more.2)
   ]
 
-  pub member_passes : (p : K → Bool) (s : FinSet R) (k : K) → sets.contains s k ≡ true → p k ≡ true → list_any p (sets.items s) ≡ true
-  member_passes p s k e h = any_from p (sets.items s) k (sym (sets.contains-items s k) ∙ e) h
+  pub member_passes : (p : K → Bool) (s : FinSet R) (k : K) → sets.contains s k ≡ true → p k ≡ true → list_any p (in_order s) ≡ true
+  member_passes p s k e h = any_from p (in_order s) k (sym (contains_in_order total s k) ∙ e) h
 
-  pub passing_member : (p : K → Bool) (s : FinSet R) → list_any p (sets.items s) ≡ true → (k : K) × (sets.contains s k ≡ true) × (p k ≡ true)
-  passing_member p s e = let x = any_to p (sets.items s) e in (x.0, sets.contains-items s x.0 ∙ x.1, x.2)
+  pub passing_member : (p : K → Bool) (s : FinSet R) → list_any p (in_order s) ≡ true → (k : K) × (sets.contains s k ≡ true) × (p k ≡ true)
+  passing_member p s e = let x = any_to p (in_order s) e in (x.0, contains_in_order total s x.0 ∙ x.1, x.2)
 
   -- sets that agree on what passes
-  pub any_as : (p : K → Bool) (s t : FinSet R) → ((k : K) → p k ≡ true → sets.contains s k ≡ sets.contains t k) → list_any p (sets.items s) ≡ list_any p (sets.items t)
-  any_as p s t same = both_ways (list_any p (sets.items s)) (list_any p (sets.items t))
+  pub any_as : (p : K → Bool) (s t : FinSet R) → ((k : K) → p k ≡ true → sets.contains s k ≡ sets.contains t k) → list_any p (in_order s) ≡ list_any p (in_order t)
+  any_as p s t same = both_ways (list_any p (in_order s)) (list_any p (in_order t))
       (λ h. let x = passing_member p s h in member_passes p t x.0 (sym (same x.0 x.2) ∙ x.1) x.2)
       (λ h. let x = passing_member p t h in member_passes p s x.0 (same x.0 x.2 ∙ x.1) x.2)
 

@@ -13,12 +13,14 @@ use Rattle.label_defs.specs.LabelData.{Place, LabelData, use_of, has_tree, is_re
 use Rattle.label_defs.specs.Settling.{is_ready_to}
 use Rattle.label_defs.specs.Steps.{woken, hold_run, holds_run, timed}
 use Rattle.label_defs.specs.Settled.{Maps, Settled, AllSettled}
-use Rattle.label_defs.proofs.KeyLemmas.{node_cmp_total, node_cmp_exact}
+use Rattle.label_defs.specs.Members.{in_order}
+use Rattle.label_defs.proofs.KeyLemmas.{node_cmp_total, node_cmp_exact, fec_cmp_total}
 use Rattle.label_defs.proofs.UseLemmas.{used-map, map_some}
 use Rattle.label_defs.proofs.SetLemmas.{get-changed}
 use Rattle.label_defs.proofs.TreeLemmas.{Tied, tied, waits}
 use Rattle.label_defs.proofs.SettleLemmas.{Good}
 use Rattle.label_defs.proofs.EffectLemmas.{held}
+use Rattle.label_defs.proofs.MemberLemmas.{contains_in_order}
 
 pub woken_maps : (now : ℕ) (usage : LabelUse) (fec : Fec) (u : NodeId) → woken now usage ≡ uses.Mapped fec u → usage ≡ uses.Mapped fec u
 woken_maps now uses.Free fec u e = e
@@ -85,9 +87,9 @@ module _ (place : Place) (now : ℕ) (part : LabelData) where
         waiting = h ∙ sym (none_waits (has_tree part fec) (place.upstream fec) quiet);
       }
 
-  pub timed_good : AllSettled place part → Good place (sets.items part.waiting) (timed place now part)
+  pub timed_good : AllSettled place part → Good place (in_order part.waiting) (timed place now part)
   timed_good all =
       record {
         tied = λ fec. timed_tied fec (tied place part fec (all fec));
-        settled = λ fec h. timed_settled fec (sets.contains-items part.waiting fec ∙ h) (all fec);
+        settled = λ fec h. timed_settled fec (contains_in_order fec_cmp_total part.waiting fec ∙ h) (all fec);
       }

@@ -42,7 +42,7 @@ own_maps place now (Raised peer) label usage fec to e = e
 own_maps place now (Noticed peer) label usage fec to e = (freed_maps peer usage fec to e).0
 own_maps place now Timers label usage fec to e = woken_maps now usage fec to e
 
-mapped_before : (place : Place) (now : ℕ) (part : LabelData) (call : Call) (label : ℕ) (fec : Fec) (to : NodeId) → Maps (effect place now part call).0.part fec label to → Maps part fec label to
+pub mapped_before : (place : Place) (now : ℕ) (part : LabelData) (call : Call) (label : ℕ) (fec : Fec) (to : NodeId) → Maps (effect place now part call).0.part fec label to → Maps part fec label to
 mapped_before place now part call label fec to e =
     let x = map_some (own_use place now call label) (use_of part label) (uses.Mapped fec to) (sym (effect_use place now part call label) ∙ e) in
     x.1 ∙ ap (λ (u : LabelUse). Some u) (own_maps place now call label x.0 fec to x.2)

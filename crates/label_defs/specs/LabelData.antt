@@ -1,6 +1,6 @@
 -- The label part of a node as plain data, and what is read from it.
 use Rattle.std.specs.Prelude.{ℕ, ◌+◌, ◌-◌, ◌||◌, ◌&&◌, Bool, true, false, not, nat_le, nat_lt, List, [], ◌∷◌, ◌++◌, map, replicate, slice_get, position, option_map, is_some, Option, None, Some, count_by, if◌then◌else◌}
-use Rattle.std.specs.List.{list_any}
+use Rattle.std.specs.List.{filter, list_any}
 use Rattle.std.specs.Ordering.{eq_by_cmp}
 use Rattle.std.specs.FinMap as maps
 use Rattle.std.specs.FinMap.{FinMap}
@@ -8,10 +8,12 @@ use Rattle.std.specs.FinSet as sets
 use Rattle.std.specs.FinSet.{FinSet}
 use Rattle.mv_base.specs.declared.ids.NodeId.{NodeId}
 use Rattle.mldp_fec.specs.declared.fec.Fec.{Fec}
+use Rattle.label_defs.specs.declared.branch.Branch.{Branch}
 use Rattle.label_defs.specs.declared.end.End.{End}
 use Rattle.label_defs.specs.declared.label_use.LabelUse.{LabelUse}
 use Rattle.label_defs.specs.declared.label_use.LabelUse.TheVariants as uses
 use Rattle.label_defs.specs.Keys.{fec_cmp, branch_cmp, node_cmp}
+use Rattle.label_defs.specs.Members.{in_order}
 
 -- A node's place in the network: how long a copy may be on a link, which FECs are those of trees (they are P2MP, and their
 -- root is the address of a node), and the neighbour towards the root of a tree, none at the root itself.
@@ -65,9 +67,13 @@ free_label part = option_map (λ place. first_label + place) (position is_free p
 abbrev pub mapped_label : LabelData → Fec → Option ℕ
 mapped_label part fec = option_map (λ place. first_label + place) (position (is_mapped fec) part.labels)
 
+-- the branches of the tree, each once, in order of neighbours, and then of labels
+abbrev pub branches_of : LabelData → Fec → List Branch
+branches_of part fec = filter (λ branch. same_fec branch.fec fec) (in_order part.branches)
+
 -- whether the node has a branch of the tree
 abbrev pub has_branch : LabelData → Fec → Bool
-has_branch part fec = list_any (λ branch. same_fec branch.fec fec) (sets.items part.branches)
+has_branch part fec = list_any (λ branch. same_fec branch.fec fec) (in_order part.branches)
 
 -- whether the node is on the tree: it has a branch or is a leaf
 abbrev pub has_tree : LabelData → Fec → Bool
@@ -89,7 +95,7 @@ mapped_trees (other ∷ more) = mapped_trees more
 
 -- the trees of the node, in their order: those with a branch, a leaf, or a mapped label
 abbrev pub trees : LabelData → List Fec
-trees part = sets.items (sets.from_list {R = fec_cmp} (map (λ branch. branch.fec) (sets.items part.branches) ++ (sets.items part.leaves ++ mapped_trees part.labels)))
+trees part = in_order (sets.from_list {R = fec_cmp} (map (λ branch. branch.fec) (in_order part.branches) ++ (in_order part.leaves ++ mapped_trees part.labels)))
 
 -- whether a resting label is due
 abbrev pub is_rested : ℕ → LabelUse → Bool

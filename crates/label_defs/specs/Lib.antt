@@ -1,4 +1,5 @@
 pub mod Keys
+pub mod Members
 pub mod LabelData
 pub mod Settling
 pub mod Steps

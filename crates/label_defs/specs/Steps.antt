@@ -14,6 +14,7 @@ use Rattle.label_defs.specs.declared.label_use.LabelUse.TheVariants as uses
 use Rattle.label_defs.specs.declared.put.Put.{Put}
 use Rattle.label_defs.specs.Keys.{node_cmp}
 use Rattle.label_defs.specs.LabelData.{Place, LabelData, same_fec, use_of, trees, is_hold_due}
+use Rattle.label_defs.specs.Members.{in_order}
 use Rattle.label_defs.specs.Settling.{with_use, Stepped, settle_all}
 
 -- ---- what a taken message itself changes
@@ -103,7 +104,7 @@ effect place now part (Want fec) = (record { part = record part { leaves = sets.
 effect place now part (Unwant fec) = (record { part = record part { leaves = sets.remove part.leaves fec }; puts = [] }, fec ∷ [])
 effect place now part (Raised peer) = (record { part = record part { ends = maps.insert part.ends peer (record { raised = now; held = false }); ids = maps.insert part.ids peer 1 }; puts = [] }, [])
 effect place now part (Noticed peer) = (record { part = without_session part peer; puts = [] }, trees part)
-effect place now part Timers = (record { part = timed place now part; puts = [] }, sets.items part.waiting)
+effect place now part Timers = (record { part = timed place now part; puts = [] }, in_order part.waiting)
 
 -- the id behind that of a message: they grow by one, and 1 follows the highest
 abbrev pub next_id : ℕ → ℕ

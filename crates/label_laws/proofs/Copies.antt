@@ -1,10 +1,8 @@
 -- Copies are put, land and are dropped.
 use Rattle.std.proofs.Common.{◌≡◌, ◌≢◌, ℕ, ◌==◌, ◌&&◌, Bool, true, false, cond, inl, inr, refl, sym, ap, subst, ◌∙◌, List, [], ◌∷◌, ◌++◌, map, take, drop, zero, suc, slice_get, Option, Some, None, arith}
-use Rattle.std.proofs.lemmas.Bool.{cases_Bool, and_parts, or_left, or_right}
+use Rattle.std.proofs.lemmas.Bool.{cases_Bool}
 use Rattle.std.proofs.lemmas.Option.{same_Some, none-some}
-use Rattle.std.specs.List.{AllByRecursion, list_any, remove}
-use Rattle.std.specs.Cmp.{tied_itself}
-use Rattle.std.specs.Ordering.{eq_by_cmp, is_eq}
+use Rattle.std.specs.List.{AllByRecursion, remove}
 use Rattle.std.specs.FinSet as sets
 use Rattle.mv_base.specs.declared.ids.NodeId.{NodeId}
 use Rattle.mldp_fec.specs.declared.fec.Fec.{Fec}
@@ -12,10 +10,11 @@ use Rattle.label_defs.specs.declared.branch.Branch.{Branch}
 use Rattle.label_defs.specs.declared.end.End.{End}
 use Rattle.label_defs.specs.declared.label_use.LabelUse.{LabelUse}
 use Rattle.label_defs.specs.declared.label_use.LabelUse.TheVariants as uses
-use Rattle.label_defs.specs.Keys.{branch_cmp}
-use Rattle.label_defs.specs.LabelData.{LabelData, same_fec, use_of}
+use Rattle.label_defs.specs.Members.{in_order}
+use Rattle.label_defs.specs.LabelData.{LabelData, same_fec, use_of, branches_of}
 use Rattle.label_defs.specs.Steps.{branch_to}
 use Rattle.label_defs.proofs.KeyLemmas.{branch_cmp_total, node_equal, node_itself, same_fec_equal}
+use Rattle.label_defs.proofs.MemberLemmas.{each_in_order}
 use Rattle.label_laws.specs.Network.{PacketCopy, LabelNetwork}
 use Rattle.label_laws.specs.Acts.{with_copies, labels_to, copied, without_copy, forwarded, landed}
 use Rattle.label_laws.specs.Rule.{Holds, LabelCovers, mapped, leaving, resting, Unheld, Covered, CopyOk, Rule, Kept, end_of, branch_trees, is_held}
@@ -68,28 +67,19 @@ on_cond : (P : List PacketCopy → Type 0) (t : Bool) (xs ys : List PacketCopy) 
 on_cond P true xs ys h k = h refl
 on_cond P false xs ys h k = k
 
--- each item of a set is in it
-each_in : (all xs : List Branch) → ((b : Branch) → list_any (eq_by_cmp branch_cmp b) xs ≡ true → list_any (eq_by_cmp branch_cmp b) all ≡ true) → AllByRecursion (λ (b : Branch). list_any (eq_by_cmp branch_cmp b) all ≡ true) xs
-each_in all [] h = tt
-each_in all (x ∷ xs) h = (
-  h x (or_left (eq_by_cmp branch_cmp x x) (list_any (eq_by_cmp branch_cmp x) xs) (ap is_eq (tied_itself branch_cmp_total x))),
-  each_in all xs (λ b e. h b (or_right (eq_by_cmp branch_cmp b x) (list_any (eq_by_cmp branch_cmp b) xs) e)),
-)
-
 -- the labels of a tree's branches to a neighbour are those under which there is one
-each_label : (d : LabelData) (to : NodeId) (fec : Fec) → AllByRecursion (λ (l : ℕ). branch_trees d to l fec ≡ true) (labels_to to fec (sets.items d.branches))
+each_label : (d : LabelData) (to : NodeId) (fec : Fec) → AllByRecursion (λ (l : ℕ). branch_trees d to l fec ≡ true) (labels_to to (branches_of d fec))
 each_label d to fec =
-    let items = sets.items d.branches in
-    let In : Branch → Type 0 = λ b. list_any (eq_by_cmp branch_cmp b) items ≡ true in
+    let In : Branch → Type 0 = λ b. sets.contains d.branches b ≡ true in
+    let Of : Branch → Type 0 = λ b. In b × (b.fec ≡ fec) in
     let Own : Branch → Type 0 = λ b. branch_trees d to b.label fec ≡ true in
-    let own : (b : Branch) → ((b.node.0 == to.0) && same_fec b.fec fec) ≡ true → In b → Own b = λ b t is.
-    let x = and_parts (b.node.0 == to.0) (same_fec b.fec fec) t in
-    let n = node_equal b.node to x.0 in
-    let f = same_fec_equal b.fec fec x.1 in
-    let same : b ≡ branch_to to fec b.label = λ i. record { fec = f i; node = n i; label = b.label } in
-    sym (ap (sets.contains d.branches) same) ∙ (sets.contains-items d.branches b ∙ is) in
+    let own : (b : Branch) → (b.node.0 == to.0) ≡ true → Of b → Own b = λ b t is.
+    let n = node_equal b.node to t in
+    let same : b ≡ branch_to to fec b.label = λ i. record { fec = is.1 i; node = n i; label = b.label } in
+    sym (ap (sets.contains d.branches) same) ∙ is.0 in
     each_mapped (λ (b : Branch). b.label) Own (λ (l : ℕ). branch_trees d to l fec ≡ true) (λ b h. h) _
-    (each_filtered (λ (b : Branch). (b.node.0 == to.0) && same_fec b.fec fec) In Own own items (each_in items items (λ b e. e)))
+    (each_filtered (λ (b : Branch). b.node.0 == to.0) Of Own own (branches_of d fec)
+    (each_filtered (λ (b : Branch). same_fec b.fec fec) In Of (λ b t is. (is, same_fec_equal b.fec fec t)) (in_order d.branches) (each_in_order branch_cmp_total In d.branches (λ b is. is))))
 
 -- ---- copies are put
 
@@ -113,14 +103,14 @@ pub copied_rule : (w : LabelNetwork) (n : NodeId) (fec : Fec) (number : ℕ) →
 copied_rule w n fec number fits rule =
     copies_rule w _ (λ u v j.
     let old = (w.direction u v).copies in
-    let new = map (λ label. record { label = label; put_at = w.clock; number = number }) (labels_to v fec (sets.items (w.node n).branches)) in
+    let new = map (λ label. record { label = label; put_at = w.clock; number = number }) (labels_to v (branches_of (w.node n) fec)) in
     on_cond (CopiesOk w u v) (u.0 == n.0) (old ++ new) old (λ t.
     let P : ℕ → Type 0 = λ l. branch_trees (w.node n) v l fec ≡ true in
     let ok : (l : ℕ) → P l → CopyOk w.clock w.life w.vpn_of w.origin u (w.node v) (record { label = l; put_at = w.clock; number = number }) = λ l is.
     let same = node_equal u n t in
     record { past = omega arith; young = omega arith; covered = put_covered w u v l fec (w.origin number) j fits (ap (λ x. branch_trees (w.node x) v l fec) same ∙ is) rule } in
     each_append (CopyOk w.clock w.life w.vpn_of w.origin u (w.node v)) old new (rule.copies u v j)
-    (each_mapped (λ label. record { label = label; put_at = w.clock; number = number }) P (CopyOk w.clock w.life w.vpn_of w.origin u (w.node v)) ok (labels_to v fec (sets.items (w.node n).branches)) (each_label (w.node n) v fec)))
+    (each_mapped (λ label. record { label = label; put_at = w.clock; number = number }) P (CopyOk w.clock w.life w.vpn_of w.origin u (w.node v)) ok (labels_to v (branches_of (w.node n) fec)) (each_label (w.node n) v fec)))
     (rule.copies u v j)) rule
 
 pub copied_kept : (w : LabelNetwork) (n : NodeId) (fec : Fec) (number : ℕ) → w.vpn_of fec ≡ w.origin number → Kept w → Kept (copied w n fec number)

@@ -1,7 +1,6 @@
 -- What may happen in a network of label nodes, and its runs (RFC 6388 section 2.4, RFC 5036 section 3.5).
 use Rattle.std.specs.Prelude.{ℕ, ◌+◌, ◌==◌, ◌&&◌, ◌||◌, not, nat_le, Bool, true, false, List, [], ◌∷◌, ◌++◌, map, length, slice_get, option_map, Option, Some, if◌then◌else◌}
 use Rattle.std.specs.List.{filter, remove}
-use Rattle.std.specs.FinSet as sets
 use Rattle.mv_base.specs.Number.{◌>>?◌}
 use Rattle.mv_base.specs.declared.ids.NodeId.{NodeId}
 use Rattle.mldp_fec.specs.declared.fec.Fec.{Fec}
@@ -9,7 +8,7 @@ use Rattle.mldp_msgs.specs.declared.message.LabelMessage.{LabelMessage}
 use Rattle.label_defs.specs.declared.branch.Branch.{Branch}
 use Rattle.label_defs.specs.declared.label_use.LabelUse.{LabelUse}
 use Rattle.label_defs.specs.declared.label_use.LabelUse.TheVariants as uses
-use Rattle.label_defs.specs.LabelData.{fresh, same_fec, use_of, is_up}
+use Rattle.label_defs.specs.LabelData.{fresh, use_of, is_up, branches_of}
 use Rattle.label_defs.specs.Steps as steps
 use Rattle.label_defs.specs.Steps.{Call, label_step}
 use Rattle.label_laws.specs.Network.{PacketCopy, LabelNetwork, place_of, at_node, behind}
@@ -41,16 +40,16 @@ wanted network n fec false = Some network
 abbrev pub with_copies : LabelNetwork → (NodeId → NodeId → List PacketCopy) → LabelNetwork
 with_copies network copies = record network { direction = λ u n. record (network.direction u n) { copies = copies u n } }
 
--- the labels of the branches of a tree to one neighbour
-abbrev pub labels_to : NodeId → Fec → List Branch → List ℕ
-labels_to to fec branches = map (λ branch. branch.label) (filter (λ branch. (branch.node.0 == to.0) && same_fec branch.fec fec) branches)
+-- the labels of the branches to one neighbour, in order
+abbrev pub labels_to : NodeId → List Branch → List ℕ
+labels_to to branches = map (λ branch. branch.label) (filter (λ branch. branch.node.0 == to.0) branches)
 
--- A node puts a copy on each of its branches of a tree. The end towards the neighbour of a branch is up.
+-- A node puts a copy on each of its branches of a tree, in order. The end towards the neighbour of a branch is up.
 abbrev pub copied : LabelNetwork → NodeId → Fec → ℕ → LabelNetwork
 copied network n fec number =
     with_copies network (λ from to.
     if from.0 == n.0
-    then (network.direction from to).copies ++ map (λ label. record { label = label; put_at = network.clock; number = number }) (labels_to to fec (sets.items (network.node n).branches))
+    then (network.direction from to).copies ++ map (λ label. record { label = label; put_at = network.clock; number = number }) (labels_to to (branches_of (network.node n) fec))
     else (network.direction from to).copies)
 
 -- a copy leaves its link

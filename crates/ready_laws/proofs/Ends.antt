@@ -18,6 +18,7 @@ use Rattle.label_defs.specs.Keys.{node_cmp, fec_cmp}
 use Rattle.label_defs.specs.LabelData.{Place, LabelData, use_of}
 use Rattle.label_defs.specs.Settling.{Stepped, with_use}
 use Rattle.label_defs.specs.Steps.{Call, Taken, Want, Unwant, Raised, Noticed, Timers, released, with_release, hold_run, effect, label_step}
+use Rattle.label_defs.specs.Members.{in_order}
 use Rattle.label_defs.proofs.KeyLemmas.{node_cmp_total, node_cmp_exact, node_cases, node_itself, node_apart}
 use Rattle.label_defs.proofs.SetLemmas.{put_here, put_other, cut_here, cut_other}
 use Rattle.label_defs.proofs.TimerLemmas.{timed_end}
@@ -123,7 +124,7 @@ each_leaf new (fec ∷ more) = (by (sets.contains new fec), each_leaf new more)
     by false = tt
 
 pub leaves_are : (old new : FinSet fec_cmp) → AllByRecursion IsOfLeaf (changed_leaves old new)
-leaves_are old new = each_leaf new (filter (λ fec. not (sets.contains old fec && sets.contains new fec)) (sets.items (sets.union old new)))
+leaves_are old new = each_leaf new (filter (λ fec. not (sets.contains old fec && sets.contains new fec)) (in_order (sets.union old new)))
 
 -- the ends behind a row are those before it
 abbrev SameBehind : LabelData → List LabelStep → Type 0

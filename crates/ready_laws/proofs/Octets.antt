@@ -30,11 +30,11 @@ abbrev pub Leads : (OctetNetwork Nodes → Type 0) → Option (Behind (OctetNetw
 Leads P None = ⊤
 Leads P (Some new) = P new.network
 
-leads_earlier : (P : OctetNetwork Nodes → Type 0) (puts : List Put) (found : Option (Behind (OctetNetwork Nodes))) → Leads P found → Leads P (with_earlier puts found)
+pub leads_earlier : (P : OctetNetwork Nodes → Type 0) (puts : List Put) (found : Option (Behind (OctetNetwork Nodes))) → Leads P found → Leads P (with_earlier puts found)
 leads_earlier P puts None h = tt
 leads_earlier P puts (Some new) h = h
 
-leads_then : (P Q : OctetNetwork Nodes → Type 0) (found : Option (Behind (OctetNetwork Nodes))) (next : OctetNetwork Nodes → Option (Behind (OctetNetwork Nodes))) → Leads P found → ((network : OctetNetwork Nodes) → P network → Leads Q (next network))
+pub leads_then : (P Q : OctetNetwork Nodes → Type 0) (found : Option (Behind (OctetNetwork Nodes))) (next : OctetNetwork Nodes → Option (Behind (OctetNetwork Nodes))) → Leads P found → ((network : OctetNetwork Nodes) → P network → Leads Q (next network))
     → Leads Q (found >>? λ new. with_earlier new.puts (next new.network))
 leads_then P Q None next p h = tt
 leads_then P Q (Some new) next p h = leads_earlier Q new.puts (next new.network) (h new.network p)

@@ -56,7 +56,7 @@ turned scenario has told old t timed acts next e = by (refusal old timed.event) 
 
 -- ---- the lines that a run refuses
 
-first_lines : (number : ℕ) (acts : List Happened) (rest : List Traced) → lines_of (report_of (traced number acts ++ rest)) ≡ lines_in acts ++ lines_of (report_of rest)
+pub first_lines : (number : ℕ) (acts : List Happened) (rest : List Traced) → lines_of (report_of (traced number acts ++ rest)) ≡ lines_in acts ++ lines_of (report_of rest)
 first_lines number [] rest = refl
 first_lines number (happened ∷ more) rest = ap (λ l. happened.lines ++ l) (first_lines number more rest) ∙ sym (append_assoc happened.lines (lines_in more) (lines_of (report_of rest)))
 
@@ -91,7 +91,7 @@ refused_above scenario has (timed ∷ more) old number trace new told above line
     (refused_above scenario has more run.1 (number + 1) run.2 new _ timed.line line h.1 (let lt = h.0 in omega (arith, le, lt)) x.tells run.5)
 
 -- a test of any of three of which only the second can be true
-any_middle : (a b c r : Bool) → a ≡ false → b ≡ r → c ≡ false → (a || (b || c)) ≡ r
+pub any_middle : (a b c r : Bool) → a ≡ false → b ≡ r → c ≡ false → (a || (b || c)) ≡ r
 any_middle a b c true d e f = rw (d, e) refl
 any_middle a b c false d e f = rw (d, e, f) refl
 

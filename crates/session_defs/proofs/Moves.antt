@@ -23,7 +23,7 @@ use Rattle.session_defs.proofs.Deliveries.{IsSeen, in_front, honest_while, taken
 -- ---- what comes of one line
 
 -- what comes of a line when a piece goes to the receiver
-came_of : (kind : Kind) (stream : Stream) (transit : List ℕ) (pending : List SessionMessage) (count : ℕ) (c : Carried kind stream transit pending)
+pub came_of : (kind : Kind) (stream : Stream) (transit : List ℕ) (pending : List SessionMessage) (count : ℕ) (c : Carried kind stream transit pending)
     → Came (front_of kind) (Spells kind) (stream.held ++ take count transit) (drop count transit) c.units
 came_of kind stream transit pending count c =
     let here : List ℕ = stream.held ++ take count transit in

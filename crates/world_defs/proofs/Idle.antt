@@ -24,7 +24,9 @@ use Rattle.label_defs.specs.LabelData.{LabelData, Place, mapped_trees}
 use Rattle.label_defs.specs.Settling.{Stepped, settle_all}
 use Rattle.label_defs.specs.Steps as label_calls
 use Rattle.label_defs.specs.Steps.{label_step, holds_run, woken, freed, counted}
+use Rattle.label_defs.specs.Members.{in_order}
 use Rattle.label_defs.proofs.KeyLemmas.{fec_cmp_total, fec_cmp_exact, branch_cmp_total, branch_cmp_exact}
+use Rattle.label_defs.proofs.MemberLemmas.{none_in_order}
 use Rattle.edge_defs.specs.Keys.{addr_part, same_value}
 use Rattle.table_defs.specs.Changes.{changes}
 use Rattle.edge_defs.specs.Edge.{Note, note_cmp, Upstream, VrfFlow, Taken, Selected, VrfPattern, no_control, flow_cmp, pattern_cmp}
@@ -40,7 +42,7 @@ use Rattle.net_defs.specs.Sessions.{edges}
 use Rattle.world_defs.specs.Nodes.{NodeState, Edge, CoreNode, Nodes, with_node, place_of}
 use Rattle.world_defs.specs.Puts.{bgp_put, bgp_puts, label_puts}
 use Rattle.world_defs.specs.System.{node_called, core_called}
-use Rattle.world_defs.proofs.Nothing.{flat_none, no_entries, empty_by, no_items, no_union, none_retained}
+use Rattle.world_defs.proofs.Nothing.{flat_none, no_entries, empty_by, no_union, none_retained}
 
 -- ---- an edge that keeps nothing
 
@@ -50,8 +52,8 @@ note_cmp_total = on_total (λ (note : Note). (note.iface.0 ∷ []) ∷ addr_part
 entry_cmp_total : IsTotalOrder entry_cmp
 entry_cmp_total = on_total iface_entry_key nat_list_cmp_total
 
-no_notes : sets.items no_control.notes ≡ []
-no_notes = no_items note_cmp_total
+no_notes : in_order no_control.notes ≡ []
+no_notes = none_in_order note_cmp_total
 
 no_vrf_flows : (place : EdgePlace) (now : ℕ) (own : OwnVrf) → vrf_flows place now no_control own ≡ []
 no_vrf_flows place now own = λ i. map (with_upstream place no_control own) (filter (is_flow place now no_control own) (
@@ -90,7 +92,7 @@ no_changed_leaves : (place : EdgePlace) → changed_leaves (leaves place no_cont
 no_changed_leaves place =
     (λ i. changed_leaves (no_leaves place i) (no_leaves place i))
     ∙ (λ i. map (λ fec. if sets.contains (sets.empty {R = fec_cmp}) fec then label_calls.Want fec else label_calls.Unwant fec)
-    (filter (λ fec. not (sets.contains (sets.empty {R = fec_cmp}) fec && sets.contains (sets.empty {R = fec_cmp}) fec)) ((ap sets.items (no_union fec_cmp_total fec_cmp_exact) ∙ no_items fec_cmp_total) i)))
+    (filter (λ fec. not (sets.contains (sets.empty {R = fec_cmp}) fec && sets.contains (sets.empty {R = fec_cmp}) fec)) ((ap in_order (no_union fec_cmp_total fec_cmp_exact) ∙ none_in_order fec_cmp_total) i)))
 
 -- a step that changes no control makes its own label step alone
 idle_edge_step : (place : EdgePlace) (now : ℕ) (part : LabelData) (call : steps.Call) (own : label_calls.Call) (new : Stepped) → own_label_call call ≡ Some own → control_step place now no_control call ≡ no_control → label_step (label_place place.scenario place.core place.me) now part own ≡ Some new
@@ -150,7 +152,7 @@ raised_part place now count ends ids peer = refl
 timed_part : (place : Place) (now count : ℕ) (ends : FinMap node_cmp End) (ids : FinMap node_cmp ℕ)
     → label_step place now (idle count ends ids) label_calls.Timers ≡ Some (record { part = idle count (holds_run place.life now ends) ids; puts = [] })
 timed_part place now count ends ids = λ i.
-    option_map counted (settle_all place (no_items fec_cmp_total i) (record { part = record (idle count (holds_run place.life now ends) ids) { labels = all_same (woken now) refl count i }; puts = [] }))
+    option_map counted (settle_all place (none_in_order fec_cmp_total i) (record { part = record (idle count (holds_run place.life now ends) ids) { labels = all_same (woken now) refl count i }; puts = [] }))
 
 noticed_part : (place : Place) (now count : ℕ) (ends : FinMap node_cmp End) (ids : FinMap node_cmp ℕ) (peer : NodeId)
     → label_step place now (idle count ends ids) (label_calls.Noticed peer) ≡ Some (record { part = idle count (maps.remove ends peer) (maps.remove ids peer); puts = [] })
@@ -165,8 +167,8 @@ noticed_part place now count ends ids peer = λ i.
   where
     no_trees : labels.trees (idle count ends ids) ≡ []
     no_trees =
-        (λ i. sets.items (sets.from_list {R = fec_cmp} (map (λ (branch : Branch). branch.fec) (no_items branch_cmp_total i) ++ (no_items fec_cmp_total i ++ none_mapped count i))))
-        ∙ no_items fec_cmp_total
+        (λ i. in_order (sets.from_list {R = fec_cmp} (map (λ (branch : Branch). branch.fec) (none_in_order branch_cmp_total i) ++ (none_in_order fec_cmp_total i ++ none_mapped count i))))
+        ∙ none_in_order fec_cmp_total
 
 -- ---- what an idle node does
 

@@ -27,6 +27,14 @@ abbrev pub Comes : (World → Type 0) → Outcome → Type 0
 Comes P (Halted acts node) = ⊤
 Comes P (Done acts new) = P new
 
+pub comes_as : (P Q : World → Type 0) (o : Outcome) → ((world : World) → P world → Q world) → Comes P o → Comes Q o
+comes_as P Q (Halted acts node) h p = tt
+comes_as P Q (Done acts world) h p = h world p
+
+pub both_give : (P Q : World → Type 0) (o : Result Acted NodeId) → Gives P o → Gives Q o → Gives (λ world. P world × Q world) o
+both_give P Q (Err node) p q = tt
+both_give P Q (Ok new) p q = (p, q)
+
 pub then_comes : (P Q : World → Type 0) (first : Outcome) (next : World → Outcome) → Comes P first → ((world : World) → P world → Comes Q (next world)) → Comes Q (and_then first next)
 then_comes P Q (Halted acts node) next p h = tt
 then_comes P Q (Done acts world) next p h = by (next world) (h world p)
@@ -38,7 +46,7 @@ then_comes P Q (Done acts world) next p h = by (next world) (h world p)
 -- ---- rows, turns and rounds
 
 module _ (P : World → Type 0) where
-  one_comes : (world : World) (first : Act) → Gives P (act world first) → Comes P (one_act world first)
+  pub one_comes : (world : World) (first : Act) → Gives P (act world first) → Comes P (one_act world first)
   one_comes world first g = by (act world first) g
     where
       by : (o : Result Acted NodeId) → Gives P o → Comes P (elim o [ Ok new ↦ Done (record { act = Some first; lines = new.lines } ∷ []) new.world | Err node ↦ Halted [] node ])
@@ -60,6 +68,10 @@ module _ (P : World → Type 0) where
 -- ---- acts on copies
 
 -- copies that are put on branches
+pub branches_datagrams : (node : NodeId) (ttl number : ℕ) (branches : List Branch) (world : World) → (with_branches node ttl number branches world).datagrams ≡ world.datagrams
+branches_datagrams node ttl number [] world = refl
+branches_datagrams node ttl number (branch ∷ more) world = branches_datagrams node ttl number more (with_copies node branch.node (world.copies node branch.node ++ copy_on world ttl number branch ∷ []) world)
+
 pub branches_keep : (node : NodeId) (ttl number : ℕ) (branches : List Branch) (world : World) → (with_branches node ttl number branches world).network ≡ world.network
 branches_keep node ttl number [] world = refl
 branches_keep node ttl number (branch ∷ more) world = branches_keep node ttl number more (with_copies node branch.node (world.copies node branch.node ++ copy_on world ttl number branch ∷ []) world)

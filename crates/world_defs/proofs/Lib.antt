@@ -6,3 +6,4 @@ pub mod Readings
 pub mod Comings
 pub mod Example
 pub mod Kept
+pub mod Numbered

@@ -1,6 +1,6 @@
 -- Maps and sets with nothing in them, and maps of a few entries.
 use Rattle.std.proofs.Common.{◌≡◌, Bool, true, false, cond, not, ◌||◌, ◌&&◌, List, [], ◌∷◌, ◌++◌, length, Some, None, refl, sym, ap, ◌∙◌, arith}
-use Rattle.std.specs.List.{flat_map, list_any}
+use Rattle.std.specs.List.{flat_map}
 use Rattle.std.specs.Ordering.{is_eq, eq_by_cmp}
 use Rattle.std.specs.declared.cmp.Ordering.{Ordering}
 use Rattle.std.specs.Cmp.{IsTotalOrder, tied_itself, alike_right, eq_by_cmp_equiv}
@@ -8,7 +8,6 @@ use Rattle.std.specs.FinMap as maps
 use Rattle.std.specs.FinMap.{FinMap, IsAntisymmetric, find, put}
 use Rattle.std.specs.FinMap.Entries.{where_key, find-where_key}
 use Rattle.std.specs.FinSet as sets
-use Rattle.std.proofs.lemmas.Bool.{or_left}
 use Rattle.label_defs.proofs.SetLemmas.{retained}
 
 pub flat_none : {A B : Type 0} (f : A → List B) → ((x : A) → f x ≡ []) → (xs : List A) → flat_map f xs ≡ []
@@ -33,17 +32,6 @@ module _ {K : Type 0} {R : K → K → Ordering} (total : IsTotalOrder R) where
 
   pub empty_by : {X : Type 0} (m : FinMap R X) → ((q : K) → maps.get m q ≡ None) → m ≡ maps.empty
   empty_by {X} m none = maps.same_entries_map m maps.empty (no_pairs (maps.entries m) (λ q. sym (maps.get-entries m q) ∙ none q) ∙ sym (no_entries R X))
-
-  -- a set without a member
-  no_keys : (ks : List K) → ((q : K) → list_any (eq_by_cmp R q) ks ≡ false) → ks ≡ []
-  no_keys [] none = refl
-  no_keys (k ∷ ks) none =
-      let here : (eq_by_cmp R k k || list_any (eq_by_cmp R k) ks) ≡ true = or_left (eq_by_cmp R k k) (list_any (eq_by_cmp R k) ks) (ap is_eq (tied_itself total k)) in
-      let nowhere : true ≡ false = sym here ∙ none k in
-      absurd cc
-
-  pub no_items : sets.items (sets.empty {R = R}) ≡ []
-  no_items = no_keys (sets.items sets.empty) (λ q. sym (sets.contains-items sets.empty q) ∙ sets.contains-empty R q)
 
 module _ {K : Type 0} {R : K → K → Ordering} (total : IsTotalOrder R) (exact : IsAntisymmetric R) where
   pub no_union : sets.union (sets.empty {R = R}) sets.empty ≡ sets.empty

@@ -8,20 +8,20 @@ use Rattle.scenario_defs.specs.declared.report.ReportLine.{ReportLine}
 use Rattle.scenario_defs.specs.declared.report.ReportLine.TheVariants as lines
 use Rattle.scenario_defs.specs.declared.scenario.Scenario.{Scenario}
 use Rattle.scenario_defs.specs.declared.scenario.Vrf.{Vrf}
-use Rattle.label_defs.specs.LabelData.{use_of}
+use Rattle.label_defs.specs.LabelData.{use_of, branches_of}
 use Rattle.label_defs.specs.declared.branch.Branch.{Branch}
 use Rattle.session_defs.specs.Message.{same_kind}
 use Rattle.session_defs.specs.Octets as octets
 use Rattle.session_defs.specs.Octets.{OctetAct, octet_run}
 use Rattle.session_defs.specs.System.{Put, Behind, octets_over}
 use Rattle.session_defs.specs.declared.direction.Direction.{Direction}
-use Rattle.edge_defs.specs.Datagrams.{Fate, discarded, branches_of, tree_of, entering_fate, arriving_fate}
+use Rattle.edge_defs.specs.Datagrams.{Fate, discarded, tree_of, entering_fate, arriving_fate}
 use Rattle.edge_defs.specs.Place.{OwnVrf}
 use Rattle.edge_defs.specs.Steps as steps
 use Rattle.world_defs.specs.Counts.{direction, is_between, directions, state_line}
 use Rattle.world_defs.specs.Nodes.{NodeState, Edge, CoreNode, Nodes, place_of}
 use Rattle.world_defs.specs.System.{NodeCall, Own, Elapse, Reset, system}
-use Rattle.world_defs.specs.World.{World, Datagram, LinkCopy, scenario_of, clock_of, with_copies}
+use Rattle.world_defs.specs.World.{World, Datagram, LinkCopy, numbered, scenario_of, clock_of, with_copies}
 
 -- What may happen: time passes; the timers of a node are run; octets are moved; a session is lost; its loss is noticed at one end; the
 -- first end of a session comes up, and then the second; a node restarts; an edge takes a Join/Prune message, or notes a source, or
@@ -104,7 +104,7 @@ fated world node ttl number octets before fate = record {
 
 -- the datagram of that number
 abbrev pub datagram_at : World → ℕ → Option Datagram
-datagram_at world number = slice_get world.datagrams (number - 1)
+datagram_at world number = numbered world.datagrams number
 
 -- the last datagram enters at a VRF of an edge
 abbrev pub enters_at : World → OwnVrf → NodeState → Datagram → Acted

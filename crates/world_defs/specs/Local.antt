@@ -27,7 +27,7 @@ use Rattle.edge_defs.specs.Place.{addr_of, lsp, tunnel_number}
 use Rattle.world_defs.specs.Counts.{is_between}
 use Rattle.world_defs.specs.Acts.{Act, RaiseFirst, RaiseSecond, Notice, Restart, Enter, Land}
 use Rattle.world_defs.specs.Run.{Traced}
-use Rattle.world_defs.specs.World.{World, Datagram, scenario_of}
+use Rattle.world_defs.specs.World.{World, Datagram, numbered, scenario_of}
 
 -- ---- octets since the last raise
 
@@ -137,7 +137,7 @@ pub record MayEnter (scenario : Scenario) (before : List Traced) (id : VrfId) (d
   pub named : has_comm (import_target (record { addr = addr_of scenario vrf.edge; number = vrf.number })) advert.comms ≡ true
 
 abbrev pub EntersBy : Scenario → List Traced → List Datagram → VrfId → ReportLine → Type 0
-EntersBy scenario before datagrams id (lines.Hop u n label ttl number) = (datagram : Datagram) × (0 < number) × (slice_get datagrams (number - 1) ≡ Some datagram) × MayEnter scenario before id datagram u n label
+EntersBy scenario before datagrams id (lines.Hop u n label ttl number) = (datagram : Datagram) × (numbered datagrams number ≡ Some datagram) × MayEnter scenario before id datagram u n label
 EntersBy scenario before datagrams id other = Unit {0}
 
 -- What an act needs for its lines, by what happened before it. The lines of a copy that lands begin with that. No other act lets a

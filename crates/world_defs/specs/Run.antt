@@ -43,9 +43,10 @@ pub record RunOf (script : Script) (count : ℕ) (trace : List Traced) (new : Wo
   pub of_scenario : IsCoreOf script.scenario core
   pub run : Run core script (take count script.events) trace new
 
--- The first events run; then one lacks a label at a node. The report ends with the lines of its acts before that, and the line that
+-- The first events run, by the core of the script's scenario; then one lacks a label at a node. The report ends with the lines of its acts before that, and the line that
 -- says so.
 pub record Halts (core : Core) (script : Script) (report : List Entry) (node : NodeId) : Type 0 where
+  pub of_scenario : IsCoreOf script.scenario core
   pub before : List Timed
   pub timed : Timed
   pub after : List Timed

@@ -1,5 +1,5 @@
 -- The state of the whole network.
-use Rattle.std.specs.Prelude.{ℕ, ◌==◌, ◌&&◌, false, List, [], if◌then◌else◌}
+use Rattle.std.specs.Prelude.{ℕ, zero, suc, ◌==◌, ◌&&◌, false, List, [], slice_get, Option, None, if◌then◌else◌}
 use Rattle.mv_base.specs.declared.addr.Addr.{Addr}
 use Rattle.mv_base.specs.declared.ids.NodeId.{NodeId}
 use Rattle.mv_base.specs.declared.ids.SiteId.{SiteId}
@@ -37,6 +37,11 @@ start scenario core = record {
   copies = λ u n. [];
   datagrams = [];
 }
+
+-- The datagram of that number among these: they are counted from 1, and number 0 names none.
+abbrev pub numbered : List Datagram → ℕ → Option Datagram
+numbered datagrams zero = None
+numbered datagrams (suc place) = slice_get datagrams place
 
 abbrev pub scenario_of : World → Scenario
 scenario_of world = world.network.state.scenario

@@ -2,7 +2,6 @@
 use Rattle.std.proofs.Common.{◌≡◌, ℕ, ◌==◌, ◌≤◌, Bool, true, false, cond, List, [], ◌∷◌, ◌++◌, length, Option, Some, None, sym, ◌∙◌, arith, subst}
 use Rattle.std.specs.List.{AllByRecursion, filter}
 use Rattle.std.specs.FinMap as maps
-use Rattle.std.specs.FinSet as sets
 use Rattle.std.proofs.lemmas.List.{length-append, length-map}
 use Rattle.mv_base.specs.declared.ids.NodeId.{NodeId}
 use Rattle.route_targets.specs.declared.communities.ExtComm.{ExtComm}
@@ -22,11 +21,13 @@ use Rattle.edge_defs.specs.Place.{EdgePlace, OwnVrf, own_addr, own_vrfs, tunnel_
 use Rattle.world_laws.specs.Sound.{IsHost, IsFlow, AreEight, SoundScenario, SoundPattern, SoundUpstream, SoundControl}
 use Rattle.edge_defs.proofs.KeyLemmas.{key_total, key_exact, note_total, pattern_total, flow_total}
 use Rattle.world_laws.proofs.Lists.{each_append, each_map, each_flat, each_filter, each_weaker, each_found, IfFound}
-use Rattle.world_laws.proofs.Maps.{found_is, all_entries, each_item}
+use Rattle.world_laws.proofs.Maps.{found_is, all_entries}
 use Rattle.world_laws.proofs.BgpPlaces.{FitsVrf, FitsPrefix, own_fit, local_fit}
 use Rattle.world_laws.proofs.BgpRoutes.{intra_fits, selective_fits, active_fits, join_fits, unicast_fits}
 use Rattle.world_laws.proofs.BgpTexts.{FitsKey, FitsValue}
 use Rattle.world_laws.proofs.BgpValues.{import_eight, target_eight, source_as_eight, no_tunnel, lsp_tunnel}
+use Rattle.label_defs.specs.Members.{in_order}
+use Rattle.label_defs.proofs.MemberLemmas.{each_in_order}
 
 abbrev pub Fits : Key → Value → Type 0
 Fits key value = FitsKey key × FitsValue value
@@ -105,10 +106,10 @@ module _ (place : EdgePlace) (control : Control) (scenario_is : SoundScenario pl
   active_fit : (own : OwnVrf) → FitsVrf own.vrf → AllByRecursion FitsEntry (active_routes place control own)
   active_fit own fits =
       let of_vrf : Note → Bool = λ (note : Note). is_iface_of place.scenario own.id note.iface in
-      let each : AllByRecursion (λ (note : Note). FitsEntry (active_entry own note)) (sets.items control.notes) = each_item note_total (λ (note : Note). FitsEntry (active_entry own note)) control.notes
+      let each : AllByRecursion (λ (note : Note). FitsEntry (active_entry own note)) (in_order control.notes) = each_in_order note_total (λ (note : Note). FitsEntry (active_entry own note)) control.notes
       (λ note h. (let is : IsFlow note.source note.group = control_is.notes note h in
       (active_fits own.vrf.rd note.source note.group fits.rd is.0 is.1, plain_fits place own.vrf host fits))) in
-      each_map FitsEntry (active_entry own) (notes_of place control own.id) (each_filter (λ (note : Note). FitsEntry (active_entry own note)) of_vrf (sets.items control.notes) each)
+      each_map FitsEntry (active_entry own) (notes_of place control own.id) (each_filter (λ (note : Note). FitsEntry (active_entry own note)) of_vrf (in_order control.notes) each)
 
   own_routes_fit : (own : OwnVrf) → FitsVrf own.vrf → AllByRecursion FitsEntry (routes_of place control own)
   own_routes_fit own fits = (

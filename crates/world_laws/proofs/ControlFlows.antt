@@ -27,6 +27,8 @@ use Rattle.scenario_defs.specs.declared.event.JoinEntry.{JoinEntry}
 use Rattle.scenario_defs.specs.declared.event.JoinEntry.TheVariants as entries
 use Rattle.pim_defs.proofs.KeyLemmas.{entry_cmp_total}
 use Rattle.label_defs.proofs.KeyLemmas.{node_cmp_total}
+use Rattle.label_defs.proofs.MemberLemmas.{each_in_order}
+use Rattle.label_defs.specs.Members.{in_order}
 use Rattle.choice_defs.specs.Choice.{cost_by, best_route}
 use Rattle.choice_defs.specs.declared.origin.Origin.{Origin}
 use Rattle.choice_defs.specs.declared.origin.Origin.TheVariants as origins
@@ -39,7 +41,7 @@ use Rattle.edge_defs.specs.Place.{EdgePlace, OwnVrf, own_vrfs}
 use Rattle.edge_defs.specs.Upstream.{known_routes, upstream_by, upstream_for}
 use Rattle.world_laws.specs.Sound.{IsHost, IsFlow, AreEight, SoundEntry, SoundUpstream, SoundKey, SoundValue, SoundTaken}
 use Rattle.world_laws.proofs.Lists.{each_append, each_of, each_map, each_flat, each_weaker, each_filtered, each_found, only_meets, passing}
-use Rattle.world_laws.proofs.Maps.{Each, AllEntries, all_entries, made_meets, each_item}
+use Rattle.world_laws.proofs.Maps.{Each, AllEntries, all_entries, made_meets}
 use Rattle.edge_defs.proofs.KeyLemmas.{key_total, note_total, flow_total, flow_exact}
 use Rattle.world_laws.proofs.ControlEntries.{SoundAt, asked_group}
 
@@ -182,7 +184,7 @@ active_flows_sound place control own sound =
     each_append Likely (map noted_flow (notes_of place control own.id)) (flat_map (active_from own) (maps.entries control.peers))
     (each_map Likely noted_flow (notes_of place control own.id)
     (each_weaker (λ note. SoundNote note × (is_iface_of place.scenario own.id note.iface ≡ true)) (λ note. Likely (noted_flow note)) (λ note h host. h.0) (notes_of place control own.id)
-    (each_filtered SoundNote (λ note. is_iface_of place.scenario own.id note.iface) (sets.items control.notes) (each_item note_total SoundNote control.notes sound.notes))))
+    (each_filtered SoundNote (λ note. is_iface_of place.scenario own.id note.iface) (in_order control.notes) (each_in_order note_total SoundNote control.notes sound.notes))))
     (each_flat Likely (active_from own) (maps.entries control.peers)
     (each_weaker (λ peer. SoundPeer peer.0 peer.1) (λ peer. AllByRecursion Likely (active_from own peer)) (peer_sound own) (maps.entries control.peers)
     (all_entries node_cmp_total SoundPeer control.peers sound.peers)))

@@ -15,8 +15,10 @@ use Rattle.label_defs.specs.Keys.{fec_cmp}
 use Rattle.label_defs.specs.LabelData.{LabelData}
 use Rattle.label_defs.specs.Steps as labels
 use Rattle.label_defs.specs.Steps.{label_step}
+use Rattle.label_defs.specs.Members.{in_order}
 use Rattle.label_defs.proofs.KeyLemmas.{fec_cmp_total}
 use Rattle.label_defs.proofs.SettleLemmas.{bind_some}
+use Rattle.label_defs.proofs.MemberLemmas.{each_in_order}
 use Rattle.edge_defs.specs.Edge.{Control}
 use Rattle.edge_defs.specs.Place.{EdgePlace, label_place}
 use Rattle.edge_defs.specs.Steps as steps
@@ -27,7 +29,6 @@ use Rattle.world_laws.specs.Sound.{IsSoundFec, SoundControl}
 use Rattle.world_laws.proofs.LabelIds.{IsNoRaise, own_ids_stay_empty, ids_stay_empty, no_ids_no_puts}
 use Rattle.world_laws.proofs.LabelLeaves.{leaves_are_sound}
 use Rattle.world_laws.proofs.Lists.{each_append, each_of, each_map, each_filter, each_weaker}
-use Rattle.world_laws.proofs.Maps.{each_item}
 use Rattle.world_laws.proofs.LabelSound.{IsSoundLabelMessage, IsSoundLabelCall}
 
 -- ---- sound calls
@@ -51,8 +52,8 @@ is_changed old new fec = not (sets.contains old fec && sets.contains new fec)
 
 pub changed_leaves_are_sound : (old new : FinSet fec_cmp) → ((fec : Fec) → sets.contains old fec ≡ true → IsSoundFec fec) → ((fec : Fec) → sets.contains new fec ≡ true → IsSoundFec fec) → AllByRecursion IsSoundLabelCall (changed_leaves old new)
 changed_leaves_are_sound old new before behind =
-    let both : List Fec = sets.items (sets.union old new) in
-    let all : AllByRecursion IsSoundFec both = each_item fec_cmp_total IsSoundFec (sets.union old new) (λ fec e.
+    let both : List Fec = in_order (sets.union old new) in
+    let all : AllByRecursion IsSoundFec both = each_in_order fec_cmp_total IsSoundFec (sets.union old new) (λ fec e.
     elim (or_cases (sets.contains old fec) (sets.contains new fec) (sym (sets.contains-union fec_cmp_total old new fec) ∙ e)) [ inl h ↦ before fec h | inr h ↦ behind fec h ]) in
     let some : AllByRecursion IsSoundFec (filter (is_changed old new) both) = each_filter IsSoundFec (is_changed old new) both all in
     each_map IsSoundLabelCall (call_for new) (filter (is_changed old new) both)
@@ -108,7 +109,7 @@ own_call_raises_none call own r e = (subst (λ (o : Option labels.Call). AllByRe
 
 pub edge_calls_raise_none : (old new : FinSet fec_cmp) (call : steps.Call) → RaisesNone call → AllByRecursion IsNoRaise (one_call (own_label_call call) ++ changed_leaves old new)
 edge_calls_raise_none old new call r =
-    let some : List Fec = filter (is_changed old new) (sets.items (sets.union old new)) in
+    let some : List Fec = filter (is_changed old new) (in_order (sets.union old new)) in
     each_append IsNoRaise (one_call (own_label_call call)) (changed_leaves old new) (own_call_raises call r)
     (each_map IsNoRaise (call_for new) some (each_of (λ fec. IsNoRaise (call_for new fec)) (λ fec. of_both_calls IsNoRaise fec (sets.contains new fec) tt tt) some))
 

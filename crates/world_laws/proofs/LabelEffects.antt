@@ -11,11 +11,13 @@ use Rattle.label_defs.specs.declared.label_use.LabelUse.TheVariants as uses
 use Rattle.label_defs.specs.LabelData.{Place, LabelData, same_fec, use_of, mapped_trees, trees}
 use Rattle.label_defs.specs.Settling.{Stepped, with_use, settle_all}
 use Rattle.label_defs.specs.Steps.{Call, Taken, Want, Unwant, Raised, Noticed, Timers, branch_to, released, freed, woken, without_session, timed, effect, counted, label_step}
+use Rattle.label_defs.specs.Members.{in_order}
 use Rattle.label_defs.proofs.KeyLemmas.{fec_cmp_total, fec_cmp_exact, branch_cmp_total, branch_cmp_exact}
 use Rattle.label_defs.proofs.UseLemmas.{used_some, map_some}
+use Rattle.label_defs.proofs.MemberLemmas.{each_in_order}
 use Rattle.world_laws.specs.Sound.{IsSoundFec, SoundUse, SoundPart}
 use Rattle.world_laws.proofs.Lists.{each_append, each_map, each_changed, each_at, length_map}
-use Rattle.world_laws.proofs.Maps.{each_item, each_member, each_inserted, still, was}
+use Rattle.world_laws.proofs.Maps.{each_member, each_inserted, still, was}
 use Rattle.world_laws.proofs.LabelSound.{IsSoundLabelCall, release_sound}
 use Rattle.world_laws.proofs.LabelTurns.{AreSoundUses, uses_set, IsSoundStep, settle_sound}
 
@@ -65,13 +67,13 @@ mapped_sound (uses.Resting until ∷ more) s = mapped_sound more s.1
 
 pub trees_sound : (part : LabelData) → SoundPart part → AllByRecursion IsSoundFec (trees part)
 trees_sound part s =
-    let branches : List Fec = map (λ (branch : Branch). branch.fec) (sets.items part.branches) in
-    let leaves : List Fec = sets.items part.leaves in
+    let branches : List Fec = map (λ (branch : Branch). branch.fec) (in_order part.branches) in
+    let leaves : List Fec = in_order part.leaves in
     let mapped : List Fec = mapped_trees part.labels in
     let all : AllByRecursion IsSoundFec (branches ++ (leaves ++ mapped)) =
-    each_append IsSoundFec branches (leaves ++ mapped) (each_map IsSoundFec (λ (branch : Branch). branch.fec) (sets.items part.branches) (each_item branch_cmp_total (λ (branch : Branch). IsSoundFec branch.fec) part.branches s.branches))
-    (each_append IsSoundFec leaves mapped (each_item fec_cmp_total IsSoundFec part.leaves s.leaves) (mapped_sound part.labels s.uses)) in
-    each_item fec_cmp_total IsSoundFec (sets.from_list (branches ++ (leaves ++ mapped))) (each_member fec_cmp_total fec_cmp_exact IsSoundFec (branches ++ (leaves ++ mapped)) all)
+    each_append IsSoundFec branches (leaves ++ mapped) (each_map IsSoundFec (λ (branch : Branch). branch.fec) (in_order part.branches) (each_in_order branch_cmp_total (λ (branch : Branch). IsSoundFec branch.fec) part.branches s.branches))
+    (each_append IsSoundFec leaves mapped (each_in_order fec_cmp_total IsSoundFec part.leaves s.leaves) (mapped_sound part.labels s.uses)) in
+    each_in_order fec_cmp_total IsSoundFec (sets.from_list (branches ++ (leaves ++ mapped))) (each_member fec_cmp_total fec_cmp_exact IsSoundFec (branches ++ (leaves ++ mapped)) all)
 
 -- ---- effects
 
@@ -125,7 +127,7 @@ effect_sound place now part (Unwant fec) s c = (
 )
 effect_sound place now part (Raised peer) s c = ((record { few = s.few; uses = s.uses; branches = s.branches; leaves = s.leaves; waiting = s.waiting }, tt), tt)
 effect_sound place now part (Noticed peer) s c = ((lost_part part peer s, tt), trees_sound part s)
-effect_sound place now part Timers s c = ((timed_part place now part s, tt), each_item fec_cmp_total IsSoundFec part.waiting s.waiting)
+effect_sound place now part Timers s c = ((timed_part place now part s, tt), each_in_order fec_cmp_total IsSoundFec part.waiting s.waiting)
 
 -- ---- steps
 

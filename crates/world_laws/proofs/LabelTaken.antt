@@ -35,7 +35,7 @@ part_octets Spells Fits before octets (m ∷ ms) (text, after, spells, new, part
     let both : IsOctets (text ++ after) = subst IsOctets parts fits in
     ((text, spells, IsOctets-before text after both), part_octets Spells Fits (before ++ m ∷ []) after ms more (IsOctets-behind text after both))
 
-contained : {X : Type 0} (P : X → Type 0) (xs : List X) (x : X) → AllByRecursion P xs → Contains xs x → P x
+pub contained : {X : Type 0} (P : X → Type 0) (xs : List X) (x : X) → AllByRecursion P xs → Contains xs x → P x
 contained P [] x p (k, within, e) = absurd (omega (arith, within))
 contained P (y ∷ ys) x p (zero, within, e) = subst P e p.0
 contained P (y ∷ ys) x p (suc k, within, e) = contained P ys x p.1 (k, omega (arith, within), e)

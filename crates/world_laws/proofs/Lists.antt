@@ -49,6 +49,10 @@ module _ {X : Type 0} (P : X → Type 0) where
         | false ↦ each_filter test xs p.1
       ]
 
+pub each_front : {X : Type 0} (P : X → Type 0) (xs ys : List X) → AllByRecursion P (xs ++ ys) → AllByRecursion P xs
+each_front P [] ys h = tt
+each_front P (x ∷ xs) ys h = (h.0, each_front P xs ys h.1)
+
 pub each_weaker : {X : Type 0} (P Q : X → Type 0) → ((x : X) → P x → Q x) → (xs : List X) → AllByRecursion P xs → AllByRecursion Q xs
 each_weaker P Q weaker [] p = tt
 each_weaker P Q weaker (x ∷ xs) p = (weaker x p.0, each_weaker P Q weaker xs p.1)

@@ -10,7 +10,7 @@ use Rattle.std.specs.FinMap.{FinMap, IsAntisymmetric, find}
 use Rattle.std.specs.FinMap.Entries.{is_sorted, below_all, find_tied}
 use Rattle.std.specs.FinSet as sets
 use Rattle.std.specs.FinSet.{FinSet}
-use Rattle.std.proofs.lemmas.Bool.{or_cases, or_left, or_right}
+use Rattle.std.proofs.lemmas.Bool.{or_cases}
 
 -- ---- maps
 
@@ -101,17 +101,6 @@ module _ {K X : Type 0} {R : K → K → Ordering} (total : IsTotalOrder R) (exa
 -- ---- sets
 
 module _ {K : Type 0} {R : K → K → Ordering} (total : IsTotalOrder R) where
-  listed : (P : K → Type 0) (xs : List K) → ((k : K) → list_any (eq_by_cmp R k) xs ≡ true → P k) → AllByRecursion P xs
-  listed P [] each = tt
-  listed P (x ∷ xs) each = (
-    each x (or_left (eq_by_cmp R x x) (list_any (eq_by_cmp R x) xs) (ap is_eq (tied_itself total x))),
-    listed P xs (λ k h. each k (or_right (eq_by_cmp R k x) (list_any (eq_by_cmp R k) xs) h)),
-  )
-
-  -- what holds of the members holds of the items
-  pub each_item : (P : K → Type 0) (s : FinSet R) → ((k : K) → sets.contains s k ≡ true → P k) → AllByRecursion P (sets.items s)
-  each_item P s each = listed P (sets.items s) (λ k h. each k (sets.contains-items s k ∙ h))
-
   module _ (exact : IsAntisymmetric R) where
     tied : (a b : K) → eq_by_cmp R a b ≡ true → a ≡ b
     tied a b e = exact a b ((Equal-is (R a b)).0 e)

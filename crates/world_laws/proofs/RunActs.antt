@@ -51,7 +51,7 @@ stays_behind scenario old acts stays = by (octet_run (sound_system scenario) old
         (run.1, (run.0.left, run.0.lines))
 
 -- Messages are taken alike, whichever calls there are.
-taken_alike : (scenario : Scenario) (over : Direction) (messages : List SessionMessage) (old : OctetNetwork Nodes) → all_taken (sound_system scenario) old over messages ≡ all_taken system old over messages
+pub taken_alike : (scenario : Scenario) (over : Direction) (messages : List SessionMessage) (old : OctetNetwork Nodes) → all_taken (sound_system scenario) old over messages ≡ all_taken system old over messages
 taken_alike scenario over [] old = refl
 taken_alike scenario over (message ∷ more) old = by (λ next. taken_alike scenario over more next) (with_step old (system.taken over message old.state))
   where

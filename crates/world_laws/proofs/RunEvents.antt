@@ -1,11 +1,13 @@
 -- Each event of sound values, and each run of such events, keeps the nodes sound and the octets in transit whole units.
 use Rattle.std.specs.Prelude.{if◌then◌else◌, find, replicate}
-use Rattle.std.proofs.Common.{◌≡◌, ◌+◌, ℕ, zero, suc, Bool, true, false, cond, map, flat_map, ◌++◌, List, [], ◌∷◌, length, Option, Some, None, refl, sym, subst, arith}
+use Rattle.std.proofs.Common.{◌≡◌, ◌+◌, ℕ, zero, suc, Bool, true, false, cond, map, flat_map, ◌++◌, List, [], ◌∷◌, length, Option, Some, None, refl, sym, subst, arith, ◌≢◌, inl, inr, ap, ◌∙◌}
 use Rattle.std.specs.List.{AllByRecursion}
+use Rattle.std.proofs.lemmas.List.Elements.{All-contains}
 use Rattle.mv_base.specs.declared.addr.Addr.{Addr}
 use Rattle.mv_base.specs.declared.ids.NodeId.{NodeId}
 use Rattle.mv_base.specs.declared.ids.SiteId.{SiteId}
 use Rattle.mv_base.specs.declared.ids.VrfId.{VrfId}
+use Rattle.core_walks.specs.Topology.{HasEnds}
 use Rattle.scenario_defs.specs.Vpn.{edge_of, entered}
 use Rattle.scenario_defs.specs.declared.event.Event.{Event}
 use Rattle.scenario_defs.specs.declared.event.Event.TheVariants as events
@@ -31,7 +33,7 @@ use Rattle.world_defs.specs.Run.{Traced, outcome, Runs}
 use Rattle.world_defs.specs.World.{World, scenario_of, start}
 use Rattle.world_defs.proofs.Kept.{Gives, Comes, then_comes, row_keeps, each_keeps, times_keeps}
 use Rattle.world_laws.specs.Sound.{SoundScenario}
-use Rattle.world_laws.specs.Honest.{IsSoundCall, IsSoundEvent}
+use Rattle.world_laws.specs.Honest.{IsSoundCall, IsSoundEvent, IsLinkPlace}
 use Rattle.world_laws.proofs.Lists.{each_append, each_of, each_map, each_flat, each_weaker}
 use Rattle.world_laws.proofs.NodeCalls.{start_sound}
 use Rattle.world_laws.proofs.RunActs.{WorldStays, SoundAct, act_stays}
@@ -133,6 +135,13 @@ message_stays : (world : World) → SoundScenario (scenario_of world) → (o : O
 message_stays world lines None sound s = s
 message_stays world lines (Some given) sound s =
     edge_stays (scenario_of world) (edge_of (scenario_of world) given.iface) (steps.Pim given.iface given.message) (edge_within (scenario_of world) lines given.iface) sound world s
+
+-- two nodes that are linked are two
+pub two_ends : (scenario : Scenario) → SoundScenario scenario → (from to : NodeId) (place : ℕ) → IsLinkPlace scenario from to place → from ≢ to
+two_ends scenario sound from to place h same =
+    let two = (All-contains (HasEnds (length scenario.nodes)) scenario.links h.linked.link sound.rules.core.topology.ends h.linked.listed).two in
+    let one : from.0 ≡ to.0 = ap (λ (n : NodeId). n.0) same in
+    elim h.linked.ends [ inl e ↦ two (e.0 ∙ one ∙ sym e.1) | inr e ↦ two (e.0 ∙ sym one ∙ sym e.1) ]
 
 done_stays : (world : World) → SoundScenario (scenario_of world) → WorldStays (scenario_of world) world → (event : Event) → IsSoundEvent (scenario_of world) event → Comes (WorldStays (scenario_of world)) (done world event)
 done_stays world lines s (events.Tick count) sound = row_stays (scenario_of world) (Tick count ∷ []) (tt, tt) world s

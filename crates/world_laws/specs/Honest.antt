@@ -1,7 +1,9 @@
 -- The nodes of the whole network as a system with calls of sound values alone.
-use Rattle.std.specs.Prelude.{◌<◌, length}
+use Rattle.std.specs.Prelude.{◌<◌, ◌≤◌, ℕ, length}
 use Rattle.std.specs.List.{AllByRecursion}
 use Rattle.mv_base.specs.Octets.{IsOctets}
+use Rattle.mv_base.specs.declared.ids.NodeId.{NodeId}
+use Rattle.core_walks.specs.Walks.{IsLinked}
 use Rattle.pim_joinprune.specs.declared.group.Group.{Group}
 use Rattle.pim_joinprune.specs.declared.message.JoinPrune.{JoinPrune}
 use Rattle.pim_joinprune.specs.declared.source.JpSource.{JpSource}
@@ -52,8 +54,14 @@ sound_system scenario = record { taken = system.taken; called = λ call nodes. s
 
 -- ---- events
 
+-- The two nodes are linked, and the place is one among the copies on a link, which are counted from 1.
+pub record IsLinkPlace (scenario : Scenario) (from to : NodeId) (place : ℕ) : Type 0 where
+  pub cost : ℕ
+  pub linked : IsLinked scenario.links from.0 to.0 cost
+  pub counted : 1 ≤ place
+
 -- An event of sound values. The node whose timers are run, or whose end notices a loss, and the interface of a join or a prune are those
--- of the scenario.
+-- of the scenario; a copy hops or is dropped on a link.
 abbrev pub IsSoundEvent : Scenario → Event → Type 0
 IsSoundEvent scenario (events.Timers node) = node.0 < length scenario.nodes
 IsSoundEvent scenario (events.Notice kind a b) = a.0 < length scenario.nodes
@@ -62,4 +70,6 @@ IsSoundEvent scenario (events.Prune iface entry) = (iface.0 < length scenario.if
 IsSoundEvent scenario (events.Pim iface bytes) = IsOctets bytes
 IsSoundEvent scenario (events.Active iface source group) = IsFlow source group
 IsSoundEvent scenario (events.Select vrf pattern) = SoundPattern pattern
+IsSoundEvent scenario (events.Hop from to place) = IsLinkPlace scenario from to place
+IsSoundEvent scenario (events.DropCopy from to place) = IsLinkPlace scenario from to place
 IsSoundEvent scenario other = Unit {0}

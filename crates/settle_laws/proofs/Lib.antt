@@ -1,0 +1,16 @@
+pub mod Entries
+pub mod Fresh
+pub mod Joins
+pub mod LabelsDue
+pub mod Due
+pub mod Steps
+pub mod Turns
+pub mod Everywhere
+pub mod Streams
+pub mod Moves
+pub mod Rounds
+pub mod Depth
+pub mod Settled
+pub mod Ttl
+pub mod Drained
+pub mod Behind

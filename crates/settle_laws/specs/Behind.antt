@@ -1,0 +1,24 @@
+-- The network behind an event of a run.
+use Rattle.std.specs.Prelude.{◌≡◌, ℕ, List, ◌++◌}
+use Rattle.scenario_defs.specs.declared.event.Event.TheVariants as events
+use Rattle.scenario_defs.specs.declared.event.Script.{Script}
+use Rattle.scenario_defs.specs.declared.event.Timed.{Timed}
+use Rattle.edge_defs.specs.Place.{Core}
+use Rattle.world_defs.specs.Run.{Traced, Run}
+use Rattle.world_defs.specs.World.{World}
+
+-- `settle` and `drain` on that line of a script
+abbrev pub settle_at : ℕ → Timed
+settle_at line = record { line = line; event = events.Settle }
+
+abbrev pub drain_at : ℕ → Timed
+drain_at line = record { line = line; event = events.Drain }
+
+-- A run of these events is the beginning of what happened, and the network behind it has a property.
+pub record IsBehind (core : Core) (script : Script) (events : List Timed) (trace : List Traced) (P : World → Type 0) : Type 0 where
+  pub world : World
+  pub first : List Traced
+  pub rest : List Traced
+  pub parts : trace ≡ first ++ rest
+  pub run : Run core script events first world
+  pub holds : P world

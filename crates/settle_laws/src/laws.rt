@@ -1,0 +1,62 @@
+//! What `settle` and `drain` leave behind.
+ghost use Rattle.std.specs.Prelude.{◌≡◌, true, ◌++◌, ℕ, List, [], ◌∷◌, length};
+ghost use Rattle.std.specs.List.{AllByRecursion};
+ghost use Rattle.mv_base.specs.declared.ids.NodeId.{NodeId};
+ghost use Rattle.mldp_msgs.specs.declared.message.LabelMessage.{LabelMessage};
+ghost use Rattle.bgp_attributes.specs.declared.update.Message.{Message};
+ghost use Rattle.bgp_update.specs.Table.{changes_of};
+ghost use Rattle.scenario_defs.specs.declared.event.Script.{Script};
+ghost use Rattle.scenario_defs.specs.declared.event.Timed.{Timed};
+ghost use Rattle.scenario_defs.specs.declared.report.ReportLine.TheVariants.{State};
+ghost use Rattle.edge_defs.specs.Edge.{Control};
+ghost use Rattle.edge_defs.specs.Held.{put_to};
+ghost use Rattle.edge_defs.specs.Place.{Core, EdgePlace};
+ghost use Rattle.edge_defs.specs.Steps.{Update, Label, Timers, control_step};
+ghost use Rattle.world_defs.specs.Counts.{all_copies, datagrams_with_copy, octets_in_transit, due_timers, unready, state_line};
+ghost use Rattle.world_defs.specs.Events.{Happened, Done};
+ghost use Rattle.world_defs.specs.Run.{Traced, IsSettled, IsDrained, outcome, Run};
+ghost use Rattle.world_defs.specs.World.{World};
+ghost use Rattle.world_laws.specs.SoundRun.{SoundRun};
+ghost use Rattle.settle_laws.specs.Behind.{IsBehind, settle_at, drain_at};
+ghost use Rattle.settle_laws.specs.Ranks.{IsFresh, IsQuietAt, joins_only, IsJoin};
+
+/// Behind a `settle` that comes next after a run of a sound scenario, by its core and by sound events, no octet is in transit and no
+/// timer is due, unless a node lacks a label on the way. So it is behind each `settle` within such a run.
+pub fn settle_settles()
+    ensures next { (core : Core) (script : Script) (events : List Timed) (trace : List Traced) (old new : World) (line : ℕ) →
+        (acts : List Happened) → SoundRun core script events trace old → outcome old (settle_at line) ≡ Done acts new → IsSettled new }
+    ensures within { (core : Core) (script : Script) (before after : List Timed) (line : ℕ) (trace : List Traced) (new : World) →
+        SoundRun core script (before ++ settle_at line ∷ after) trace new →
+        IsBehind core script (before ++ settle_at line ∷ []) trace IsSettled }
+{}
+
+/// Behind a `drain` that comes next after any run, and behind each one within a run, no copy is on a link. What was settled stays so.
+pub fn drain_drains()
+    ensures next { (core : Core) (script : Script) (events : List Timed) (trace : List Traced) (old new : World) (line : ℕ) →
+        (acts : List Happened) → Run core script events trace old → outcome old (drain_at line) ≡ Done acts new → IsDrained new }
+    ensures within { (core : Core) (script : Script) (before after : List Timed) (line : ℕ) (trace : List Traced) (new : World) →
+        Run core script (before ++ drain_at line ∷ after) trace new → IsBehind core script (before ++ drain_at line ∷ []) trace IsDrained }
+    ensures settled { (old new : World) (line : ℕ) (acts : List Happened) →
+        IsSettled old → outcome old (drain_at line) ≡ Done acts new → IsSettled new }
+{}
+
+/// What `state` tells of a settled network, and of a drained one.
+pub fn zeros_are_told()
+    ensures settled { (world : World) → IsSettled world → state_line world ≡
+        State 0 (length (all_copies world)) (datagrams_with_copy (all_copies world) (length world.datagrams)) 0 (unready world) }
+    ensures drained { (world : World) → IsDrained world →
+        state_line world ≡ State (octets_in_transit world) 0 0 (due_timers world) (unready world) }
+{}
+
+/// What an edge puts over BGP in answer to a route is Source Tree Joins alone. Behind its timers its flows are those asked for at the
+/// clock, and while they are, it puts nothing in answer to joins or to a label message, and its leaves stay.
+pub fn answers_over_bgp()
+    ensures routes { (place : EdgePlace) (now : ℕ) (old : Control) (peer to : NodeId) (message : Message) →
+        AllByRecursion IsJoin (put_to place old (control_step place now old (Update peer message)) to) }
+    ensures timers { (place : EdgePlace) (now : ℕ) (old : Control) → IsFresh place now (control_step place now old Timers) }
+    ensures joins { (place : EdgePlace) (now : ℕ) (old : Control) (peer to : NodeId) (message : Message) →
+        IsFresh place now old → joins_only (changes_of message) ≡ true →
+        IsQuietAt place old (control_step place now old (Update peer message)) to }
+    ensures labels { (place : EdgePlace) (now : ℕ) (old : Control) (from to : NodeId) (message : LabelMessage) →
+        IsFresh place now old → IsQuietAt place old (control_step place now old (Label from message)) to }
+{}

@@ -3,9 +3,15 @@
 #![tactic(auto)]
 
 mod delay;
+mod laws;
+mod leaf;
 mod root;
+mod route_key;
 
+pub use laws::{routes_in_order, tests_are};
+pub use leaf::{Fecs, LeafTunnels};
 pub use root::RootTunnels;
+pub use route_key::{Learned, Place, RouteKey};
 
 #[cfg(test)]
 mod tests;

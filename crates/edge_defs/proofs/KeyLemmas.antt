@@ -16,9 +16,10 @@ use Rattle.mvpn_nlri.specs.Spelling.{written}
 use Rattle.bgp_attributes.specs.declared.key.Key.TheVariants.{Mcast, Unicast}
 use Rattle.bgp_update.specs.Written.{vpn_text}
 use Rattle.table_laws.specs.Words.{IsExact}
+use Rattle.selective_defs.proofs.PartLemmas.{one_addr, one_word}
 use Rattle.edge_defs.specs.Edge.{Note, VrfPattern, VrfFlow, note_cmp, pattern_cmp, flow_cmp}
 use Rattle.edge_defs.specs.Keys.{Value, addr_part, word_part, key_parts, parts_cmp, key_cmp, value_parts, same_value}
-use Rattle.edge_defs.proofs.PartLemmas.{one_addr, one_word, one_key, one_value}
+use Rattle.edge_defs.proofs.PartLemmas.{one_key, one_value}
 
 parts_total : IsTotalOrder parts_cmp
 parts_total = lists_total (lists_total nat_cmp_total)

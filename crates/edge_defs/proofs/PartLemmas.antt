@@ -18,17 +18,10 @@ use Rattle.mvpn_nlri.specs.declared.route.Route.TheVariants as routes
 use Rattle.route_targets.specs.declared.communities.ExtComm.{ExtComm}
 use Rattle.bgp_attributes.specs.declared.key.Key.{Key}
 use Rattle.bgp_attributes.specs.declared.key.Key.TheVariants.{Mcast, Unicast}
+use Rattle.selective_defs.proofs.PartLemmas.{first, behind, addr_back, addr_again, word_back, word_again}
 use Rattle.edge_defs.specs.Keys.{Value, addr_part, word_part, leaf_parts, route_parts, key_parts, flag_number, label_part, kind_number, tunnel_parts, pmsi_parts, value_parts}
 
 -- ---- lists
-
-abbrev first : List ℕ → ℕ
-first [] = 0
-first (number ∷ rest) = number
-
-abbrev behind : List ℕ → List ℕ
-behind [] = []
-behind (number ∷ rest) = rest
 
 abbrev front : List (List ℕ) → List ℕ
 front [] = []
@@ -37,30 +30,6 @@ front (part ∷ rest) = part
 abbrev more : List (List ℕ) → List (List ℕ)
 more [] = []
 more (part ∷ rest) = rest
-
--- ---- addresses
-
-abbrev addr_back : List ℕ → Addr
-addr_back part = cond (first part == 4) (V4 (behind part)) (V6 (behind part))
-
-addr_again : (addr : Addr) → addr_back (addr_part addr) ≡ addr
-addr_again (V4 octets) = refl
-addr_again (V6 octets) = refl
-
-pub one_addr : (a b : Addr) → addr_part a ≡ addr_part b → a ≡ b
-one_addr a b e = sym (addr_again a) ∙ ap addr_back e ∙ addr_again b
-
-abbrev word_back : List ℕ → Option Addr
-word_back [] = None
-word_back (number ∷ rest) = Some (addr_back (number ∷ rest))
-
-word_again : (word : Option Addr) → word_back (word_part word) ≡ word
-word_again None = refl
-word_again (Some (V4 octets)) = refl
-word_again (Some (V6 octets)) = refl
-
-pub one_word : (a b : Option Addr) → word_part a ≡ word_part b → a ≡ b
-one_word a b e = sym (word_again a) ∙ ap word_back e ∙ word_again b
 
 -- ---- routes
 

@@ -5,7 +5,6 @@ use Rattle.std.specs.declared.cmp.Ordering.{Ordering}
 use Rattle.std.specs.Cmp.Lexicographic.{slice_cmp}
 use Rattle.std.specs.FinMap.{FinMap}
 use Rattle.mv_base.specs.declared.addr.Addr.{Addr}
-use Rattle.mv_base.specs.declared.addr.Addr.TheVariants.{V4, V6}
 use Rattle.mldp_fec.specs.declared.fec.FecKind.{FecKind}
 use Rattle.mldp_fec.specs.declared.fec.FecKind.TheVariants.{P2mp, Up, Down}
 use Rattle.pmsi_attr.specs.declared.pmsi.Pmsi.{Pmsi}
@@ -22,21 +21,13 @@ use Rattle.route_targets.specs.declared.communities.ExtComm.{ExtComm}
 use Rattle.bgp_attributes.specs.declared.key.Key.{Key}
 use Rattle.bgp_attributes.specs.declared.key.Key.TheVariants.{Mcast, Unicast}
 use Rattle.bgp_update.specs.Written.{vpn_text}
+pub use Rattle.selective_defs.specs.Parts.{addr_part, word_part}
 
 -- ---- the order of keys
 
 abbrev pub afi_number : Afi → ℕ
 afi_number Ipv4 = 1
 afi_number Ipv6 = 2
-
-abbrev pub addr_part : Addr → List ℕ
-addr_part (V4 octets) = 4 ∷ octets
-addr_part (V6 octets) = 6 ∷ octets
-
--- None is the wildcard
-abbrev pub word_part : Option Addr → List ℕ
-word_part None = []
-word_part (Some addr) = addr_part addr
 
 abbrev pub leaf_parts : LeafKey → List (List ℕ)
 leaf_parts (leaf_keys.Inter rd source_as) = (2 ∷ source_as ∷ []) ∷ rd.0 ∷ []

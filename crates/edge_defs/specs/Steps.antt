@@ -21,6 +21,7 @@ use Rattle.bgp_attributes.specs.declared.update.Message.{Message}
 use Rattle.bgp_update.specs.Table.{changes_of}
 use Rattle.scenario_defs.specs.declared.event.Kind.{Kind}
 use Rattle.scenario_defs.specs.declared.event.Kind.TheVariants as kinds
+use Rattle.selective_defs.specs.Selective.{free_number}
 use Rattle.label_defs.specs.Keys.{fec_cmp, node_cmp}
 use Rattle.label_defs.specs.LabelData.{LabelData}
 use Rattle.label_defs.specs.Settling.{Stepped}
@@ -72,15 +73,10 @@ with_update now peer message old = elim (maps.get old.peers peer) [
 abbrev pub is_used : VrfId → ℕ → VrfPattern × Selected → Bool
 is_used vrf number entry = (entry.0.vrf.0 == vrf.0) && (entry.1.number == number)
 
--- the first number, from that one on and so many at most, that no selection of the VRF has
-abbrev pub free_number : VrfId → List (VrfPattern × Selected) → ℕ → ℕ → ℕ
-free_number vrf entries zero number = number
-free_number vrf entries (suc count) number = if list_any (is_used vrf number) entries then free_number vrf entries count (number + 1) else number
-
 -- a new selection gets the least number from 1 on that no other one of its VRF has
 abbrev pub with_selection : ℕ → VrfId → Pattern → FinMap pattern_cmp Selected → FinMap pattern_cmp Selected
 with_selection now vrf pattern old =
-    maps.insert old (record { vrf = vrf; pattern = pattern }) (record { number = free_number vrf (maps.entries old) (maps.len old) 1; since = now; run = false })
+    maps.insert old (record { vrf = vrf; pattern = pattern }) (record { number = free_number (λ number. list_any (is_used vrf number) (maps.entries old)) (maps.len old) 1; since = now; run = false })
 
 -- ---- timers
 

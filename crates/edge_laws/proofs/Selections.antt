@@ -23,7 +23,8 @@ use Rattle.edge_defs.specs.Edge.{VrfPattern, pattern_cmp, Selected, Control}
 use Rattle.edge_defs.specs.Keys.{key_cmp}
 use Rattle.edge_defs.specs.Originated.{selective_key}
 use Rattle.edge_defs.specs.Place.{EdgePlace, OwnVrf, vrfs_from}
-use Rattle.edge_defs.specs.Steps.{with_selection, free_number, selection_run, selections_run}
+use Rattle.selective_defs.specs.Selective.{free_number}
+use Rattle.edge_defs.specs.Steps.{with_selection, is_used, selection_run, selections_run}
 use Rattle.edge_defs.proofs.KeyLemmas.{key_exact, pattern_total}
 use Rattle.edge_laws.specs.Rule.{selected_in, first_selected}
 
@@ -51,7 +52,7 @@ made clock old new true since none selected e = inr (none refl, (let i : selecte
 pub selects : (clock : ℕ) (vrf : VrfId) (pattern : Pattern) (old : FinMap pattern_cmp Selected) → maps.get old (record { vrf = vrf; pattern = pattern }) ≡ None → AllFollow clock old (with_selection clock vrf pattern old)
 selects clock vrf pattern old none own =
     let at : VrfPattern = record { vrf = vrf; pattern = pattern } in
-    let new : Selected = record { number = free_number vrf (maps.entries old) (maps.len old) 1; since = clock; run = false } in
+    let new : Selected = record { number = free_number (λ number. list_any (is_used vrf number) (maps.entries old)) (maps.len old) 1; since = clock; run = false } in
     subst (Follows clock (maps.get old own)) (sym (get-insert pattern_total old at new own))
     (made clock (maps.get old own) new (eq_by_cmp pattern_cmp own at) refl (λ e. sym (get_tied pattern_total old own at (equal (pattern_cmp own at) e)) ∙ none))
 

@@ -18,7 +18,7 @@ among_one p x y ys true h k (inl e) = (inl e, ap p e ∙ h)
 among_one p x y ys true h k (inr a) = let both = k a in (inr both.0, both.1)
 among_one p x y ys false h k a = let both = k a in (inr both.0, both.1)
 
-filtered : {X : Type 0} (p : X → Bool) (x : X) (xs : List X) → Among x (filter p xs) → Among x xs × (p x ≡ true)
+pub filtered : {X : Type 0} (p : X → Bool) (x : X) (xs : List X) → Among x (filter p xs) → Among x xs × (p x ≡ true)
 filtered p x [] a = absurd a
 filtered p x (y ∷ ys) a = among_one p x y ys (p y) refl (filtered p x ys) a
 
@@ -28,7 +28,7 @@ keeps_one p x y ys true h r k (inr a) = inr (k a)
 keeps_one p x y ys false h r k (inl e) = absurd (opposite (p y) (ap p (sym e) ∙ r) h)
 keeps_one p x y ys false h r k (inr a) = k a
 
-kept : {X : Type 0} (p : X → Bool) (x : X) (xs : List X) → p x ≡ true → Among x xs → Among x (filter p xs)
+pub kept : {X : Type 0} (p : X → Bool) (x : X) (xs : List X) → p x ≡ true → Among x xs → Among x (filter p xs)
 kept p x [] r a = absurd a
 kept p x (y ∷ ys) r a = keeps_one p x y ys (p y) refl r (kept p x ys r) a
 

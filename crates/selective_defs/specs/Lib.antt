@@ -1,2 +1,3 @@
 pub mod Selective
+pub mod Parts
 pub mod Example

@@ -1,5 +1,5 @@
 -- Which tunnel a root transmits a flow on, and which tunnels an egress wants (RFC 6513 section 7, RFC 6514 section 12).
-use Rattle.std.specs.Prelude.{◌≡◌, ℕ, ◌+◌, ◌<◌, ◌≤◌, ◌&&◌, ◌⊎◌, Bool, true, false, not, nat_lt, List, [], ◌∷◌, Option, None, Some, if◌then◌else◌}
+use Rattle.std.specs.Prelude.{◌≡◌, ◌≢◌, ℕ, zero, suc, ◌+◌, ◌<◌, ◌≤◌, ◌==◌, ◌&&◌, ◌⊎◌, Bool, true, false, not, nat_lt, List, [], ◌∷◌, length, Option, None, Some, if◌then◌else◌}
 use Rattle.std.specs.List.{filter, list_any}
 use Rattle.mv_base.specs.Address.{same_addr}
 use Rattle.mv_base.specs.Pattern.{rank}
@@ -42,6 +42,26 @@ IsDue delay now since = since + delay ≤ now
 -- whether the selection matches the flow and its delay was run
 abbrev pub is_ready : Addr → Addr → Selection → Bool
 is_ready source group selection = selection.run && matches selection.pattern source group
+
+-- the first number, from that one on and so many at most, that is not used
+abbrev pub free_number : (ℕ → Bool) → ℕ → ℕ → ℕ
+free_number used zero number = number
+free_number used (suc count) number = if used number then free_number used count (number + 1) else number
+
+-- whether a selection has the number
+abbrev pub has_number : ℕ → Selection → Bool
+has_number number selection = selection.number == number
+
+-- the number of one more selection of a VRF
+abbrev pub next_number : List Selection → ℕ
+next_number selections = free_number (λ number. list_any (has_number number) selections) (length selections) 1
+
+-- The number is the least from 1 on that no selection has.
+pub record IsLeastNumber (selections : List Selection) (number : ℕ) : Type 0 where
+  pub counted : 1 ≤ number
+  pub few : number ≤ length selections + 1
+  pub free : (selection : Selection) → Among selection selections → selection.number ≢ number
+  pub least : (lower : ℕ) → 1 ≤ lower → lower < number → (selection : Selection) × (Among selection selections) × (selection.number ≡ lower)
 
 -- the more specific one of a selection, where it is ready, and of what is chosen of the others
 abbrev pub chosen : Bool → Selection → Option Selection → Option Selection

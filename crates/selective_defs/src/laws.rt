@@ -4,8 +4,13 @@ ghost use Rattle.mv_base.specs.declared.addr.Addr.{Addr};
 ghost use Rattle.mldp_fec.specs.declared.fec.Fec.{Fec};
 ghost use Rattle.selective_defs.specs.declared.learned_route.LearnedRoute.{LearnedRoute};
 ghost use Rattle.selective_defs.specs.declared.selection.Selection.{Selection};
-ghost use Rattle.selective_defs.specs.Selective.{Among, Matches, transmitted, IsTransmitted, AreDistinct, wanted, IsWanted, InStep};
+ghost use Rattle.selective_defs.specs.Selective.{Among, Matches, next_number, IsLeastNumber, transmitted, IsTransmitted, AreDistinct, wanted, IsWanted, InStep};
 ghost use Rattle.selective_defs.specs.Example.{Overlap};
+
+/// One more selection of a VRF gets the least number from 1 on that no other one has.
+pub fn next_number_is()
+    ensures { (selections : List Selection) → IsLeastNumber selections (next_number selections) }
+{}
 
 /// A root transmits a flow on the tunnel of the most specific selection that matches it and whose delay was run, and on the
 /// inclusive tunnel exactly where there is none.

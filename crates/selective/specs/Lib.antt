@@ -1,0 +1,5 @@
+pub mod Delays
+pub mod Patterns
+pub mod Order
+pub mod Roots
+pub mod Leaves

@@ -1,6 +1,6 @@
 -- Selections of a root, and what leaves them distinct.
-use Rattle.std.proofs.Common.{◌≡◌, ◌≢◌, ℕ, zero, suc, ◌+◌, ◌-◌, ◌<◌, ◌≤◌, ◌^◌, ◌&&◌, ◌↔◌, ◌⊎◌, Bool, true, false, cond, not, inl, inr, List, [], ◌∷◌, ◌++◌, length, map, filter, take, drop, Option, None, Some, is_some, refl, sym, ap, subst, ◌∙◌, arith}
-use Rattle.std.specs.Prelude.{IfSome, IsTrue, option_map}
+use Rattle.std.proofs.Common.{◌≡◌, ℕ, zero, suc, ◌+◌, ◌-◌, ◌<◌, ◌≤◌, ◌^◌, ◌↔◌, ◌⊎◌, Bool, true, false, cond, not, inl, inr, List, [], ◌∷◌, ◌++◌, length, map, filter, take, drop, Option, None, Some, is_some, refl, sym, ap, subst, ◌∙◌, arith}
+use Rattle.std.specs.Prelude.{IfSome, option_map}
 use Rattle.std.specs.List.{find}
 use Rattle.std.specs.Option.{option_eq}
 use Rattle.std.proofs.lemmas.Bool.{cases_Bool, and_parts}
@@ -8,7 +8,6 @@ use Rattle.std.proofs.Math.ListN.{get_or, set}
 use Rattle.std.proofs.lemmas.List.{get_or_default}
 use Rattle.std.proofs.lemmas.List.Edits.{map_over_more}
 use Rattle.std.proofs.lemmas.List.Filters.{length-filter_both}
-use Rattle.std.proofs.lemmas.Option.{same_Some}
 use Rattle.mv_base.specs.Address.{same_addr, same_addr_equal, same_addr_equiv}
 use Rattle.mv_base.specs.declared.addr.Addr.{Addr}
 use Rattle.mv_base.specs.declared.pattern.Pattern.{Pattern}
@@ -17,7 +16,7 @@ use Rattle.selective_defs.specs.Selective.{Among, AreDistinct, IsLeastNumber, Ma
 use Rattle.selective_defs.proofs.NumberLemmas.{least_number}
 use Rattle.selective_defs.proofs.PatternLemmas.{both_true, opposite, matched, matching}
 use Rattle.selective_defs.proofs.TransmittedLemmas.{best_of}
-use Rattle.selective_defs.proofs.WantedLemmas.{filtered, kept}
+use Rattle.selective_defs.proofs.WantedLemmas.{filtered}
 use Rattle.selective.specs.Patterns.{same_pattern}
 use Rattle.selective.specs.Roots.{AreSelections, IsRoot, IsSelected, added, is_of, number_at, run_due}
 

@@ -1,5 +1,5 @@
 -- What an egress keeps of the selective routes that it has learned.
-use Rattle.std.specs.Prelude.{◌≡◌, ℕ, ◌≤◌, ◌==◌, ◌&&◌, ◌||◌, Bool, not, List, [], ◌∷◌, ◌++◌, map, refl, Option, None, Some, if◌then◌else◌}
+use Rattle.std.specs.Prelude.{◌≡◌, ℕ, ◌≤◌, ◌==◌, ◌&&◌, ◌||◌, Bool, false, not, List, [], ◌∷◌, ◌++◌, map, refl, None, Some, if◌then◌else◌}
 use Rattle.std.specs.List.{filter, list_any}
 use Rattle.std.specs.Coded.{Coded, code_by, coded×, coded_ℕ}
 use Rattle.std.specs.FinMap as maps
@@ -34,11 +34,17 @@ pub record Leaf : Type 0 where
   pub routes : Routes
 
 abbrev pub leaf_code : Coded Leaf
-leaf_code = code_by (ℕ × Routes) (coded× coded_ℕ (maps.code keys.the_row.coded learned.the_row.coded)) (λ l. (l.delay, l.routes)) (λ p. record { delay = p.0; routes = p.1 }) (λ _. refl)
+leaf_code =
+    code_by (ℕ × Routes) (coded× coded_ℕ (maps.code keys.the_row.coded learned.the_row.coded))
+    (λ l. (l.delay, l.routes)) (λ p. record { delay = p.0; routes = p.1 }) (λ _. refl)
 
 -- the key of a route
 abbrev pub key_of : NodeId → Rd → Pattern → RouteKey
 key_of peer rd pattern = record { peer = peer; pattern = pattern; place = Of rd }
+
+-- a route that is learned at the clock
+abbrev pub learned_now : Fec → ℕ → Learned
+learned_now fec now = record { fec = fec; since = now; run = false }
 
 abbrev pub is_of_peer : NodeId → RouteKey × Learned → Bool
 is_of_peer peer entry = entry.0.peer.0 == peer.0
@@ -56,7 +62,8 @@ abbrev pub run_due : ℕ → ℕ → Learned → Learned
 run_due delay now learned = record learned { run = learned.run || is_due delay now learned.since }
 
 abbrev pub routes_run : ℕ → ℕ → Routes → Routes
-routes_run delay now routes = maps.from_sorted (map (λ (entry : RouteKey × Learned). (entry.0, run_due delay now entry.1)) (maps.entries routes))
+routes_run delay now routes =
+    maps.from_sorted (map (λ (entry : RouteKey × Learned). (entry.0, run_due delay now entry.1)) (maps.entries routes))
 
 -- the routes of a peer, in their order
 abbrev pub peer_entries : NodeId → Routes → List (RouteKey × Learned)
@@ -88,11 +95,16 @@ patterns_of source group =
 
 -- those of the entries that are the peer's routes of the pattern
 abbrev pub routes_at : NodeId → Pattern → List (RouteKey × Learned) → List (RouteKey × Learned)
-routes_at peer pattern entries = filter (λ (entry : RouteKey × Learned). is_of_peer peer entry && same_pattern entry.0.pattern pattern) entries
+routes_at peer pattern entries =
+    filter (λ (entry : RouteKey × Learned). is_of_peer peer entry && same_pattern entry.0.pattern pattern) entries
+
+-- the tunnels of the entries
+abbrev pub fecs_of : List (RouteKey × Learned) → List Fec
+fecs_of entries = map (λ (entry : RouteKey × Learned). entry.1.fec) entries
 
 -- the tunnels of the peer's routes of the patterns, up to the first pattern with a route whose delay was run
 abbrev pub until_run : NodeId → List Pattern → List (RouteKey × Learned) → List Fec
 until_run peer [] entries = []
 until_run peer (pattern ∷ more) entries =
-    map (λ (entry : RouteKey × Learned). entry.1.fec) (routes_at peer pattern entries)
+    fecs_of (routes_at peer pattern entries)
     ++ (if list_any (λ (entry : RouteKey × Learned). entry.1.run) (routes_at peer pattern entries) then [] else until_run peer more entries)

@@ -1,8 +1,8 @@
 -- What a root keeps of the selective tunnels of a VRF.
-use Rattle.std.specs.Prelude.{◌≡◌, ℕ, ◌+◌, ◌*◌, ◌^◌, ◌<◌, ◌≤◌, ◌&&◌, ◌||◌, Bool, not, List, length, Option, None, Some, option_map}
+use Rattle.std.specs.Prelude.{◌≡◌, ℕ, ◌+◌, ◌*◌, ◌^◌, ◌<◌, ◌≤◌, ◌&&◌, ◌||◌, Bool, false, not, List, length, Option, None, Some, option_map}
 use Rattle.std.specs.List.{find}
 use Rattle.mv_base.specs.declared.pattern.Pattern.{Pattern}
-use Rattle.selective_defs.specs.Selective.{AreDistinct, Among}
+use Rattle.selective_defs.specs.Selective.{AreDistinct, Among, next_number}
 use Rattle.selective_defs.specs.declared.selection.Selection.{Selection}
 use Rattle.selective.specs.Delays.{is_due}
 use Rattle.selective.specs.Patterns.{same_pattern}
@@ -33,6 +33,10 @@ added (Some selection) = selection.number
 -- the pattern is selected
 abbrev pub IsSelected : Pattern → List Selection → Type 0
 IsSelected pattern selections = (selection : Selection) × (Among selection selections) × (selection.pattern ≡ pattern)
+
+-- one more selection, made at the clock
+abbrev pub selected_now : Pattern → ℕ → List Selection → Selection
+selected_now pattern now selections = record { pattern = pattern; number = next_number selections; since = now; run = false }
 
 -- whether the selection is due, and its delay was not run
 abbrev pub is_waiting : ℕ → ℕ → Selection → Bool

@@ -4,7 +4,7 @@ ghost use Rattle.std.specs.BTreeMap as tree;
 ghost use Rattle.std.specs.FinMap.{empty, entries, insert, remove, values};
 ghost use Rattle.std.specs.List.{list_any};
 ghost use Rattle.selective_defs.specs.Selective.{wanted};
-ghost use Rattle.selective.specs.Leaves.{is_waiting, key_of, patterns_of, peer_routes, routes_at, routes_run, run_due, until_run, without_peer};
+ghost use Rattle.selective.specs.Leaves.{fecs_of, is_waiting, key_of, learned_now, patterns_of, peer_routes, routes_at, routes_run, run_due, until_run, without_peer};
 
 use crate::delay::is_due;
 use crate::route_key::{Learned, Place, RouteKey};
@@ -71,7 +71,7 @@ impl LeafTunnels {
         fec: Fec,
         now: u64,
     ) -> Result<(), NoMemory>
-        ensures learned { OnOk result (self.new ≡ record self.old { routes = insert self.old.routes (key_of peer rd pattern) (record { fec = fec; since = now; run = false }) }) }
+        ensures learned { OnOk result (self.new ≡ record self.old { routes = insert self.old.routes (key_of peer rd pattern) (learned_now fec now) }) }
         ensures unchanged { OnErr result (self.new ≡ self.old) }
     {
         let key = RouteKey {
@@ -170,7 +170,7 @@ impl LeafTunnels {
 
     /// Appends the tunnels of the peer's routes of the pattern, and tells whether the delay of one was run.
     fn push_routes(&self, fecs: &mut Fecs, peer: NodeId, pattern: Pattern) -> Result<bool, NoMemory>
-        ensures pushed { OnOk result (fecs.new ≡ fecs.old ++ map (λ entry. entry.1.fec) (routes_at peer pattern (entries self.now.routes))) }
+        ensures pushed { OnOk result (fecs.new ≡ fecs.old ++ fecs_of (routes_at peer pattern (entries self.now.routes))) }
         ensures run { IfOk result (λ run. run ≡ list_any (λ entry. entry.1.run) (routes_at peer pattern (entries self.now.routes))) }
     {
         let first = RouteKey {

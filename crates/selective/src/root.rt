@@ -2,7 +2,7 @@
 ghost use Rattle.std.specs.Prelude.{◌≡◌, ◌≤◌, ◌<◌, ◌^◌, ◌+◌, ◌++◌, ◌∷◌, [], ◌↔◌, not, false, length, filter, map, count_by, option_map, IsTrue, IfSome, IfOk, OnOk, OnErr};
 ghost use Rattle.std.specs.List.{list_any};
 ghost use Rattle.selective_defs.specs.Selective.{chosen, has_number, is_ready, matches, next_number, transmitted};
-ghost use Rattle.selective.specs.Roots.{AreSelections, IsSelected, added, is_of, is_waiting, lsp_number, number_at, run_due};
+ghost use Rattle.selective.specs.Roots.{AreSelections, IsSelected, added, is_of, is_waiting, lsp_number, number_at, run_due, selected_now};
 
 use crate::delay::is_due;
 use mv_base::{Addr, NoMemory, Pattern};
@@ -200,7 +200,7 @@ impl RootTunnels {
         requires few { length self.old.selections < 256 }
         requires now { now < 2 ^ 63 }
         ensures number { IfOk result (λ lsp. lsp ≡ lsp_number self.old.number (next_number self.old.selections)) }
-        ensures selected { OnOk result (self.new ≡ record self.old { selections = self.old.selections ++ record { pattern = pattern; number = next_number self.old.selections; since = now; run = false } ∷ [] }) }
+        ensures selected { OnOk result (self.new ≡ record self.old { selections = self.old.selections ++ selected_now pattern now self.old.selections ∷ [] }) }
         ensures unchanged { OnErr result (self.new ≡ self.old) }
     {
         let number = next_number(&self.selections);

@@ -1,4 +1,4 @@
-use Rattle.std.proofs.Common.{◌+◌, true, sym, subst}
+use Rattle.std.proofs.Common.{◌+◌, true, subst}
 use Rattle.std.proofs.lemmas.Bool.{leb-true, le-leb}
 use Rattle.mv_base.specs.declared.pattern.Pattern.{Pattern}
 use Rattle.selective.specs.Patterns.{same_pattern}

@@ -1,8 +1,4 @@
-use Rattle.std.proofs.Common.{◌≡◌, ◌<◌, ◌++◌, List, length, map, take, drop, arith}
-use Rattle.std.proofs.lemmas.List.{get_or_default}
-use Rattle.std.proofs.lemmas.List.Edits.{map_over_more}
-use Rattle.selective_defs.specs.declared.selection.Selection.{Selection}
-use Rattle.selective.specs.Roots.{run_due}
+use Rattle.std.proofs.Common.{◌≡◌, length, arith}
 use Rattle.selective.proofs.RootLemmas.{run_more}
 use Rattle.selective.proofs.root.run_due.Goals as goal
 

@@ -1,4 +1,4 @@
-use Rattle.std.proofs.Common.{◌≡◌, ap, ◌∙◌}
+use Rattle.std.proofs.Common.{ap, ◌∙◌}
 use Rattle.std.specs.FinMap.{remove}
 use Rattle.selective.specs.Leaves.{Leaf, Routes, key_of}
 use Rattle.selective.proofs.OrderLemmas.{removed}

@@ -1,5 +1,5 @@
 use Rattle.std.proofs.Common.{rules, ◌≡◌, not, filter, sym, ap, ◌∙◌}
-use Rattle.std.specs.FinMap.{from_sorted, entries}
+use Rattle.std.specs.FinMap.{from_sorted}
 use Rattle.std.proofs.lemmas.Map.Made.{filter_same_pairs}
 use Rattle.selective.specs.declared.route_key.Learned.{Learned}
 use Rattle.selective.specs.declared.route_key.RouteKey.{RouteKey}

@@ -1,9 +1,7 @@
 use Rattle.std.proofs.Common.{◌≡◌, ◌++◌, ◌||◌, map}
-use Rattle.std.specs.FinMap.{entries}
 use Rattle.std.specs.List.{list_any}
 use Rattle.selective.specs.declared.route_key.Learned.{Learned}
 use Rattle.selective.specs.declared.route_key.RouteKey.{RouteKey}
-use Rattle.selective.specs.Leaves.{routes_at}
 use Rattle.selective.proofs.leaf.LeafTunnels.push_routes.Given as goal
 
 abbrev pub invariant-loop-key : goal.invariant-loop-key

@@ -5,14 +5,14 @@ use mv_base::Addr;
 use pmsi_attr::Pmsi;
 
 /// The value of an MP_REACH_NLRI attribute of a family that is read (RFC 4760 section 3).
-#[derive(Debug, Drop)]
+#[derive(Drop)]
 pub struct Reachable {
     pub next_hop: Addr,
     pub keys: Keys,
 }
 
 /// A path attribute by its type.
-#[derive(Debug, Drop)]
+#[derive(Drop)]
 pub enum Attribute {
     /// Type 14, MP_REACH_NLRI. `None` where its family is not read.
     Reach(Option<Reachable>),

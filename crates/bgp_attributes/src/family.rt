@@ -5,7 +5,7 @@ ghost use Rattle.bgp_attributes.specs.Reading.{family_of, is_hop_len, before_add
 use mvpn_nlri::Afi;
 
 /// An address family whose NLRI are read, by its AFI and SAFI (RFC 4760 sections 3 and 4).
-#[derive(Clone, Copy, Debug)]
+#[derive(Clone, Copy)]
 pub enum Family {
     /// SAFI 5, MCAST-VPN (RFC 6514 section 4).
     Mcast(Afi),

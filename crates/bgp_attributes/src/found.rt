@@ -11,7 +11,7 @@ use pmsi_attr::Pmsi;
 use std::alloc::Global;
 
 /// The attributes that were read of a list, at most one of each type.
-#[derive(Debug, Drop)]
+#[derive(Drop)]
 pub(crate) struct Found {
     reach: Option<Option<Reachable>>,
     unreach: Option<Option<Keys>>,

@@ -3,7 +3,7 @@ use mv_base::{Prefix, Rd, Seq};
 use mvpn_nlri::{Afi, Route};
 
 /// What a route is announced and withdrawn by: its NLRI (RFC 4760 section 3).
-#[derive(Clone, Copy, Debug, PartialEq, Eq)]
+#[derive(Clone, Copy, PartialEq, Eq)]
 pub enum Key {
     /// An MCAST-VPN route (RFC 6514 section 4).
     Mcast(Afi, Route),

@@ -11,7 +11,7 @@ use mvpn_nlri::Afi;
 use std::alloc::Global;
 
 /// Why no key stands at the front of octets, and at which offset.
-#[derive(Clone, Copy, Debug)]
+#[derive(Clone, Copy)]
 struct BadKey {
     offset: usize,
     fault: StreamFault,

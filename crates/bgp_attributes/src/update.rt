@@ -8,7 +8,7 @@ use route_targets::ExtComm;
 pub type Comms = Seq<ExtComm>;
 
 /// A route that is announced, with what its path attributes say of it.
-#[derive(Debug, Drop)]
+#[derive(Drop)]
 pub struct Advert {
     pub key: Key,
     pub next_hop: Addr,
@@ -21,14 +21,14 @@ pub struct Advert {
 pub type Adverts = Seq<Advert>;
 
 /// What an UPDATE message announces and withdraws, of the address families that are read.
-#[derive(Debug, Drop)]
+#[derive(Drop)]
 pub struct Update {
     pub reach: Adverts,
     pub unreach: Keys,
 }
 
 /// A message of a stream.
-#[derive(Debug, Drop)]
+#[derive(Drop)]
 pub enum Message {
     Update(Update),
     /// A message that is passed over unread, by its type: 1 OPEN, 3 NOTIFICATION, 4 KEEPALIVE, 5 ROUTE-REFRESH.
@@ -36,7 +36,7 @@ pub enum Message {
 }
 
 /// One change that an UPDATE message makes.
-#[derive(Debug, Drop)]
+#[derive(Drop)]
 pub enum Change {
     Reach(Advert),
     Unreach(Key),

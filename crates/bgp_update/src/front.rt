@@ -24,7 +24,7 @@ pub(crate) const UPDATE: u8 = 2;
 const KEEPALIVE: u8 = 4;
 
 /// What stands at the front: too few octets to tell, a message of so many octets, or a fault at a place.
-#[derive(Debug, Drop)]
+#[derive(Drop)]
 pub(crate) enum Front {
     More,
     Whole(usize, Message),

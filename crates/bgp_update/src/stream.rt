@@ -17,7 +17,7 @@ pub type FeedFault = framing::FeedFault<StreamFault>;
 
 /// A stream of BGP messages (RFC 4271 section 4) that comes in any pieces: the messages that wait, and the octets held
 /// back because they begin a message that has not come whole, fewer than 4096. Contracts see it as a `Fed`.
-#[derive(Debug, Drop)]
+#[derive(Drop)]
 pub struct Stream {
     inbound: Inbound<Message, StreamFault>,
 }

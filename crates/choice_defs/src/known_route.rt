@@ -3,7 +3,7 @@ use crate::Origin;
 use mv_base::Prefix;
 
 /// A route that a VRF knows: a local one, or one imported from another edge.
-#[derive(Clone, Copy, Debug, PartialEq, Eq)]
+#[derive(Clone, Copy, PartialEq, Eq)]
 pub struct KnownRoute {
     pub prefix: Prefix,
     pub origin: Origin,

@@ -2,7 +2,7 @@
 use mv_base::{Addr, NodeId, Rd, SiteId};
 
 /// Where a route that a VRF knows is from.
-#[derive(Clone, Copy, Debug, PartialEq, Eq)]
+#[derive(Clone, Copy, PartialEq, Eq)]
 pub enum Origin {
     /// A site that is attached at the VRF itself.
     Local(SiteId),

@@ -1,7 +1,7 @@
 //! The formats that `decode` reads.
 
 /// A format of octets.
-#[derive(Clone, Copy, Debug, PartialEq, Eq)]
+#[derive(Clone, Copy, PartialEq, Eq)]
 pub enum Format {
     /// Multipoint FEC elements of LDP, end to end (RFC 6388).
     Fec,

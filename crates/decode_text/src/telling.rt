@@ -15,7 +15,7 @@ use std::alloc::Global;
 use value_text::{put_joinprune_fault, put_joinprune_lines, put_pmsi_fault, put_pmsi_line};
 
 /// The lines of values, and whether they end with the line of a fault.
-#[derive(Debug, Drop)]
+#[derive(Drop)]
 pub struct Told {
     pub text: Bytes,
     pub refused: bool,

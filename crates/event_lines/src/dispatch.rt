@@ -15,7 +15,7 @@ use std::alloc::Global;
 const EVENT_LIMIT: usize = 200_000;
 
 /// What the first word of a line begins.
-#[derive(Clone, Copy, Debug)]
+#[derive(Clone, Copy)]
 pub enum EventWord {
     Tick,
     Timers,

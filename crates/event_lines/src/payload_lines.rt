@@ -13,7 +13,7 @@ use scenario_draft::{Draft, Line, iface_at, site_at};
 use std::alloc::Global;
 
 /// The first words of a send.
-#[derive(Clone, Copy, Debug)]
+#[derive(Clone, Copy)]
 pub struct SendHead {
     pub site: SiteId,
     pub source: Addr,

@@ -2,7 +2,7 @@
 
 /// How far octets were cut into units: the messages of the whole ones and those before the fault in the unit behind them,
 /// how many octets the whole ones have, and that fault, with its place.
-#[derive(Debug, Drop)]
+#[derive(Drop)]
 pub struct Cutting<M, E> {
     pub messages: Vec<M>,
     pub len: usize,

@@ -11,7 +11,7 @@ use std::marker::Model;
 
 /// What came of a stream: the messages that wait, the octets held back because they begin a unit that has not come
 /// whole, how many octets stand before these, and the first fault, once there is one. Contracts see it as a `Fed`.
-#[derive(Debug, Drop)]
+#[derive(Drop)]
 pub struct Inbound<M, E> {
     waiting: VecDeque<M>,
     held: Vec<u8>,

@@ -3,7 +3,7 @@ use mldp_fec::Fec;
 use mv_base::NodeId;
 
 /// A branch of a P2MP LSP: the neighbour mapped the label to the FEC, so a copy on the tree goes to it under that label.
-#[derive(Clone, Copy, Debug, PartialEq, Eq)]
+#[derive(Clone, Copy, PartialEq, Eq)]
 pub struct Branch {
     pub fec: Fec,
     pub node: NodeId,

@@ -2,7 +2,7 @@
 use mv_base::NodeId;
 
 /// What a tree of a node needs so that it is settled.
-#[derive(Clone, Copy, Debug, PartialEq, Eq)]
+#[derive(Clone, Copy, PartialEq, Eq)]
 pub enum Change {
     /// Nothing.
     Keep,

@@ -1,7 +1,7 @@
 //! Ends of sessions.
 
 /// The end of an LDP session that is up.
-#[derive(Clone, Copy, Debug, PartialEq, Eq)]
+#[derive(Clone, Copy, PartialEq, Eq)]
 pub struct End {
     /// The clock at which it came up.
     pub raised: u64,

@@ -3,7 +3,7 @@ use mldp_fec::Fec;
 use mv_base::NodeId;
 
 /// What a label number of a node is used for.
-#[derive(Clone, Copy, Debug, PartialEq, Eq)]
+#[derive(Clone, Copy, PartialEq, Eq)]
 pub enum LabelUse {
     Free,
     /// It is mapped to the FEC towards the upstream neighbour (RFC 5036 section 3.5.7).

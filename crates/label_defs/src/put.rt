@@ -3,7 +3,7 @@ use mldp_msgs::LabelMessage;
 use mv_base::NodeId;
 
 /// A label message that a node puts to a neighbour.
-#[derive(Clone, Copy, Debug, PartialEq, Eq)]
+#[derive(Clone, Copy, PartialEq, Eq)]
 pub struct Put {
     pub to: NodeId,
     pub message: LabelMessage,

@@ -7,14 +7,14 @@ ghost use Rattle.line_words.specs.Words.{words_of, placed_word};
 use std::alloc::{AllocError, Global};
 
 /// A word, with the column that it begins at.
-#[derive(Clone, Copy, Debug)]
+#[derive(Clone, Copy)]
 pub struct Word<'a> {
     pub column: u32,
     pub text: &'a [u8],
 }
 
 /// A line beside its words.
-#[derive(Clone, Copy, Debug)]
+#[derive(Clone, Copy)]
 pub struct Row {
     pub number: u32,
     /// The column behind the last octet.

@@ -2,7 +2,7 @@
 use mv_base::{Addr, Inline};
 
 /// What a multipoint FEC element stands for.
-#[derive(Clone, Copy, Debug, PartialEq, Eq, Hash)]
+#[derive(Clone, Copy, PartialEq, Eq, Hash)]
 pub enum FecKind {
     /// A point-to-multipoint LSP (RFC 6388 section 2.2).
     P2mp,
@@ -16,7 +16,7 @@ pub enum FecKind {
 pub type Opaque = Inline<64>;
 
 /// A multipoint FEC element.
-#[derive(Clone, Copy, Debug, PartialEq, Eq, Hash)]
+#[derive(Clone, Copy, PartialEq, Eq, Hash)]
 pub struct Fec {
     pub kind: FecKind,
     pub root: Addr,

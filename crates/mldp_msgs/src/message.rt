@@ -11,7 +11,7 @@ pub(crate) const WITHDRAW: u16 = 0x0402;
 pub(crate) const RELEASE: u16 = 0x0403;
 
 /// What a message says.
-#[derive(Clone, Copy, Debug, PartialEq, Eq)]
+#[derive(Clone, Copy, PartialEq, Eq)]
 pub enum LabelMessage {
     /// The label is mapped to the FEC (RFC 5036 section 3.5.7).
     Mapping(Fec, u32),

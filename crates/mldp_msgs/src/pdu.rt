@@ -13,7 +13,7 @@ use mv_base::NoMemory;
 use std::alloc::Global;
 
 /// What stands at the front of a stream.
-#[derive(Debug, Drop)]
+#[derive(Drop)]
 enum Front {
     /// Too few octets to tell.
     More,

@@ -12,7 +12,7 @@ use mv_base::NoMemory;
 use std::alloc::Global;
 
 /// A type of message that says something of a label (RFC 5036 section 3.7).
-#[derive(Clone, Copy, Debug, PartialEq, Eq)]
+#[derive(Clone, Copy, PartialEq, Eq)]
 enum LabelType {
     Mapping,
     Withdraw,

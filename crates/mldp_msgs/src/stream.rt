@@ -14,7 +14,7 @@ use std::alloc::Global;
 use std::marker::Model;
 
 /// What came of a session's octets. Contracts see it as a `Fed`.
-#[derive(Debug, Drop)]
+#[derive(Drop)]
 pub struct Stream {
     inbound: Inbound<LabelMessage, LdpFault>,
 }

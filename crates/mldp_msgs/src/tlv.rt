@@ -34,7 +34,7 @@ const LABEL_BITS: u32 = 0xf_ffff;
 const FIRST_LABEL: u32 = 16;
 
 /// What a TLV says.
-#[derive(Clone, Copy, Debug, PartialEq, Eq)]
+#[derive(Clone, Copy, PartialEq, Eq)]
 pub(crate) enum Tlv {
     Fec(Fec),
     Label(u32),
@@ -42,7 +42,7 @@ pub(crate) enum Tlv {
 }
 
 /// How the value of a TLV is read.
-#[derive(Clone, Copy, Debug, PartialEq, Eq)]
+#[derive(Clone, Copy, PartialEq, Eq)]
 pub(crate) enum TlvKind {
     Fec,
     Label,
@@ -50,7 +50,7 @@ pub(crate) enum TlvKind {
 }
 
 /// Why no further TLV of a message is read.
-#[derive(Clone, Copy, Debug, PartialEq, Eq)]
+#[derive(Clone, Copy, PartialEq, Eq)]
 pub(crate) enum Stop {
     /// The FEC element is of no multipoint LSP.
     Unlike,
@@ -59,7 +59,7 @@ pub(crate) enum Stop {
 }
 
 /// What the TLVs of a message said.
-#[derive(Clone, Copy, Debug, PartialEq, Eq)]
+#[derive(Clone, Copy, PartialEq, Eq)]
 pub(crate) struct Found {
     pub(crate) fec: Option<Fec>,
     pub(crate) label: Option<u32>,

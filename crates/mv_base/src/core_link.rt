@@ -2,7 +2,7 @@
 use crate::NodeId;
 
 /// A link between two nodes, with its cost in both directions.
-#[derive(Clone, Copy, Debug, PartialEq, Eq)]
+#[derive(Clone, Copy, PartialEq, Eq)]
 pub struct Link {
     pub a: NodeId,
     pub b: NodeId,

@@ -7,7 +7,7 @@ use std::hash::{Hash, Hasher};
 use std::marker::Model;
 
 /// At most `N` octets, which contracts see as their list.
-#[derive(Clone, Copy, Debug)]
+#[derive(Clone, Copy)]
 pub struct Inline<const N: usize> {
     octets: [u8; N],
     len: usize,

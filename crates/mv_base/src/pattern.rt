@@ -5,7 +5,7 @@ ghost use Rattle.mv_base.specs.Pattern.{rank};
 use crate::Addr;
 
 /// A source and a group, where `None` is the wildcard.
-#[derive(Clone, Copy, Debug, PartialEq, Eq)]
+#[derive(Clone, Copy, PartialEq, Eq)]
 pub struct Pattern {
     pub source: Option<Addr>,
     pub group: Option<Addr>,

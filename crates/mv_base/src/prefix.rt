@@ -7,7 +7,7 @@ ghost use Rattle.mv_base.specs.Prefix.{IsPrefixOf, covers};
 use crate::Addr;
 
 /// The addresses whose first `bits` bits are those of `addr`.
-#[derive(Clone, Copy, Debug, PartialEq, Eq)]
+#[derive(Clone, Copy, PartialEq, Eq)]
 pub struct Prefix {
     pub addr: Addr,
     pub bits: u8,

@@ -14,7 +14,7 @@ pub struct Short {
 }
 
 /// The octets that are left of an input, and where the first of them stands. Contracts see it as a `Cursor`.
-#[derive(Debug, Drop)]
+#[derive(Drop)]
 pub struct Reader<'a> {
     left: &'a [u8],
     place: u32,

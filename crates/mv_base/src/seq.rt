@@ -6,7 +6,7 @@ use std::alloc::Global;
 use std::marker::Model;
 
 /// A list on the heap.
-#[derive(Drop, Debug)]
+#[derive(Drop)]
 pub struct Seq<T> {
     items: Vec<T>,
 }

@@ -9,7 +9,7 @@ use scenario_defs::{Event, Scenario};
 use std::alloc::Global;
 
 /// A message that came to an interface.
-#[derive(Debug, Drop)]
+#[derive(Drop)]
 pub struct Given {
     pub iface: IfaceId,
     pub message: JoinPrune,

@@ -10,7 +10,7 @@ use scenario_defs::{Event, JoinEntry, Scenario, Timed, edge_of};
 use std::alloc::Global;
 
 /// The clock, and the expiry of an entry where it is there.
-#[derive(Clone, Copy, Debug, PartialEq, Eq)]
+#[derive(Clone, Copy, PartialEq, Eq)]
 pub struct Standing {
     pub clock: u64,
     pub expiry: Option<Expiry>,

@@ -9,7 +9,7 @@ use crate::route::Afi;
 use mv_base::Addr;
 
 /// Which of a flow's two addresses.
-#[derive(Clone, Copy, Debug, PartialEq, Eq)]
+#[derive(Clone, Copy, PartialEq, Eq)]
 pub(crate) enum Role {
     Source,
     Group,

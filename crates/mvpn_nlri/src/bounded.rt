@@ -8,7 +8,7 @@ use mv_base::{Rd, Reader};
 use std::marker::Model;
 
 /// The octets of fields, and how many of them the enclosing length leaves. Contracts see them as `Bounded`.
-#[derive(Debug, Drop)]
+#[derive(Drop)]
 pub(crate) struct Fields<'a> {
     reader: Reader<'a>,
     within: usize,

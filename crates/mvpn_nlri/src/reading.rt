@@ -12,7 +12,7 @@ use crate::route::{Afi, Raw, Route};
 use mv_base::{Addr, Rd};
 
 /// The fields of a C-multicast route.
-#[derive(Clone, Copy, Debug)]
+#[derive(Clone, Copy)]
 struct Join {
     rd: Rd,
     source_as: u32,

@@ -5,7 +5,7 @@ ghost use Rattle.mvpn_nlri.specs.Reading.{own_route};
 use mv_base::{Addr, Inline, Rd};
 
 /// The family of a route's source and group, by its address family identifier.
-#[derive(Clone, Copy, Debug, PartialEq, Eq)]
+#[derive(Clone, Copy, PartialEq, Eq)]
 pub enum Afi {
     /// AFI 1.
     Ipv4,
@@ -17,7 +17,7 @@ pub enum Afi {
 pub type Raw = Inline<255>;
 
 /// The route that a Leaf A-D route answers (RFC 6514 section 4.4).
-#[derive(Clone, Copy, Debug, PartialEq, Eq)]
+#[derive(Clone, Copy, PartialEq, Eq)]
 pub enum LeafKey {
     Inter {
         rd: Rd,
@@ -33,7 +33,7 @@ pub enum LeafKey {
 }
 
 /// An MCAST-VPN route.
-#[derive(Clone, Copy, Debug, PartialEq, Eq)]
+#[derive(Clone, Copy, PartialEq, Eq)]
 pub enum Route {
     /// Type 1, Intra-AS I-PMSI A-D (RFC 6514 section 4.1).
     Intra {

@@ -5,7 +5,7 @@ ghost use Rattle.mvpn_tool.specs.Commands.{command_of, format_of};
 use decode_text::Format;
 
 /// A command that is built.
-#[derive(Clone, Copy, Debug, PartialEq, Eq)]
+#[derive(Clone, Copy, PartialEq, Eq)]
 pub enum Command {
     /// `replay`
     Replay,

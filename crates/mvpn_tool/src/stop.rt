@@ -4,7 +4,7 @@ use mv_io::{SinkFailed, SourceFailed};
 use std::alloc::{AllocError, AllocFailed};
 
 /// Why a replay ended early.
-#[derive(Clone, Copy, Debug, PartialEq, Eq)]
+#[derive(Clone, Copy, PartialEq, Eq)]
 pub enum Stop {
     /// The text has a fault, and the line that tells it was written.
     Text,

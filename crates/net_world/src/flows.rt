@@ -15,7 +15,7 @@ use scenario_defs::{IfaceList, Scenario, edge_of};
 use std::alloc::Global;
 
 /// A flow: a source and a group.
-#[derive(Clone, Copy, Debug, PartialEq, Eq, Hash)]
+#[derive(Clone, Copy, PartialEq, Eq, Hash)]
 pub struct Flow {
     pub source: Addr,
     pub group: Addr,

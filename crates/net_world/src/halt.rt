@@ -2,7 +2,7 @@
 use mv_base::NodeId;
 
 /// Why a world goes no further.
-#[derive(Clone, Copy, Debug, PartialEq, Eq)]
+#[derive(Clone, Copy, PartialEq, Eq)]
 pub enum Halt {
     /// The node has no free label.
     NoLabel(NodeId),

@@ -3,7 +3,7 @@ ghost use Rattle.std.specs.Prelude.{◌≡◌, ◌+◌, ◌<◌, ◌^◌};
 ghost use Rattle.pim_defs.specs.Expiry.{is_after, counts, later, held_until, latest, extended};
 
 /// When an entry ends, unless it is joined or pruned again (RFC 7761 section 4.5).
-#[derive(Clone, Copy, Debug, PartialEq, Eq)]
+#[derive(Clone, Copy, PartialEq, Eq)]
 pub enum Expiry {
     /// At this moment of the clock.
     At(u64),

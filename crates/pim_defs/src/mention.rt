@@ -10,7 +10,7 @@ use pim_joinprune::{JoinPrune, JpSource};
 use scenario_defs::JoinEntry;
 
 /// What a message says of an entry.
-#[derive(Clone, Copy, Debug, PartialEq, Eq)]
+#[derive(Clone, Copy, PartialEq, Eq)]
 pub struct Mention {
     /// It joins the entry.
     pub joined: bool,

@@ -12,7 +12,7 @@ use mv_base::{Addr, Bytes, NoMemory, Seq};
 use std::alloc::Global;
 
 /// A multicast group, and the sources that are joined and pruned, at most 65535 of each (RFC 7761 section 4.9.5).
-#[derive(Debug, Drop)]
+#[derive(Drop)]
 pub struct Group {
     /// A multicast address of IPv4.
     pub group: Addr,

@@ -3,7 +3,7 @@ use crate::group::Groups;
 use mv_base::Addr;
 
 /// A Join/Prune message (RFC 7761 section 4.9.5).
-#[derive(Debug, Drop)]
+#[derive(Drop)]
 pub struct JoinPrune {
     /// The neighbour upstream that the message is for, of IPv4.
     pub neighbour: Addr,

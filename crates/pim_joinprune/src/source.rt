@@ -11,7 +11,7 @@ use mv_base::{Addr, Bytes, NoMemory, Seq};
 use std::alloc::Global;
 
 /// What of a group a source address stands for (RFC 7761 section 4.9.1).
-#[derive(Clone, Copy, Debug, PartialEq, Eq, Hash)]
+#[derive(Clone, Copy, PartialEq, Eq, Hash)]
 pub enum SourceKind {
     /// (S,G): the source's own tree.
     Sg,
@@ -22,7 +22,7 @@ pub enum SourceKind {
 }
 
 /// A source that is joined or pruned.
-#[derive(Clone, Copy, Debug, PartialEq, Eq, Hash)]
+#[derive(Clone, Copy, PartialEq, Eq, Hash)]
 pub struct JpSource {
     pub kind: SourceKind,
     /// An address of IPv4, for (*,G) that of the RP.

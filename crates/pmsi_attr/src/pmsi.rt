@@ -9,7 +9,7 @@ use mv_base::{Addr, Inline};
 pub type Ident = Inline<96>;
 
 /// The tunnel that an attribute names, by its type and its identifier (RFC 6514 section 5).
-#[derive(Clone, Copy, Debug, PartialEq, Eq, Hash)]
+#[derive(Clone, Copy, PartialEq, Eq, Hash)]
 pub enum Tunnel {
     /// Type 0: no tunnel information.
     None,
@@ -36,7 +36,7 @@ impl Tunnel {
 }
 
 /// The value of a PMSI Tunnel attribute.
-#[derive(Clone, Copy, Debug, PartialEq, Eq, Hash)]
+#[derive(Clone, Copy, PartialEq, Eq, Hash)]
 pub struct Pmsi {
     /// Whether leaf information is required.
     pub leaf_info: bool,

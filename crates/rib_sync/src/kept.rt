@@ -11,7 +11,7 @@ use std::collections::BTreeMap;
 use std::mem;
 
 /// A value that was set, and the one that was told before, if any.
-#[derive(Clone, Copy, Debug)]
+#[derive(Clone, Copy)]
 pub(crate) struct News<V> {
     pub(crate) value: V,
     pub(crate) told: Option<V>,

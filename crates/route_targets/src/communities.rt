@@ -3,11 +3,11 @@ ghost use Rattle.std.specs.Prelude.{◌≡◌};
 ghost use Rattle.route_targets.specs.Targets.{same_target};
 
 /// An extended community, its 8 octets in the order of the wire (RFC 4360 section 2).
-#[derive(Clone, Copy, Debug, PartialEq, Eq)]
+#[derive(Clone, Copy, PartialEq, Eq)]
 pub struct ExtComm(pub [u8; 8]);
 
 /// A Route Target.
-#[derive(Clone, Copy, Debug, PartialEq, Eq)]
+#[derive(Clone, Copy, PartialEq, Eq)]
 pub struct Target(pub ExtComm);
 
 impl Target {

@@ -10,7 +10,7 @@ use std::marker::Model;
 pub const TARGET_LIMIT: usize = 8;
 
 /// 1 to 8 targets, which contracts see as their list.
-#[derive(Clone, Copy, Debug)]
+#[derive(Clone, Copy)]
 pub struct Targets {
     targets: [Target; 8],
     len: usize,

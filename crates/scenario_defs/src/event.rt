@@ -3,14 +3,14 @@ use crate::Scenario;
 use mv_base::{Addr, Bytes, IfaceId, NodeId, Pattern, Seq, SiteId, VrfId};
 
 /// The protocol of a session.
-#[derive(Clone, Copy, Debug, PartialEq, Eq)]
+#[derive(Clone, Copy, PartialEq, Eq)]
 pub enum Kind {
     Bgp,
     Ldp,
 }
 
 /// What a join or a prune names (RFC 7761 section 4.9.5).
-#[derive(Clone, Copy, Debug, PartialEq, Eq, Hash)]
+#[derive(Clone, Copy, PartialEq, Eq, Hash)]
 pub enum JoinEntry {
     /// (*,G)
     Star { group: Addr },
@@ -22,14 +22,14 @@ pub enum JoinEntry {
 
 /// What a join or a prune names at an interface, whether or not it is held there. One that is held is an entry of the
 /// interface: (*,G) or (S,G) joined, or (S,G,rpt) pruned, by its customer router (RFC 7761 section 4.1).
-#[derive(Clone, Copy, Debug, PartialEq, Eq, Hash)]
+#[derive(Clone, Copy, PartialEq, Eq, Hash)]
 pub struct IfaceEntry {
     pub iface: IfaceId,
     pub entry: JoinEntry,
 }
 
 /// One event of a script.
-#[derive(Debug, Drop)]
+#[derive(Drop)]
 pub enum Event {
     Tick {
         count: u64,
@@ -118,7 +118,7 @@ pub enum Event {
 }
 
 /// An event, and the number of its line in the text.
-#[derive(Debug, Drop)]
+#[derive(Drop)]
 pub struct Timed {
     pub line: u32,
     pub event: Event,
@@ -127,7 +127,7 @@ pub struct Timed {
 pub type Events = Seq<Timed>;
 
 /// A scenario, the events that follow it, and the number of the line after the last one.
-#[derive(Debug, Drop)]
+#[derive(Drop)]
 pub struct Script {
     pub scenario: Scenario,
     pub events: Events,

@@ -3,7 +3,7 @@ use crate::Kind;
 use mv_base::{Bytes, IfaceId, NodeId, Seq};
 
 /// A fault word of a Join/Prune message or of a packet.
-#[derive(Clone, Copy, Debug, PartialEq, Eq)]
+#[derive(Clone, Copy, PartialEq, Eq)]
 pub enum FaultWord {
     Short,
     Version,
@@ -21,7 +21,7 @@ pub enum FaultWord {
 }
 
 /// Why an event was refused.
-#[derive(Clone, Copy, Debug, PartialEq, Eq)]
+#[derive(Clone, Copy, PartialEq, Eq)]
 pub enum Refusal {
     Empty,
     State,
@@ -32,7 +32,7 @@ pub enum Refusal {
 }
 
 /// One line of a report.
-#[derive(Debug, Drop)]
+#[derive(Drop)]
 pub enum ReportLine {
     /// A datagram left at an interface.
     Out {

@@ -9,7 +9,7 @@ pub const NAME_LIMIT: usize = 16;
 pub type Name = Inline<16>;
 
 /// A node of the provider: an edge (a PE router, RFC 4364 section 1.2), or a core node.
-#[derive(Clone, Copy, Debug)]
+#[derive(Clone, Copy)]
 pub struct Node {
     pub name: Name,
     pub addr: Addr,
@@ -17,7 +17,7 @@ pub struct Node {
 }
 
 /// A VRF of an edge.
-#[derive(Clone, Copy, Debug)]
+#[derive(Clone, Copy)]
 pub struct Vrf {
     pub name: Name,
     pub edge: NodeId,
@@ -28,14 +28,14 @@ pub struct Vrf {
 }
 
 /// A customer site, with the prefixes of its hosts.
-#[derive(Debug, Drop)]
+#[derive(Drop)]
 pub struct Site {
     pub name: Name,
     pub prefixes: Prefixes,
 }
 
 /// An interface that attaches a site to a VRF.
-#[derive(Clone, Copy, Debug)]
+#[derive(Clone, Copy)]
 pub struct Iface {
     pub name: Name,
     pub vrf: VrfId,
@@ -44,7 +44,7 @@ pub struct Iface {
 }
 
 /// A thing that a scenario declares, by its number.
-#[derive(Clone, Copy, Debug)]
+#[derive(Clone, Copy)]
 pub enum Thing {
     Node(NodeId),
     Vrf(VrfId),
@@ -53,7 +53,7 @@ pub enum Thing {
 }
 
 /// A prefix of a site that is attached to a VPN: what the VPN's unicast routes tell.
-#[derive(Clone, Copy, Debug, PartialEq, Eq)]
+#[derive(Clone, Copy, PartialEq, Eq)]
 pub struct Route {
     pub prefix: Prefix,
     pub site: SiteId,
@@ -74,7 +74,7 @@ pub type Ifaces = Seq<Iface>;
 pub type IfaceList = Seq<IfaceId>;
 
 /// A provider's network and its customers. Things are numbered from 0 in order of declaration.
-#[derive(Debug, Drop)]
+#[derive(Drop)]
 pub struct Scenario {
     /// Ticks that a copy may spend on a link.
     pub life: u64,

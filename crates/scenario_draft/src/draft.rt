@@ -38,7 +38,7 @@ fn set(scenario: &mut Scenario, setting: Setting, value: u64)
 }
 
 /// The script so far, with the names that are declared.
-#[derive(Debug, Drop)]
+#[derive(Drop)]
 pub struct Draft {
     scenario: Scenario,
     given: Given,

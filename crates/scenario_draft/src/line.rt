@@ -4,7 +4,7 @@ use mv_base::{IfaceId, Link, NodeId, SiteId, VrfId};
 use scenario_defs::{Event, Iface, Node, Site, Vrf};
 
 /// What one line says. A thing that is declared has its number.
-#[derive(Debug, Drop)]
+#[derive(Drop)]
 pub enum Line {
     Blank,
     Setting { setting: Setting, value: u64 },

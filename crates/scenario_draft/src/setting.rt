@@ -3,7 +3,7 @@ ghost use Rattle.std.specs.Prelude.{◌≡◌};
 ghost use Rattle.scenario_draft.specs.Settings.{highest, none_given, is_given, with_given};
 
 /// What a line of a setting sets.
-#[derive(Clone, Copy, Debug)]
+#[derive(Clone, Copy)]
 pub enum Setting {
     Life,
     Delay,
@@ -25,7 +25,7 @@ impl Setting {
 }
 
 /// Which settings were given.
-#[derive(Clone, Copy, Debug)]
+#[derive(Clone, Copy)]
 pub struct Given {
     life: bool,
     delay: bool,

@@ -16,7 +16,7 @@ use scenario_draft::{Draft, Line, Setting};
 use std::alloc::Global;
 
 /// What the first word of a line begins.
-#[derive(Clone, Copy, Debug)]
+#[derive(Clone, Copy)]
 pub enum ScenarioWord {
     Edge,
     Core,

@@ -15,7 +15,7 @@ use std::alloc::Global;
 const VRF_LIMIT: usize = 256;
 
 /// The first words of a VRF.
-#[derive(Clone, Copy, Debug)]
+#[derive(Clone, Copy)]
 pub struct VrfHead {
     pub name: Name,
     pub edge: NodeId,
@@ -23,7 +23,7 @@ pub struct VrfHead {
 }
 
 /// The last words of a VRF.
-#[derive(Clone, Copy, Debug)]
+#[derive(Clone, Copy)]
 pub struct VrfTail {
     pub rd: Rd,
     pub targets: Targets,

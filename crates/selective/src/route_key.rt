@@ -11,7 +11,7 @@ use mv_base::{Addr, NodeId, Pattern, Rd};
 use std::cmp::Ordering;
 
 /// Where a route stands among those of its peer and pattern: by its route distinguisher, between the two ends.
-#[derive(Clone, Copy, Debug)]
+#[derive(Clone, Copy)]
 pub enum Place {
     First,
     Of(Rd),
@@ -20,7 +20,7 @@ pub enum Place {
 
 /// What tells a learned route from every other one. Routes are ordered by peer, the more specific pattern first, by
 /// pattern, and then by route distinguisher.
-#[derive(Clone, Copy, Debug)]
+#[derive(Clone, Copy)]
 pub struct RouteKey {
     pub peer: NodeId,
     pub pattern: Pattern,
@@ -28,7 +28,7 @@ pub struct RouteKey {
 }
 
 /// What is kept of a learned route.
-#[derive(Clone, Copy, Debug)]
+#[derive(Clone, Copy)]
 pub struct Learned {
     /// The tunnel.
     pub fec: Fec,

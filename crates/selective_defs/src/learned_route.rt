@@ -3,7 +3,7 @@ use mldp_fec::Fec;
 use mv_base::Pattern;
 
 /// A route of a root for a selective tunnel, as an egress learned it.
-#[derive(Clone, Copy, Debug, PartialEq, Eq)]
+#[derive(Clone, Copy, PartialEq, Eq)]
 pub struct LearnedRoute {
     pub pattern: Pattern,
     /// The tunnel.

@@ -2,7 +2,7 @@
 use mv_base::Pattern;
 
 /// A selection of a root: the flows that match the pattern are to go on a tunnel of their own.
-#[derive(Clone, Copy, Debug, PartialEq, Eq)]
+#[derive(Clone, Copy, PartialEq, Eq)]
 pub struct Selection {
     pub pattern: Pattern,
     /// What the number of its tunnel adds to that of the VRF's inclusive tunnel.

@@ -3,7 +3,7 @@ use mv_base::NodeId;
 use scenario_defs::Kind;
 
 /// One direction of a session between two nodes.
-#[derive(Clone, Copy, Debug, PartialEq, Eq)]
+#[derive(Clone, Copy, PartialEq, Eq)]
 pub struct Direction {
     pub kind: Kind,
     pub from: NodeId,

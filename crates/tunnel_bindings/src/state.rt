@@ -1,7 +1,7 @@
 //! What a label number is.
 
 /// What a label number is.
-#[derive(Clone, Copy, Debug, PartialEq, Eq)]
+#[derive(Clone, Copy, PartialEq, Eq)]
 pub enum LabelState {
     Free,
     Owned,
@@ -10,7 +10,7 @@ pub enum LabelState {
 }
 
 /// A number that rests, and the moment from which on it is free.
-#[derive(Clone, Copy, Debug, PartialEq, Eq)]
+#[derive(Clone, Copy, PartialEq, Eq)]
 pub(crate) struct Rest {
     pub(crate) number: u32,
     pub(crate) until: u64,

@@ -1,0 +1,98 @@
+-- What is known behind a run up to a line of zeros.
+use Rattle.std.proofs.Common.{◌≡◌, ◌<◌, ◌≤◌, ◌++◌, Bool, true, false, ◌&&◌, cond, List, [], length, slice_get, Some, None, sym, ap, subst}
+use Rattle.std.specs.FinSet as sets
+use Rattle.std.proofs.lemmas.Option.{same_Some, none-some, slice_get_within}
+use Rattle.mv_base.specs.declared.ids.NodeId.{NodeId}
+use Rattle.mv_base.specs.declared.ids.VrfId.{VrfId}
+use Rattle.mldp_fec.specs.declared.fec.Fec.{Fec}
+use Rattle.scenario_defs.proofs.RuleLemmas.{vrf_rules_at}
+use Rattle.scenario_defs.specs.Rules.{Rules}
+use Rattle.scenario_defs.specs.declared.event.Script.{Script}
+use Rattle.scenario_defs.specs.declared.event.Timed.{Timed}
+use Rattle.scenario_defs.specs.declared.scenario.Scenario.{Scenario}
+use Rattle.scenario_defs.specs.declared.scenario.Vrf.{Vrf}
+use Rattle.session_defs.specs.declared.direction.Direction.{Direction}
+use Rattle.edge_defs.specs.Datagrams.{is_from_site}
+use Rattle.edge_defs.specs.Place.{Core, IsCoreOf, OwnVrf, addr_of}
+use Rattle.edge_defs.specs.Tunnels.{is_joined_in, transmit_tunnel}
+use Rattle.edge_defs.specs.Upstream.{upstream_for}
+use Rattle.world_defs.specs.Nodes.{NodeState, Edge, CoreNode, place_of, part_of}
+use Rattle.world_defs.specs.Run.{Traced}
+use Rattle.world_defs.specs.World.{World, Datagram, scenario_of}
+use Rattle.world_laws.specs.Sound.{IsBare, HasOctets}
+use Rattle.rule_laws.proofs.Acts.{InStep}
+use Rattle.rule_laws.proofs.Start.{run_in_step}
+use Rattle.delivery_laws.specs.Calm.{CalmTree}
+use Rattle.delivery_laws.specs.Choice.{sends_on}
+use Rattle.delivery_laws.specs.Flood.{OnLinks}
+use Rattle.delivery_laws.specs.Labels.{CalmLabels}
+use Rattle.delivery_laws.proofs.Labels.{calm_tree}
+use Rattle.delivery_laws.proofs.OnceLemmas.{copies_sound}
+use Rattle.once_laws.specs.Facts.{NodeFact, NodesFact}
+use Rattle.once_laws.specs.Run.{CalmRun}
+use Rattle.once_laws.specs.Zeros.{Zeros}
+use Rattle.once_laws.proofs.CalmLabels.{calm_labels}
+use Rattle.once_laws.proofs.Facts.{run_facts}
+use Rattle.once_laws.proofs.Rests.{Rests}
+use Rattle.once_laws.proofs.Zeros.{zeros_of}
+
+-- all that is kept, at a line of zeros
+pub record Known (scenario : Scenario) (core : Core) (world : World) : Type 0 where
+  pub rules : Rules (scenario_of world)
+  pub octets : HasOctets (scenario_of world)
+  pub is_core : IsCoreOf (scenario_of world) world.network.state.core
+  pub step : InStep scenario world
+  pub facts : NodesFact scenario core world.network.state
+  pub rests : (over : Direction) → Rests over.kind (world.network.stream over)
+  pub links : OnLinks world.network
+  pub zeros : Zeros world
+
+pub known_of : (core : Core) (script : Script) (events : List Timed) (trace : List Traced) (world : World) → CalmRun core script events trace world → Known script.scenario core world
+known_of core script events trace world c =
+    let f = run_facts script.scenario core events trace world c.run.quiet c.run.sound.run in
+    record {
+      rules = subst Rules (sym f.0.same) c.run.sound.scenario.rules;
+      octets = subst HasOctets (sym f.0.same) c.run.sound.scenario.octets;
+      is_core = subst (λ (x : Core). IsCoreOf (scenario_of world) x) (sym f.0.same_core) (subst (λ (s : Scenario). IsCoreOf s core) (sym f.0.same) c.run.sound.of_scenario);
+      step = run_in_step script.scenario core events trace world c.run.sound.scenario c.run.sound.sound_events c.run.sound.run;
+      facts = f.0;
+      rests = f.1;
+      links = (copies_sound core script events trace world c.run.sound.scenario.rules c.run.sound.run).0;
+      zeros = zeros_of world c.zeros;
+    }
+
+leafless : (scenario : Scenario) (core : Core) (world : World) → Known scenario core world → (n : NodeId) → length (scenario_of world).nodes ≤ n.0 → (fec : Fec) → sets.contains (part_of (world.network.state.node n)).leaves fec ≡ false
+leafless scenario core world k n out fec =
+    by (world.network.state.node n) (k.step.2.base.sound.outside n (subst (λ (s : Scenario). length s.nodes ≤ n.0) k.facts.same out)) (k.facts.node n)
+  where
+    by : (state : NodeState) → IsBare state → NodeFact (place_of world.network.state n) world.network.state.clock state → sets.contains (part_of state).leaves fec ≡ false
+    by (Edge edge) bare fact = absurd bare
+    by (CoreNode part) bare fact = fact fec
+
+-- the labels of a tree of a node are calm
+pub labels_calm : (scenario : Scenario) (core : Core) (world : World) → Known scenario core world → (root : NodeId) → root.0 < length (scenario_of world).nodes → (fec : Fec) → fec.root ≡ addr_of (scenario_of world) root → CalmLabels world.network fec root
+labels_calm scenario core world k root within fec rooted =
+    calm_labels world k.rules k.is_core (world.datagrams ++ []) k.step.0 k.step.1 (k.step.2.kept []) k.rests k.links k.zeros (leafless scenario core world k) root within fec rooted
+
+-- a tunnel on which a datagram goes is a tree
+sent_root : (world : World) (datagram : Datagram) (own : OwnVrf) (state : NodeState) (fec : Fec) → sends_on world.network datagram own state ≡ Some fec → fec.root ≡ addr_of (scenario_of world) own.vrf.edge
+sent_root world datagram own (CoreNode part) fec e = absurd (none-some fec e)
+sent_root world datagram own (Edge edge) fec e =
+    by (is_from_site datagram.site (upstream_for (place_of world.network.state own.vrf.edge) edge.control own datagram.source) && is_joined_in (place_of world.network.state own.vrf.edge) edge.control own datagram.source datagram.group) e
+  where
+    tunnel : Fec
+    tunnel = transmit_tunnel (place_of world.network.state own.vrf.edge) edge.control own datagram.source datagram.group
+
+    by : (b : Bool) → cond b (Some (transmit_tunnel (place_of world.network.state own.vrf.edge) edge.control own datagram.source datagram.group)) None ≡ Some fec → fec.root ≡ addr_of (scenario_of world) own.vrf.edge
+    by true h = ap (λ (f : Fec). f.root) (sym (same_Some (transmit_tunnel (place_of world.network.state own.vrf.edge) edge.control own datagram.source datagram.group) fec h))
+    by false h = absurd (none-some fec h)
+
+pub vrf_within : (scenario : Scenario) → Rules scenario → (id : VrfId) (vrf : Vrf) → slice_get scenario.vrfs id.0 ≡ Some vrf → vrf.edge.0 < length scenario.nodes
+vrf_within scenario rules id vrf known = (let edge = (vrf_rules_at scenario rules id.0 vrf known).edge in slice_get_within scenario.nodes vrf.edge.0 edge.node edge.at)
+
+pub trees_calm : (core : Core) (script : Script) (events : List Timed) (trace : List Traced) (world : World) → CalmRun core script events trace world → (datagram : Datagram) (id : VrfId) (vrf : Vrf) (fec : Fec)
+    → slice_get (scenario_of world).vrfs id.0 ≡ Some vrf → sends_on world.network datagram (record { id = id; vrf = vrf }) (world.network.state.node vrf.edge) ≡ Some fec → CalmTree world.network fec vrf.edge
+trees_calm core script events trace world c datagram id vrf fec known sends =
+    let k = known_of core script events trace world c in
+    calm_tree world.network fec vrf.edge
+    (labels_calm script.scenario core world k vrf.edge (vrf_within (scenario_of world) k.rules id vrf known) fec (sent_root world datagram (record { id = id; vrf = vrf }) (world.network.state.node vrf.edge) fec sends))

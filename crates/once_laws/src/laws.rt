@@ -1,0 +1,73 @@
+//! Laws of a network of which `state` tells of zeros alone, and of the datagrams that are sent then.
+ghost use Rattle.std.specs.Prelude.{◌≡◌, ◌<◌, List, length, Some, slice_get};
+ghost use Rattle.mv_base.specs.declared.ids.NodeId.{NodeId};
+ghost use Rattle.mv_base.specs.declared.ids.VrfId.{VrfId};
+ghost use Rattle.mldp_fec.specs.declared.fec.Fec.{Fec};
+ghost use Rattle.scenario_defs.specs.Rules.{Rules, Rises};
+ghost use Rattle.scenario_defs.specs.declared.event.Script.{Script};
+ghost use Rattle.scenario_defs.specs.declared.event.Timed.{Timed};
+ghost use Rattle.scenario_defs.specs.declared.report.ReportLine.TheVariants as lines;
+ghost use Rattle.scenario_defs.specs.declared.scenario.Vrf.{Vrf};
+ghost use Rattle.edge_defs.specs.Place.{Core, addr_of};
+ghost use Rattle.world_defs.specs.Counts.{state_line};
+ghost use Rattle.world_defs.specs.Run.{Traced, Run, report_of};
+ghost use Rattle.world_defs.specs.World.{World, Datagram, scenario_of};
+ghost use Rattle.delivery_laws.specs.Calm.{CalmTree};
+ghost use Rattle.delivery_laws.specs.Choice.{CalmChoice, sends_on};
+ghost use Rattle.delivery_laws.specs.Labels.{CalmLabels};
+ghost use Rattle.delivery_laws.specs.Once.{Once, past_of, receives_datagram};
+ghost use Rattle.once_laws.specs.Run.{QuietRun, CalmRun};
+ghost use Rattle.once_laws.specs.Told.{AsksAreTold, EntriesAreTold};
+ghost use Rattle.once_laws.specs.Zeros.{Zeros};
+
+/// Where `state` tells of zeros alone, no octet is in transit, no timer is due, and each session is ready.
+pub fn zeros_are_calm()
+    ensures { (world : World) → state_line world ≡ lines.State 0 0 0 0 0 → Zeros world }
+{}
+
+/// Behind a run of a sound scenario, by its core and by sound events of which none is `active`, and where `state` tells of zeros alone:
+/// the labels of each tree that has a node of the scenario as its root are calm.
+pub fn labels_are_calm()
+    ensures { (core : Core) (script : Script) (events : List Timed) (trace : List Traced) (world : World) →
+        CalmRun core script events trace world → (root : NodeId) → root.0 < length (scenario_of world).nodes →
+        (fec : Fec) → fec.root ≡ addr_of (scenario_of world) root → CalmLabels world.network fec root }
+{}
+
+/// There each tunnel on which a datagram goes, as it enters at a VRF, is a tree.
+pub fn tunnels_are_trees()
+    ensures { (core : Core) (script : Script) (events : List Timed) (trace : List Traced) (world : World) →
+        CalmRun core script events trace world → (datagram : Datagram) (id : VrfId) (vrf : Vrf) (fec : Fec) →
+        slice_get (scenario_of world).vrfs id.0 ≡ Some vrf →
+        sends_on world.network datagram (record { id = id; vrf = vrf }) (world.network.state.node vrf.edge) ≡ Some fec →
+        CalmTree world.network fec vrf.edge }
+{}
+
+/// Behind every run the entries of interfaces that count are those that the events tell.
+pub fn entries_are_told()
+    ensures { (core : Core) (script : Script) (events : List Timed) (trace : List Traced) (world : World) →
+        Rules script.scenario → Rises 0 events → Run core script events trace world →
+        EntriesAreTold (past_of script.scenario events trace) world }
+{}
+
+/// Behind every run an interface asks for a flow by its events exactly where its edge has a join of it that has not ended. Sources that
+/// are noted are not counted yet.
+pub fn asks_are_told()
+    ensures { (core : Core) (script : Script) (events : List Timed) (trace : List Traced) (world : World) →
+        Rules script.scenario → Rises 0 events → Run core script events trace world →
+        AsksAreTold (past_of script.scenario events trace) world }
+{}
+
+/// Behind a run as that of `labels_are_calm` each receiver of a datagram is served by one of the VRFs at which it enters, each other
+/// interface by none, and the tunnels are trees.
+pub fn choices_are_calm()
+    ensures { (core : Core) (script : Script) (events : List Timed) (trace : List Traced) (world : World) →
+        CalmRun core script events trace world → (datagram : Datagram) →
+        CalmChoice world.network (receives_datagram (past_of script.scenario events trace) datagram) datagram }
+{}
+
+/// In every run of a sound scenario, by its core and by sound events of which none is `active`: each datagram that is accepted in a
+/// window leaves once at each interface that receives it, and nowhere else, over the whole report.
+pub fn runs_deliver_once()
+    ensures { (core : Core) (script : Script) (events : List Timed) (trace : List Traced) (new : World) →
+        QuietRun core script events trace new → Once script.scenario events (report_of trace) }
+{}

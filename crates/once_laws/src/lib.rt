@@ -1,0 +1,9 @@
+//! Laws of the whole network: what holds at a line of zeros, and that each datagram sent then is delivered once.
+#![tactic(auto)]
+
+mod laws;
+
+pub use laws::{
+    asks_are_told, choices_are_calm, entries_are_told, labels_are_calm, runs_deliver_once,
+    tunnels_are_trees, zeros_are_calm,
+};

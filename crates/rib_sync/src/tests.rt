@@ -14,9 +14,9 @@ fn in_step(rt: HostRuntime) -> Result<(), Fail> {
     outbox.set(3, 30).ok().ok_or("memory")?;
     outbox.unset(&7).ok().ok_or("memory")?;
     let mut pending = outbox.flush();
-    assert!(rt; pending.next() == Some(Change::Unreach(7)));
-    assert!(rt; pending.next() == Some(Change::Reach(3, 30)));
-    assert!(rt; pending.next() == None);
+    assert_eq!(rt; pending.next(), Some(Change::Unreach(7)));
+    assert_eq!(rt; pending.next(), Some(Change::Reach(3, 30)));
+    assert_eq!(rt; pending.next(), None);
     outbox.down();
     assert_eq!(rt; outbox.is_up(), false);
     assert_eq!(rt; outbox.get(&3), Some(&30));

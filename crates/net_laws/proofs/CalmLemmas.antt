@@ -104,7 +104,7 @@ one_of [] others h x y p q = absurd (false≢true p)
 one_of (id ∷ []) others h x y p q = sym (one_number id x p) ∙ one_number id y q
 one_of (a ∷ b ∷ more) others h x y p q =
     let later = (map (bgp_session a) more ++ bgp_sessions (b ∷ more)) ++ others in
-    let many : 0 ≡ 1 + length later = h in
+    let many : 0 ≡ suc (length later) = h in
     absurd (omega (arith, many))
 
 -- Where no session is unready, there is at most one edge.

@@ -4,6 +4,7 @@ use Rattle.std.specs.List.{AllByRecursion}
 use Rattle.mv_base.specs.Number.{number_of}
 use Rattle.scenario_defs.specs.declared.event.JoinEntry.{JoinEntry}
 use Rattle.scenario_defs.specs.Rules.{IsUnicast, IsGroup, IsEntry, IsEventOf}
+use Rattle.scenario_defs.specs.Built.{IsBuilt}
 use Rattle.line_words.specs.declared.fault.Reason.TheVariants as reasons
 use Rattle.line_words.specs.declared.words.Row.{Row}
 use Rattle.line_words.specs.Words.{Placed}
@@ -21,7 +22,7 @@ use Rattle.scenario_draft.proofs.WordFacts.{Meets, Finds, ok_meets, err_meets, b
 
 -- What a line of an event keeps to.
 abbrev pub IsTold : Drafted → Line → Type 0
-IsTold draft (says.Event event) = IsEventOf draft.scenario event
+IsTold draft (says.Event event) = IsEventOf draft.scenario event × IsBuilt event
 IsTold draft other = ⊥
 
 ticks_find : (text : List ℕ) → Finds (λ count. (1 ≤ count) × (count ≤ 1000000)) (ticks_of text)
@@ -30,7 +31,7 @@ ticks_find text = bind_finds _ (number_of text) _ (λ number _. only_finds _ (na
 
 tick_words_meets : (draft : Drafted) (row : Row) (a : Placed) → Meets (IsTold draft) (tick_words row a)
 unfolding tick_words
-tick_words_meets draft row a = bind_meets _ (or_fault (ticks_of a.text) row a reasons.Number) _ (λ count c. let bounds : (1 ≤ count) × (count ≤ 1000000) = (or_fault_meets _ (ticks_of a.text) row a reasons.Number (ticks_find a.text)).holds count c in ok_meets _ _ bounds)
+tick_words_meets draft row a = bind_meets _ (or_fault (ticks_of a.text) row a reasons.Number) _ (λ count c. let bounds : (1 ≤ count) × (count ≤ 1000000) = (or_fault_meets _ (ticks_of a.text) row a reasons.Number (ticks_find a.text)).holds count c in ok_meets _ _ (bounds, tt))
 
 tick_line_meets : (draft : Drafted) (row : Row) (words : List Placed) → Meets (IsTold draft) (tick_line row words)
 unfolding tick_line
@@ -40,7 +41,7 @@ tick_line_meets draft row (a ∷ b ∷ more) = err_meets _ _
 
 timers_words_meets : (draft : Drafted) (row : Row) (a : Placed) → Meets (IsTold draft) (timers_words draft row a)
 unfolding timers_words
-timers_words_meets draft row a = bind_meets _ (node_at draft row a) _ (λ node n. ok_meets _ _ ((node_meets draft row a).holds node n))
+timers_words_meets draft row a = bind_meets _ (node_at draft row a) _ (λ node n. ok_meets _ _ ((node_meets draft row a).holds node n, tt))
 
 timers_line_meets : (draft : Drafted) (row : Row) (words : List Placed) → Meets (IsTold draft) (timers_line draft row words)
 unfolding timers_line
@@ -95,16 +96,16 @@ iface_entry_meets draft row (a ∷ b ∷ c ∷ d ∷ e ∷ more) = err_meets _ _
 
 join_line_meets : (draft : Drafted) (row : Row) (words : List Placed) → Meets (IsTold draft) (join_line draft row words)
 unfolding join_line
-join_line_meets draft row words = bind_meets _ (iface_entry draft row words) _ (λ named n. ok_meets _ _ ((iface_entry_meets draft row words).holds named n))
+join_line_meets draft row words = bind_meets _ (iface_entry draft row words) _ (λ named n. ok_meets _ _ ((iface_entry_meets draft row words).holds named n, tt))
 
 prune_line_meets : (draft : Drafted) (row : Row) (words : List Placed) → Meets (IsTold draft) (prune_line draft row words)
 unfolding prune_line
-prune_line_meets draft row words = bind_meets _ (iface_entry draft row words) _ (λ named n. ok_meets _ _ ((iface_entry_meets draft row words).holds named n))
+prune_line_meets draft row words = bind_meets _ (iface_entry draft row words) _ (λ named n. ok_meets _ _ ((iface_entry_meets draft row words).holds named n, tt))
 
 pim_words_meets : (draft : Drafted) (row : Row) (a b : Placed) → length b.text ≤ 4096 → Meets (IsTold draft) (pim_words draft row a b)
 unfolding pim_words
 pim_words_meets draft row a b short =
-    bind_meets _ (iface_at draft row a) _ (λ iface i. bind_meets _ (payload_at row b) _ (λ bytes p. let facts : (iface.0 < length draft.scenario.ifaces) × (length bytes ≤ 2048) = ((iface_meets draft row a).holds iface i, (payload_meets row b short).holds bytes p) in ok_meets _ _ facts))
+    bind_meets _ (iface_at draft row a) _ (λ iface i. bind_meets _ (payload_at row b) _ (λ bytes p. let facts : (iface.0 < length draft.scenario.ifaces) × (length bytes ≤ 2048) = ((iface_meets draft row a).holds iface i, (payload_meets row b short).holds bytes p) in ok_meets _ _ (facts, tt)))
 
 pim_line_meets : (draft : Drafted) (row : Row) (words : List Placed) → AllByRecursion (λ w. length w.text ≤ 4096) words → Meets (IsTold draft) (pim_line draft row words)
 unfolding pim_line
@@ -121,7 +122,7 @@ send_head_meets draft row a b c =
 send_words_meets : (draft : Drafted) (row : Row) (a b c d : Placed) → length d.text ≤ 4096 → Meets (IsTold draft) (send_words draft row a b c d)
 unfolding send_words
 send_words_meets draft row a b c d short =
-    bind_meets _ (send_head draft row a b c) _ (λ head h. bind_meets _ (payload_at row d) _ (λ payload p. let facts = (send_head_meets draft row a b c).holds head h in let all : (head.site.0 < length draft.scenario.sites) × IsUnicast head.source × IsGroup head.group × (length payload ≤ 2048) = (facts.0, facts.1, facts.2, (payload_meets row d short).holds payload p) in ok_meets _ _ all))
+    bind_meets _ (send_head draft row a b c) _ (λ head h. bind_meets _ (payload_at row d) _ (λ payload p. let facts = (send_head_meets draft row a b c).holds head h in let all : (head.site.0 < length draft.scenario.sites) × IsUnicast head.source × IsGroup head.group × (length payload ≤ 2048) = (facts.0, facts.1, facts.2, (payload_meets row d short).holds payload p) in ok_meets _ _ (all, tt)))
 
 send_line_meets : (draft : Drafted) (row : Row) (words : List Placed) → AllByRecursion (λ w. length w.text ≤ 4096) words → Meets (IsTold draft) (send_line draft row words)
 unfolding send_line
@@ -145,8 +146,8 @@ event_words_meets draft row event_kinds.Join rest h = join_line_meets draft row 
 event_words_meets draft row event_kinds.Prune rest h = prune_line_meets draft row rest
 event_words_meets draft row event_kinds.Pim rest h = pim_line_meets draft row rest h
 event_words_meets draft row event_kinds.Send rest h = send_line_meets draft row rest h
-event_words_meets draft row event_kinds.Drain rest h = bare_line_meets (IsTold draft) row _ rest tt
-event_words_meets draft row event_kinds.State rest h = bare_line_meets (IsTold draft) row _ rest tt
+event_words_meets draft row event_kinds.Drain rest h = bare_line_meets (IsTold draft) row _ rest (tt, tt)
+event_words_meets draft row event_kinds.State rest h = bare_line_meets (IsTold draft) row _ rest (tt, tt)
 
 -- What a line of an event keeps to, with their number.
 abbrev pub IsToldBelow : Drafted → Line → Type 0

@@ -1,6 +1,10 @@
 pub mod Messages
 pub mod Past
 pub mod Packet
+pub mod Packets
 pub mod Report
 pub mod Safe
 pub mod Once
+pub mod Sessions
+pub mod Unready
+pub mod OneSession

@@ -9,7 +9,7 @@ use Rattle.scenario_defs.specs.declared.event.Event.{Event}
 use Rattle.scenario_defs.specs.declared.event.Event.TheVariants as event
 use Rattle.scenario_defs.specs.declared.report.ReportLine.TheVariants as lines
 use Rattle.mvpn_model.specs.Past.{Past, is_accepted, receivers}
-use Rattle.mvpn_model.specs.Report.{Entry, Datagram, datagrams, refused_lines, outs_at}
+use Rattle.mvpn_model.specs.Report.{Entry, Datagram, datagrams, outs_at}
 
 -- The event at that place is `state`, and its line tells these numbers.
 pub record TellsState (events : List Timed) (report : List Entry) (place bytes copies buffers due unready : ℕ) : Type 0 where
@@ -39,25 +39,31 @@ IsOfWindow event.Drain = Unit {0}
 IsOfWindow event.State = Unit {0}
 IsOfWindow other = ⊥
 
--- A window: the events behind a calm `state` up to a `drain` or a `state` without copies, all accepted ones of which
--- send, land, drain or ask for the state.
-pub record IsWindow (events : List Timed) (report : List Entry) (first last : ℕ) : Type 0 where
+-- A window: the events behind a calm `state` up to a `drain` or a `state` without copies, all of which send, land, drain
+-- or ask for the state, but for those of the refused lines.
+pub record IsWindow (events : List Timed) (refused : List ℕ) (report : List Entry) (first last : ℕ) : Type 0 where
   pub calm : ℕ
   pub opens : first ≡ calm + 1
   pub is_calm : IsCalm events report calm
   pub closes : EndsWindow events report last
-  pub within : (place : ℕ) (timed : Timed) → first ≤ place → place ≤ last → slice_get events place ≡ Some timed → is_accepted (refused_lines report) timed ≡ true → IsOfWindow timed.event
+  pub within : (place : ℕ) (timed : Timed) → first ≤ place → place ≤ last → slice_get events place ≡ Some timed →
+      is_accepted refused timed ≡ true → IsOfWindow timed.event
 
 -- what happened before the event of that number
-abbrev pub past_at : Scenario → List Timed → List Entry → ℕ → Past
-past_at scenario events report number = record { scenario = scenario; events = take number events; refused = refused_lines report }
+abbrev pub past_at : Scenario → List Timed → List ℕ → ℕ → Past
+past_at scenario events refused number = record { scenario = scenario; events = take number events; refused = refused }
 
 -- The datagram left exactly once at each of its receivers, and nowhere else.
-abbrev pub IsDeliveredOnce : Scenario → List Timed → List Entry → ℕ → Datagram → Type 0
-IsDeliveredOnce scenario events report number datagram =
-    (iface : IfaceId) → outs_at report number iface ≡ (if list_any (λ receiver. receiver.0 == iface.0) (receivers (past_at scenario events report datagram.event) datagram.site datagram.source datagram.group) then 1 else 0)
+abbrev pub IsDeliveredOnce : Scenario → List Timed → List ℕ → List Entry → ℕ → Datagram → Type 0
+IsDeliveredOnce scenario events refused report number datagram =
+    let past = past_at scenario events refused datagram.event in
+    (iface : IfaceId) → outs_at report number iface ≡
+    (if list_any (λ receiver. receiver.0 == iface.0) (receivers past datagram.site datagram.source datagram.group) then 1 else 0)
 
 -- Each datagram that was accepted in a window was delivered once, over the whole report.
-abbrev pub Once : Scenario → List Timed → List Entry → Type 0
-Once scenario events report =
-    (first last : ℕ) → IsWindow events report first last → (place : ℕ) (datagram : Datagram) → slice_get (datagrams (refused_lines report) 0 events) place ≡ Some datagram → first ≤ datagram.event → datagram.event ≤ last → IsDeliveredOnce scenario events report (place + 1) datagram
+abbrev pub Once : Scenario → List Timed → List ℕ → List Entry → Type 0
+Once scenario events refused report =
+    (first last : ℕ) → IsWindow events refused report first last →
+    (place : ℕ) (datagram : Datagram) → slice_get (datagrams refused 0 events) place ≡ Some datagram →
+    first ≤ datagram.event → datagram.event ≤ last →
+    IsDeliveredOnce scenario events refused report (place + 1) datagram

@@ -13,6 +13,7 @@ use Rattle.scenario_defs.specs.declared.report.ReportLine.TheVariants as lines
 use Rattle.scenario_defs.specs.Text.{line_text}
 use Rattle.mvpn_model.specs.Past.{is_accepted}
 use Rattle.mvpn_model.specs.Packet.{packet}
+use Rattle.mvpn_model.specs.Packets.{source_in, group_in}
 
 -- one act: the number of its event in the script, counted from 0, and its lines, which may be none
 pub record Entry : Type 0 where
@@ -44,9 +45,12 @@ pub record Datagram : Type 0 where
   pub group : Addr
   pub octets : List ℕ
 
--- the datagram that an event sends
+-- The datagram that an event sends: the packet of a `send`, or the octets of a `packet`, which tell their own flow.
 abbrev pub sent_by : ℕ → Event → List Datagram
-sent_by number (events.Send site source group payload) = record { event = number; site = site; source = source; group = group; octets = packet source group payload } ∷ []
+sent_by number (events.Send site source group payload) =
+    record { event = number; site = site; source = source; group = group; octets = packet source group payload } ∷ []
+sent_by number (events.Packet site octets) =
+    record { event = number; site = site; source = source_in octets; group = group_in octets; octets = octets } ∷ []
 sent_by number other = []
 
 -- The datagrams of the accepted ones of the events, which are numbered from that number on. A datagram's number in a

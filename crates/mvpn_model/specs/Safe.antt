@@ -9,7 +9,7 @@ use Rattle.scenario_defs.specs.declared.event.Timed.{Timed}
 use Rattle.scenario_defs.specs.declared.report.ReportLine.{ReportLine}
 use Rattle.scenario_defs.specs.declared.report.ReportLine.TheVariants as lines
 use Rattle.scenario_defs.specs.Vpn.{admits, is_of_site}
-use Rattle.mvpn_model.specs.Report.{Entry, Datagram, datagrams, refused_lines}
+use Rattle.mvpn_model.specs.Report.{Entry, Datagram, datagrams}
 
 -- The interface is one of the scenario, the site has an interface, and the interface's VRF admits the VRF of each
 -- interface of the site.
@@ -17,7 +17,8 @@ pub record IsAdmitted (scenario : Scenario) (iface : IfaceId) (site : SiteId) : 
   pub own : Iface
   pub known : slice_get scenario.ifaces iface.0 ≡ Some own
   pub attached : list_any (is_of_site site) scenario.ifaces ≡ true
-  pub admitted : (i : ℕ) (other : Iface) → slice_get scenario.ifaces i ≡ Some other → is_of_site site other ≡ true → admits scenario own.vrf other.vrf ≡ true
+  pub admitted : (i : ℕ) (other : Iface) → slice_get scenario.ifaces i ≡ Some other → is_of_site site other ≡ true →
+      admits scenario own.vrf other.vrf ≡ true
 
 -- The datagram of that number was accepted among the events, has these octets, and may leave at the interface.
 pub record IsSafeOut (scenario : Scenario) (events : List Timed) (refused : List ℕ) (number : ℕ) (iface : IfaceId) (octets : List ℕ) : Type 0 where
@@ -36,6 +37,6 @@ abbrev pub IsSafeEntry : Scenario → List Timed → List ℕ → Entry → Type
 IsSafeEntry scenario events refused entry = AllByRecursion (IsSafeLine scenario (take (entry.event + 1) events) refused) entry.lines
 
 -- Each `out` line names a datagram that an earlier event sent, carries its octets, and names an interface whose VRF
--- admits the sender's.
-abbrev pub Safe : Scenario → List Timed → List Entry → Type 0
-Safe scenario events report = AllByRecursion (IsSafeEntry scenario events (refused_lines report)) report
+-- admits the sender's. The events of the refused lines sent none.
+abbrev pub Safe : Scenario → List Timed → List ℕ → List Entry → Type 0
+Safe scenario events refused report = AllByRecursion (IsSafeEntry scenario events refused) report

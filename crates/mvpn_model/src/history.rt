@@ -1,20 +1,18 @@
 //! Histories of events, and what they mean.
 ghost use Rattle.std.specs.Prelude.{◌≡◌, ◌<◌, ◌≤◌, ◌^◌, length, IfOk, IfSome, IfNone};
-ghost use Rattle.scenario_defs.specs.Rules.{Rules, ScriptRules};
+ghost use Rattle.scenario_defs.specs.Rules.{Rules};
 ghost use Rattle.scenario_defs.specs.Home.{home, routes, IsLongest, IsUncovered};
 ghost use Rattle.scenario_defs.specs.Vpn.{ifaces_where};
-ghost use Rattle.mvpn_model.specs.Past.{past_of, standing, asks, receives, receivers, is_home};
+ghost use Rattle.mvpn_model.specs.Past.{past_of, ticks_in, standing, asks, receives, receivers, is_home};
 
+use crate::active::is_active_at;
 use crate::routing::longest_route;
 use crate::standing::{Followed, Standing, stand_behind};
 use crate::vpn::vrf_of_site;
 use mv_base::{Addr, IfaceId, NoMemory, Seq, SiteId, VrfId};
 use pim_defs::asks_by;
-use scenario_defs::{Iface, IfaceList, JoinEntry, Scenario, Script, same_vpn};
+use scenario_defs::{Iface, IfaceList, JoinEntry, Scenario, Script, Timed, same_vpn};
 use std::alloc::Global;
-
-/// Whether a source is known to send: no line notes that yet.
-const ACTIVE: bool = false;
 
 /// Numbers of lines.
 pub type LineNumbers = Seq<u32>;
@@ -26,6 +24,14 @@ pub struct History<'a> {
     /// How many events there were so far.
     pub upto: u32,
     pub refused: &'a LineNumbers,
+}
+
+/// The events of the history.
+pub(crate) fn events_of<'a>(history: &History<'a>) -> &'a [Timed]
+    requires { history.now.upto ≤ length history.now.script.now.events }
+    ensures { result.now ≡ (past_of history.now).events }
+{
+    &history.script.events.as_slice()[..history.upto as usize]
 }
 
 /// The site that is home of the source in the VRF's VPN: that of the longest prefix that covers it, of the prefixes of
@@ -53,18 +59,17 @@ fn stands(
     iface: IfaceId,
     entry: JoinEntry,
 ) -> Result<Standing, NoMemory>
-    requires rules { ScriptRules history.now.script.now }
     requires upto { history.now.upto ≤ length history.now.script.now.events }
+    requires clock { ticks_in (past_of history.now).events < 2 ^ 63 }
     ensures { IfOk result (λ found. found ≡ standing (past_of history.now) iface entry) }
 {
-    let events = &history.script.events.as_slice()[..history.upto as usize];
     let followed = Followed {
         scenario: &history.script.scenario,
         refused: history.refused.as_slice(),
         iface,
         entry,
     };
-    stand_behind(alloc, &followed, events)
+    stand_behind(alloc, &followed, events_of(history))
 }
 
 /// Whether the interface asks for (S,G) (RFC 7761 section 4.1.5).
@@ -75,8 +80,9 @@ pub fn asks(
     source: Addr,
     group: Addr,
 ) -> Result<bool, NoMemory>
-    requires rules { ScriptRules history.now.script.now }
+    requires rules { Rules history.now.script.now.scenario }
     requires upto { history.now.upto ≤ length history.now.script.now.events }
+    requires clock { ticks_in (past_of history.now).events < 2 ^ 63 }
     ensures { IfOk result (λ answer. answer ≡ asks (past_of history.now) iface source group) }
 {
     let joined = stands(alloc, history, iface, JoinEntry::Source { source, group })?;
@@ -84,7 +90,7 @@ pub fn asks(
     let pruned = stands(alloc, history, iface, JoinEntry::Rpt { source, group })?;
     Ok(asks_by(
         joined.clock,
-        ACTIVE,
+        is_active_at(history, iface, source, group),
         joined.expiry,
         shared.expiry,
         pruned.expiry,
@@ -113,8 +119,9 @@ fn receives(
     number: IfaceId,
     iface: &Iface,
 ) -> Result<bool, NoMemory>
-    requires rules { ScriptRules history.now.script.now }
+    requires rules { Rules history.now.script.now.scenario }
     requires upto { history.now.upto ≤ length history.now.script.now.events }
+    requires clock { ticks_in (past_of history.now).events < 2 ^ 63 }
     ensures { IfOk result (λ answer. answer ≡ receives (past_of history.now) vrf site source group number iface.now) }
 {
     let elsewhere = same_vpn(&history.script.scenario, vrf, iface.vrf) && iface.site.0 != site.0;
@@ -133,8 +140,9 @@ pub fn receivers(
     source: Addr,
     group: Addr,
 ) -> Result<IfaceList, NoMemory>
-    requires rules { ScriptRules history.now.script.now }
+    requires rules { Rules history.now.script.now.scenario }
     requires upto { history.now.upto ≤ length history.now.script.now.events }
+    requires clock { ticks_in (past_of history.now).events < 2 ^ 63 }
     ensures { IfOk result (λ ifaces. ifaces ≡ receivers (past_of history.now) site source group) }
 {
     match vrf_of_site(&history.script.scenario, site) {
@@ -154,9 +162,11 @@ fn receiving(
     source: Addr,
     group: Addr,
 ) -> Result<IfaceList, NoMemory>
-    requires rules { ScriptRules history.now.script.now }
+    requires rules { Rules history.now.script.now.scenario }
     requires upto { history.now.upto ≤ length history.now.script.now.events }
-    ensures { IfOk result (λ ifaces. ifaces ≡ ifaces_where (receives (past_of history.now) vrf site source group) 0 history.now.script.now.scenario.ifaces) }
+    requires clock { ticks_in (past_of history.now).events < 2 ^ 63 }
+    ensures { IfOk result (λ ifaces. ifaces ≡ ifaces_where (receives (past_of history.now) vrf site source group) 0
+        history.now.script.now.scenario.ifaces) }
 {
     let mut found = Seq::new(alloc);
     let ifaces = history.script.scenario.ifaces.as_slice();

@@ -23,14 +23,14 @@ fn has_line(lines: &[u32], line: u32) -> bool
 }
 
 /// Whether the event's line is none of the refused ones.
-fn is_accepted(refused: &[u32], timed: &Timed) -> bool
+pub(crate) fn is_accepted(refused: &[u32], timed: &Timed) -> bool
     ensures { result ≡ is_accepted refused.now timed.now }
 {
     !has_line(refused, timed.line)
 }
 
 /// The ticks by which an event moves the clock.
-fn ticks_of(event: &Event) -> u64
+pub(crate) fn ticks_of(event: &Event) -> u64
     ensures { result ≡ ticks_of event.now }
 {
     match event {
@@ -40,7 +40,7 @@ fn ticks_of(event: &Event) -> u64
 }
 
 /// Whether the interface is one of the edge.
-fn is_of_edge(scenario: &Scenario, node: NodeId, iface: IfaceId) -> bool
+pub(crate) fn is_of_edge(scenario: &Scenario, node: NodeId, iface: IfaceId) -> bool
     ensures { result ≡ is_of_edge scenario.now node iface }
 {
     match edge_of(scenario, iface) {
@@ -86,13 +86,15 @@ fn expiry_by(
     old: Option<Expiry>,
 ) -> Result<Option<Expiry>, NoMemory>
     requires { clock < 2 ^ 63 }
-    ensures { IfOk result (λ expiry. expiry ≡ expiry_by followed.now.scenario.now followed.now.iface followed.now.entry clock event.now old) }
+    ensures { IfOk result (λ expiry.
+        expiry ≡ expiry_by followed.now.scenario.now followed.now.iface followed.now.entry clock event.now old) }
 {
     match event {
         Event::Timers { node } => {
             let ended = is_of_edge(followed.scenario, *node, followed.iface) && !counts(clock, old);
             Ok(if ended { None } else { old })
         }
+        Event::Settle => Ok(if counts(clock, old) { old } else { None }),
         Event::Restart { node } => {
             let ended = is_of_edge(followed.scenario, *node, followed.iface);
             Ok(if ended { None } else { old })
@@ -112,7 +114,8 @@ fn stands_after(
     timed: &Timed,
 ) -> Result<Standing, NoMemory>
     requires { old.clock + ticks_of timed.now.event < 2 ^ 63 }
-    ensures { IfOk result (λ standing. standing ≡ stands_after followed.now.scenario.now followed.now.refused.now followed.now.iface followed.now.entry old timed.now) }
+    ensures { IfOk result (λ standing. standing ≡
+        stands_after followed.now.scenario.now followed.now.refused.now followed.now.iface followed.now.entry old timed.now) }
 {
     if !is_accepted(followed.refused, timed) {
         return Ok(old);
@@ -131,7 +134,9 @@ pub(crate) fn stand_behind(
     events: &[Timed],
 ) -> Result<Standing, NoMemory>
     requires { ticks_in events.now < 2 ^ 63 }
-    ensures { IfOk result (λ standing. standing ≡ fold (stands_after followed.now.scenario.now followed.now.refused.now followed.now.iface followed.now.entry) (record { clock = 0; expiry = None }) events.now) }
+    ensures { IfOk result (λ standing. standing ≡ fold
+        (stands_after followed.now.scenario.now followed.now.refused.now followed.now.iface followed.now.entry)
+        (record { clock = 0; expiry = None }) events.now) }
 {
     let mut standing = Standing {
         clock: 0,

@@ -7,6 +7,7 @@ use Rattle.std.specs.Prelude.{Option, None, Some, Result, Ok, Err, IfErr, nat_lt
 use Rattle.mv_io.specs.Octets.{Appended, AppendedPart}
 use Rattle.scenario_defs.specs.declared.event.Script.{Script}
 use Rattle.scenario_defs.specs.Rules.{ScriptRules}
+use Rattle.scenario_defs.specs.Built.{AreBuilt}
 use Rattle.line_words.specs.declared.fault.TextFault.{TextFault}
 use Rattle.line_words.specs.FaultText.{fault_text}
 use Rattle.scenario_text.specs.Grammar.{script_of}
@@ -80,9 +81,9 @@ ends-fault left old new octets fault stops.Memory a e w (inl t) n = absurd cc
 ends-fault left old new octets fault stops.Memory a e w (inr p) n = inr (record { input = a.input; is_input = a.is_input; part = rw (a.same, e) p })
 
 -- The script was replayed.
-pub ends-script : (left old new : Option (List ℕ)) (octets : List ℕ) (script : Script) (result : Result WorldState Stop) → ScriptRules script → SaysAlike script_of left octets → script_of octets ≡ Ok script →
+pub ends-script : (left old new : Option (List ℕ)) (octets : List ℕ) (script : Script) (result : Result WorldState Stop) → ScriptRules script → AreBuilt script.events → SaysAlike script_of left octets → script_of octets ≡ Ok script →
     Replays script result old new → IfErr result (λ e. (e ≡ stops.Sink) ⊎ (e ≡ stops.Memory)) → ReplayEnds left result old new
-ends-script left old new octets script (Ok world) rules a e r o = record {
+ends-script left old new octets script (Ok world) rules built a e r o = record {
   input = a.input;
   is_input = a.is_input;
   script = script;
@@ -91,12 +92,12 @@ ends-script left old new octets script (Ok world) rules a e r o = record {
   run = r.run;
   running = r.running;
   text = r.text;
-  safe = run_is_safe script r.report world.network rules r.run;
-  once = run_is_once script r.report world.network rules r.run;
+  safe = run_is_safe script r.report world.network rules built r.run;
+  once = run_is_once script r.report world.network rules built r.run;
 }
-ends-script left old new octets script (Err stops.Sink) rules a e r o = record { input = a.input; is_input = a.is_input; part = rw (a.same, e) r }
-ends-script left old new octets script (Err stops.Memory) rules a e r o = inr (record { input = a.input; is_input = a.is_input; part = rw (a.same, e) r })
-ends-script left old new octets script (Err stops.Text) rules a e r (inl t) = absurd cc
-ends-script left old new octets script (Err stops.Text) rules a e r (inr t) = absurd cc
-ends-script left old new octets script (Err stops.Source) rules a e r (inl t) = absurd cc
-ends-script left old new octets script (Err stops.Source) rules a e r (inr t) = absurd cc
+ends-script left old new octets script (Err stops.Sink) rules built a e r o = record { input = a.input; is_input = a.is_input; part = rw (a.same, e) r }
+ends-script left old new octets script (Err stops.Memory) rules built a e r o = inr (record { input = a.input; is_input = a.is_input; part = rw (a.same, e) r })
+ends-script left old new octets script (Err stops.Text) rules built a e r (inl t) = absurd cc
+ends-script left old new octets script (Err stops.Text) rules built a e r (inr t) = absurd cc
+ends-script left old new octets script (Err stops.Source) rules built a e r (inl t) = absurd cc
+ends-script left old new octets script (Err stops.Source) rules built a e r (inr t) = absurd cc

@@ -12,6 +12,7 @@ use Rattle.scenario_defs.specs.declared.event.Timed.{Timed}
 use Rattle.scenario_defs.specs.declared.event.Script.{Script}
 use Rattle.scenario_defs.specs.declared.report.ReportLine.{ReportLine}
 use Rattle.scenario_defs.specs.Rules.{ScriptRules, IsEventOf}
+use Rattle.scenario_defs.specs.Built.{IsBuilt, AreBuilt}
 use Rattle.scenario_defs.specs.Text.{line_text}
 use Rattle.mvpn_model.specs.Report.{Entry, lines_of, report_text}
 use Rattle.net_defs.specs.Network.{Network, start, acts_of, after}
@@ -29,22 +30,22 @@ report_text-append : (scenario : Scenario) (report more : List Entry) → report
 report_text-append scenario report more = ap (flat_map (line_text scenario)) (lines_of-append report more) ∙ flat_map-append (line_text scenario) (lines_of report) (lines_of more)
 
 -- What was written of the first events is a part of the report of all.
-part_of_all : (script : Script) (count : ℕ) (part : List Entry) (middle : Network) (old new : Option (List ℕ)) → ScriptRules script →
+part_of_all : (script : Script) (count : ℕ) (part : List Entry) (middle : Network) (old new : Option (List ℕ)) → ScriptRules script → AreBuilt script.events →
     Run script (take count script.events) part middle → AppendedPart old new (report_text script.scenario part) → ReplayedPart script old new
-part_of_all script count part middle old new rules h w =
+part_of_all script count part middle old new rules built h w =
     let on = runs_go_on_lemma (start script.scenario) 0 script.events count part middle h in
     record {
       report = part ++ on.more;
       network = on.new;
       run = on.run;
-      safe = run_is_safe script (part ++ on.more) on.new rules on.run;
-      once = run_is_once script (part ++ on.more) on.new rules on.run;
+      safe = run_is_safe script (part ++ on.more) on.new rules built on.run;
+      once = run_is_once script (part ++ on.more) on.new rules built on.run;
       text = rw (report_text-append script.scenario part on.more) (part_of_front old new (report_text script.scenario part) (report_text script.scenario on.more) w);
     }
 
 -- Nothing was written.
-pub replayed-nothing : (script : Script) (old : Option (List ℕ)) → ScriptRules script → ReplayedPart script old old
-replayed-nothing script old rules = part_of_all script 0 [] (start script.scenario) old old rules (refl, refl) (part_whole old old [] (appended-nil old))
+pub replayed-nothing : (script : Script) (old : Option (List ℕ)) → ScriptRules script → AreBuilt script.events → ReplayedPart script old old
+replayed-nothing script old rules built = part_of_all script 0 [] (start script.scenario) old old rules built (refl, refl) (part_whole old old [] (appended-nil old))
 
 -- the text of an event, by the names of the script's scenario
 abbrev named_text : Script → WorldState → Timed → List ℕ
@@ -65,14 +66,14 @@ replayed-more script events i default timed old mid new world now lt is e h k =
     }
 
 -- An event that ended early.
-pub replayed-part : (script : Script) (events : List Timed) (i : ℕ) (default timed : Timed) (old mid new : Option (List ℕ)) (world : WorldState) → ScriptRules script →
+pub replayed-part : (script : Script) (events : List Timed) (i : ℕ) (default timed : Timed) (old mid new : Option (List ℕ)) (world : WorldState) → ScriptRules script → AreBuilt script.events →
     events ≡ script.events → i < length events → timed ≡ get_or events i default → world.network.scenario ≡ script.scenario → Replayed script (take i events) old mid world →
     AppendedPart mid new (event_text world timed) → ReplayedPart script old new
-replayed-part script events i default timed old mid new world rules same lt is e h k =
+replayed-part script events i default timed old mid new world rules built same lt is e h k =
     let acts = acts_of world.network timed.line timed.event in
     let run : Run script (take (i + 1) events) (h.report ++ entries_of i acts) (after world.network timed.event) = rw is (run-take_zero (start script.scenario) events i default h.report world.network lt h.run) in
     let named = subst (λ (s : Scenario). AppendedPart mid new (flat_map (line_text s) (event_lines world.network timed.line timed.event))) e k in
-    part_of_all script (i + 1) (h.report ++ entries_of i acts) (after world.network timed.event) old new rules
+    part_of_all script (i + 1) (h.report ++ entries_of i acts) (after world.network timed.event) old new rules built
     (subst (λ (l : List Timed). Run script (take (i + 1) l) (h.report ++ entries_of i acts) (after world.network timed.event)) same run)
     (rw (report_text-snoc script.scenario h.report i acts) (part_after old mid new (report_text script.scenario h.report) (named_text script world timed) h.text named))
 
@@ -107,3 +108,10 @@ event-at script scenario timeds i default timed rules same lt is e =
     let each = All-from_recursion (λ (t : Timed). IsEventOf script.scenario t.event) script.events rules.events in
     let here : IsEventOf script.scenario (get_or timeds i default).event = All-get_or (λ (t : Timed). IsEventOf script.scenario t.event) timeds i default lt (subst (λ (l : List Timed). All (λ (t : Timed). IsEventOf script.scenario t.event) l) (sym same) each) in
     subst (λ (s : Scenario). IsEventOf s timed.event) (sym e) (subst (λ (t : Timed). IsEventOf script.scenario t.event) (sym is) here)
+
+-- An event of a script of built lines is of one.
+pub built-at : (script : Script) (timeds : List Timed) (i : ℕ) (default timed : Timed) → AreBuilt script.events → timeds ≡ script.events → i < length timeds → timed ≡ get_or timeds i default →
+    IsBuilt timed.event
+built-at script timeds i default timed built same lt is =
+    let each = All-from_recursion (λ (t : Timed). IsBuilt t.event) timeds (subst AreBuilt (sym same) built) in
+    subst (λ (t : Timed). IsBuilt t.event) (sym is) (All-get_or (λ (t : Timed). IsBuilt t.event) timeds i default lt each)

@@ -8,7 +8,7 @@ use Rattle.scenario_defs.specs.Text.{line_text}
 use Rattle.line_words.specs.declared.fault.TextFault.{TextFault}
 use Rattle.line_words.specs.FaultText.{fault_text}
 use Rattle.scenario_text.specs.Grammar.{script_of}
-use Rattle.mvpn_model.specs.Report.{Entry, report_text}
+use Rattle.mvpn_model.specs.Report.{Entry, report_text, refused_lines}
 use Rattle.mvpn_model.specs.Safe.{Safe}
 use Rattle.mvpn_model.specs.Once.{Once}
 use Rattle.net_defs.specs.Network.{Network, after}
@@ -40,8 +40,8 @@ pub record ReplayedPart (script : Script) (old new : Option (List ℕ)) : Type 0
   pub report : List Entry
   pub network : Network
   pub run : Run script script.events report network
-  pub safe : Safe script.scenario script.events report
-  pub once : Once script.scenario script.events report
+  pub safe : Safe script.scenario script.events (refused_lines report) report
+  pub once : Once script.scenario script.events (refused_lines report) report
   pub text : AppendedPart old new (report_text script.scenario report)
 
 -- how the replay of a script ends
@@ -59,8 +59,8 @@ pub record EndsWell (left old new : Option (List ℕ)) (world : WorldState) : Ty
   pub run : Run script script.events report world.network
   pub running : world.halt ≡ None
   pub text : Appended old new (report_text script.scenario report)
-  pub safe : Safe script.scenario script.events report
-  pub once : Once script.scenario script.events report
+  pub safe : Safe script.scenario script.events (refused_lines report) report
+  pub once : Once script.scenario script.events (refused_lines report) report
 
 -- The text has a fault, and the line that tells it was written alone.
 pub record EndsFaulty (left old new : Option (List ℕ)) : Type 0 where

@@ -5,6 +5,7 @@ ghost use Rattle.mv_io.specs.Octets.{Appended, AppendedPart};
 ghost use Rattle.std.specs.List.{flat_map};
 ghost use Rattle.scenario_defs.specs.Text.{line_text, IsLineOf};
 ghost use Rattle.scenario_defs.specs.Rules.{IsEventOf, ScriptRules, tick_limit};
+ghost use Rattle.scenario_defs.specs.Built.{IsBuilt, AreBuilt};
 ghost use Rattle.line_words.specs.FaultText.{fault_text};
 ghost use Rattle.mvpn_tool.specs.Outcome.{EventReplayed, Replays, ReplayEnds, Takes, event_text};
 ghost use Rattle.mvpn_tool.specs.declared.stop.Stop.TheVariants as stops;
@@ -48,8 +49,8 @@ fn replay_event<K: Sink>(
     sink: &mut K,
 ) -> Result<(), Stop>
     requires event { IsEventOf world.old.network.scenario timed.now.event }
+    requires built { IsBuilt timed.now.event }
     requires clock { world.old.network.clock + tick_limit < 2 ^ 63 }
-    requires counted { world.old.network.accepted + 1 < 2 ^ 64 }
     requires running { world.old.halt ≡ None }
     ensures ok { OnOk result (EventReplayed world.old timed.now (K.written sink.old) (K.written sink.new) world.new) }
     ensures err { OnErr result (AppendedPart (K.written sink.old) (K.written sink.new) (event_text world.old timed.now)) }
@@ -67,7 +68,8 @@ fn replay_event<K: Sink>(
 
 /// All events of the script.
 fn replay_script<K: Sink>(alloc: Global, script: Script, sink: &mut K) -> Result<World, Stop>
-    requires { ScriptRules script }
+    requires rules { ScriptRules script }
+    requires built { AreBuilt script.events }
     ensures replays { Replays script result (K.written sink.old) (K.written sink.new) }
     ensures later { K.faults sink.old ≤ K.faults sink.new }
     ensures failed { IsErrOf result stops.Sink → Rose (K.faults sink.old) (K.faults sink.new) }

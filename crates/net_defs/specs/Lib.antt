@@ -1,4 +1,3 @@
-pub mod Sessions
 pub mod Network
 pub mod Run
 pub mod Laws

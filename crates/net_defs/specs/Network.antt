@@ -1,5 +1,5 @@
 -- The state of the network, and what each event does to it.
-use Rattle.std.specs.Prelude.{ℕ, ◌+◌, ◌==◌, ◌&&◌, not, Bool, false, List, [], ◌∷◌, map, slice_index_or, slice_set, sum_by, Option, None, Some, Ok, Err, if◌then◌else◌}
+use Rattle.std.specs.Prelude.{ℕ, ◌+◌, ◌==◌, ◌&&◌, not, Bool, false, List, [], ◌∷◌, length, map, slice_index_or, slice_set, sum_by, Option, None, Some, Ok, Err, if◌then◌else◌}
 use Rattle.std.specs.Option.{option_or}
 use Rattle.std.specs.FinMap.{empty}
 use Rattle.mv_base.specs.declared.ids.NodeId.{NodeId}
@@ -26,8 +26,8 @@ use Rattle.pim_joinprune.specs.declared.fault.PimFault.TheVariants as faults
 use Rattle.pim_joinprune.specs.Reading.{decoded}
 use Rattle.pim_defs.specs.Entries.{Entries, applied, are_too_many, kept_at, due, asks}
 use Rattle.mvpn_model.specs.declared.message.Given.{Given}
-use Rattle.net_defs.specs.declared.session.Session.{Session}
-use Rattle.net_defs.specs.Sessions.{sessions, unready}
+use Rattle.mvpn_model.specs.Sessions.{sessions}
+use Rattle.mvpn_model.specs.declared.session.Session.{Session}
 use Rattle.mvpn_model.specs.Messages.{own_addr, message_of}
 
 -- The state of the network: its scenario, the clock, how many datagrams were accepted, the joined and pruned entries of
@@ -124,6 +124,10 @@ entering network site source group payload vrf =
 -- how many timers of entries are due, at all nodes
 abbrev pub due_timers : Network → ℕ
 due_timers network = sum_by (λ entries. due entries network.clock) network.entries
+
+-- How many of the sessions are not ready: all of them, since no line that is built raises one.
+abbrev pub unready : List Session → ℕ
+unready all = length all
 
 -- The line of `state`: no octet is in transit and no copy is on a link.
 abbrev pub state_line : Network → ReportLine

@@ -1,8 +1,6 @@
 //! What the network is, and what each event does to it: states, acts and runs, as plain definitions.
 #![tactic(auto)]
 
-mod session;
 mod words;
 
-pub use session::Session;
 pub use words::fault_word;

@@ -1,5 +1,5 @@
 -- A calm line tells that the scenario has at most one edge: each two edges have a session, and no line joins one.
-use Rattle.std.proofs.Common.{◌≡◌, ℕ, ◌+◌, List, [], ◌∷◌, ◌++◌, true, map, not, zero, suc, refl, sym, ap, subst, inl, inr, ◌∙◌, arith}
+use Rattle.std.proofs.Common.{◌≡◌, ℕ, ◌+◌, List, [], ◌∷◌, ◌++◌, true, map, zero, suc, length, refl, sym, ap, subst, inl, inr, ◌∙◌, arith}
 use Rattle.std.specs.Prelude.{◌==◌, Some, slice_get, Contains}
 use Rattle.std.specs.List.{list_any, AllByRecursion}
 use Rattle.std.proofs.lemmas.Bool.{or_cases, or_left, or_right, eqb-true, eq-eqb, cond_both, cond-true, false≢true}
@@ -17,13 +17,12 @@ use Rattle.mvpn_model.specs.Report.{Entry}
 use Rattle.mvpn_model.specs.Once.{IsCalm}
 use Rattle.mvpn_model.proofs.ListLemmas.{all-append}
 use Rattle.mvpn_model.proofs.VpnLemmas.{EntersAt, entered-each, HasOneEdge}
-use Rattle.net_defs.specs.declared.session.Session.{Session}
-use Rattle.net_defs.specs.Sessions.{edges_from, bgp_session, bgp_sessions, sessions, unready}
-use Rattle.net_defs.specs.Network.{Network, start, acts_of, after, entering}
+use Rattle.mvpn_model.specs.declared.session.Session.{Session}
+use Rattle.mvpn_model.specs.Sessions.{edges_from, bgp_session, bgp_sessions, sessions}
+use Rattle.net_defs.specs.Network.{Network, unready, start, acts_of, after, entering}
 use Rattle.net_defs.specs.Run.{entries_of}
 use Rattle.net_laws.proofs.RunLemmas.{report_from}
 use Rattle.net_laws.proofs.FrameLemmas.{after-keeps, acts-either, entering-all, each-act, entries-all}
-use Rattle.net_laws.proofs.OutLemmas.{count-cons}
 
 -- ---- what lines of `state` tell of the sessions
 
@@ -105,7 +104,8 @@ one_of [] others h x y p q = absurd (false≢true p)
 one_of (id ∷ []) others h x y p q = sym (one_number id x p) ∙ one_number id y q
 one_of (a ∷ b ∷ more) others h x y p q =
     let later = (map (bgp_session a) more ++ bgp_sessions (b ∷ more)) ++ others in
-    absurd (omega (arith, h, count-cons (λ (session : Session). not session.joined) (bgp_session a b) later))
+    let many : 0 ≡ suc (length later) = h in
+    absurd (omega (arith, many))
 
 -- Where no session is unready, there is at most one edge.
 ready-one : (scenario : Scenario) → 0 ≡ unready (sessions scenario) → HasOneEdge scenario

@@ -98,11 +98,6 @@ quiet-accepted network event h = after-either (λ n. n.accepted ≡ network.acce
     accepted (events.Send site source group payload) k = absurd k
     accepted other k = message-either (λ n. n.accepted ≡ network.accepted) network (message_of network.scenario other) (λ maps e. refl)
 
--- An event counts at most one datagram.
-pub after-accepted : (network : Network) (event : Event) → (after network event).accepted ≤ network.accepted + 1
-after-accepted network (events.Send site source group payload) = omega arith
-after-accepted network other = omega (arith, quiet-accepted network other tt)
-
 -- An event moves the clock by the ticks of one event at most.
 pub after-clock : (network : Network) (event : Event) → IsEventOf network.scenario event → (after network event).clock ≤ network.clock + 1000000
 after-clock network event h = after-either (λ n. n.clock ≤ network.clock + 1000000) network event (omega arith) (accepted event h)

@@ -1,5 +1,5 @@
 -- The state after the first events tells where each entry stands behind them, and how many datagrams were accepted.
-use Rattle.std.proofs.Common.{◌≡◌, ℕ, ◌+◌, ◌<◌, List, [], ◌∷◌, ◌++◌, map, false, cond, not, zero, suc, length, refl, sym, ap, subst, append_assoc, length-append, inl, inr, ◌∙◌, arith}
+use Rattle.std.proofs.Common.{◌≡◌, ℕ, ◌+◌, ◌<◌, List, [], ◌∷◌, ◌++◌, map, Bool, true, false, cond, not, zero, suc, length, refl, sym, ap, subst, append_assoc, length-append, inl, inr, ◌∙◌, arith}
 use Rattle.std.specs.Prelude.{◌==◌, Option, None, Some, is_some, slice_index_or, slice_set}
 use Rattle.std.specs.List.{fold}
 use Rattle.std.specs.FinMap.{empty, get, get-empty}
@@ -10,6 +10,7 @@ use Rattle.std.proofs.lemmas.Option.{slice_get_within}
 use Rattle.std.proofs.lemmas.List.Sums.{fold-append}
 use Rattle.mv_base.specs.declared.ids.NodeId.{NodeId}
 use Rattle.mv_base.specs.declared.ids.IfaceId.{IfaceId}
+use Rattle.mv_base.specs.declared.addr.Addr.{Addr}
 use Rattle.scenario_defs.specs.declared.scenario.Node.{Node}
 use Rattle.scenario_defs.specs.declared.scenario.Scenario.{Scenario}
 use Rattle.scenario_defs.specs.declared.event.Timed.{Timed}
@@ -17,7 +18,8 @@ use Rattle.scenario_defs.specs.declared.event.Event.{Event}
 use Rattle.scenario_defs.specs.declared.event.Event.TheVariants as events
 use Rattle.scenario_defs.specs.declared.event.JoinEntry.{JoinEntry}
 use Rattle.scenario_defs.specs.declared.report.Refusal.{Refusal}
-use Rattle.scenario_defs.specs.Rules.{Rules, IsEventOf}
+use Rattle.scenario_defs.specs.Rules.{Rules}
+use Rattle.scenario_defs.specs.Built.{IsBuilt}
 use Rattle.scenario_defs.specs.Vpn.{edge_of}
 use Rattle.scenario_defs.proofs.RuleLemmas.{vrf_rules_at, iface_rules_at}
 use Rattle.pim_joinprune.specs.declared.message.JoinPrune.{JoinPrune}
@@ -30,7 +32,7 @@ use Rattle.pim_defs.proofs.EntriesLemmas.{get-applied, get-kept}
 use Rattle.mvpn_model.specs.declared.message.Given.{Given}
 use Rattle.mvpn_model.specs.declared.standing.Standing.{Standing}
 use Rattle.mvpn_model.specs.Messages.{message_of}
-use Rattle.mvpn_model.specs.Past.{is_accepted, is_of_edge, ticks_of, expiry_given, expiry_by, stands_after}
+use Rattle.mvpn_model.specs.Past.{is_accepted, is_of_edge, ticks_of, expiry_given, expiry_by, stands_after, noted_by, noted_after, is_noted}
 use Rattle.mvpn_model.specs.Report.{Datagram, datagrams, sent_by}
 use Rattle.net_defs.specs.Network.{Network, start, entries_of_node, with_entries, entries_at, refusal, with_message, accepted_after, after}
 use Rattle.mvpn_model.proofs.ListLemmas.{none_either_way}
@@ -46,9 +48,14 @@ stands_at network iface entry = record { clock = network.clock; expiry = expiry_
 abbrev pub stands_by : Scenario → List ℕ → List Timed → IfaceId → JoinEntry → Standing
 stands_by scenario refused done iface entry = fold (stands_after scenario refused iface entry) (record { clock = 0; expiry = None }) done
 
--- The state tells what the events did that are done, and has entries for each node.
+-- whether a source is noted at an interface as a sender, by the events
+abbrev pub notes_by : Scenario → List ℕ → List Timed → IfaceId → Addr → Addr → Bool
+notes_by scenario refused done iface source group = is_noted (record { scenario = scenario; events = done; refused = refused }) iface source group
+
+-- The state tells what the events did that are done, and has entries for each node; the events note no source.
 pub record Tells (refused : List ℕ) (done : List Timed) (network : Network) : Type 0 where
   pub standing : (iface : IfaceId) → iface.0 < length network.scenario.ifaces → (entry : JoinEntry) → stands_by network.scenario refused done iface entry ≡ stands_at network iface entry
+  pub quiet : (iface : IfaceId) (source group : Addr) → notes_by network.scenario refused done iface source group ≡ false
   pub accepted : network.accepted ≡ length (datagrams refused 0 done)
   pub maps : length network.entries ≡ length network.scenario.nodes
 
@@ -78,6 +85,7 @@ tells-start refused scenario = record {
       let at : IfaceEntry = record { iface = iface; entry = entry } in
       let none : get (entries_at (start scenario) iface) at ≡ None = ap (λ (map : Entries). get map at) (entries_at-start scenario iface) ∙ get-empty entry_cmp at in
       ap (λ (o : Option Expiry). record { clock = 0; expiry = o }) (sym none);
+  quiet = λ iface source group. refl;
   accepted = refl;
   maps = length-map scenario.nodes (λ node. empty);
 }
@@ -196,17 +204,18 @@ timers-stands old maps node iface own entry =
     ∙ sym (ap (λ (map : Entries). get map at) (entries_at-edge new iface own.edge own.at)))
 
 -- where an entry stands behind an event that is accepted
-accepted-stands : (old : Network) → Rules old.scenario → length old.entries ≡ length old.scenario.nodes → (event : Event) → IsEventOf old.scenario event →
+accepted-stands : (old : Network) → Rules old.scenario → length old.entries ≡ length old.scenario.nodes → (event : Event) → IsBuilt event →
     (iface : IfaceId) → iface.0 < length old.scenario.ifaces → (entry : JoinEntry) →
     record { clock = old.clock + ticks_of event; expiry = expiry_by old.scenario iface entry old.clock event (expiry_at (entries_at old iface) iface entry) } ≡ stands_at (accepted_after old event) iface entry
 accepted-stands old rules maps (events.Tick count) h iface lt entry = refl
 accepted-stands old rules maps (events.Timers node) h iface lt entry = timers-stands old maps node iface (edge_at old.scenario rules iface lt) entry
 accepted-stands old rules maps (events.Restart node) h iface lt entry = absurd h
+accepted-stands old rules maps events.Settle h iface lt entry = absurd h
 accepted-stands old rules maps (events.Send site source group payload) h iface lt entry = at_the_clock old.clock (expiry_at (entries_at old iface) iface entry) (expiry_at (entries_at old iface) iface entry) refl
 accepted-stands old rules maps other h iface lt entry = message-stands old maps (message_of old.scenario other) iface (edge_at old.scenario rules iface lt) entry
 
 -- where an entry stands behind an event
-after-stands : (refused : List ℕ) (old : Network) → Rules old.scenario → length old.entries ≡ length old.scenario.nodes → (timed : Timed) → IsEventOf old.scenario timed.event →
+after-stands : (refused : List ℕ) (old : Network) → Rules old.scenario → length old.entries ≡ length old.scenario.nodes → (timed : Timed) → IsBuilt timed.event →
     is_accepted refused timed ≡ not (is_refused old timed.event) → (iface : IfaceId) → iface.0 < length old.scenario.ifaces → (entry : JoinEntry) →
     stands_after old.scenario refused iface entry (stands_at old iface entry) timed ≡ stands_at (after old timed.event) iface entry
 after-stands refused old rules maps timed h a iface lt entry = by (refusal old timed.event) a
@@ -232,14 +241,29 @@ datagrams-snoc refused number (first ∷ done) place timed e =
     ∙ sym (append_assoc own (datagrams refused (number + 1) done) (cond (is_accepted refused timed) (sent_by place timed.event) []))
 
 -- how many datagrams the state after an event counts
-after-counted : (refused : List ℕ) (old : Network) (timed : Timed) (event : Event) (place : ℕ) →
+after-counted : (refused : List ℕ) (old : Network) (timed : Timed) (event : Event) (place : ℕ) → IsBuilt event →
     is_accepted refused timed ≡ not (is_refused old event) →
     (after old event).accepted ≡ old.accepted + length (cond (is_accepted refused timed) (sent_by place event) [])
-after-counted refused old timed (events.Send site s g payload) place a = rw a (omega arith)
-after-counted refused old timed other place a = omega (arith, quiet-accepted old other tt, ap (length {A = Datagram}) (none_either_way (is_accepted refused timed)))
+after-counted refused old timed (events.Send site s g payload) place b a = rw a (omega arith)
+after-counted refused old timed (events.Packet site octets) place b a = absurd b
+after-counted refused old timed other place b a = omega (arith, quiet-accepted old other tt, ap (length {A = Datagram}) (none_either_way (is_accepted refused timed)))
+
+-- ---- sources
+
+-- An event of a built line notes no source.
+built-notes : (scenario : Scenario) (iface : IfaceId) (source group : Addr) (event : Event) → IsBuilt event → noted_by scenario iface source group event false ≡ false
+built-notes scenario iface source group (events.Active own own_source own_group) b = absurd b
+built-notes scenario iface source group other b = refl
+
+still-quiet : (scenario : Scenario) (refused : List ℕ) (iface : IfaceId) (source group : Addr) (timed : Timed) → IsBuilt timed.event → noted_after scenario refused iface source group false timed ≡ false
+still-quiet scenario refused iface source group timed b = by (is_accepted refused timed)
+  where
+    by : (accepted : Bool) → cond accepted (noted_by scenario iface source group timed.event false) false ≡ false
+    by true = built-notes scenario iface source group timed.event b
+    by false = refl
 
 -- The state after one more event tells what it did.
-pub tells-snoc : (refused : List ℕ) (done : List Timed) (old : Network) → Rules old.scenario → (timed : Timed) → IsEventOf old.scenario timed.event →
+pub tells-snoc : (refused : List ℕ) (done : List Timed) (old : Network) → Rules old.scenario → (timed : Timed) → IsBuilt timed.event →
     is_accepted refused timed ≡ not (is_refused old timed.event) → Tells refused done old →
     Tells refused (done ++ timed ∷ []) (after old timed.event)
 tells-snoc refused done old rules timed h a tells =
@@ -253,8 +277,13 @@ tells-snoc refused done old rules timed h a tells =
           ∙ fold-append (stands_after old.scenario refused iface entry) (record { clock = 0; expiry = None }) done (timed ∷ [])
           ∙ ap (λ (standing : Standing). stands_after old.scenario refused iface entry standing timed) (tells.standing iface within entry)
           ∙ after-stands refused old rules tells.maps timed h a iface within entry;
+      quiet = λ iface source group.
+          ap (λ (x : Scenario). notes_by x refused (done ++ timed ∷ []) iface source group) same
+          ∙ fold-append (noted_after old.scenario refused iface source group) false done (timed ∷ [])
+          ∙ ap (λ (old_note : Bool). noted_after old.scenario refused iface source group old_note timed) (tells.quiet iface source group)
+          ∙ still-quiet old.scenario refused iface source group timed h;
       accepted =
-          after-counted refused old timed timed.event (length done) a
+          after-counted refused old timed timed.event (length done) h a
           ∙ ap (λ n. n + length own) tells.accepted
           ∙ sym (ap length (datagrams-snoc refused 0 done (length done) timed (omega arith)) ∙ length-append (datagrams refused 0 done) own);
       maps = keeps.maps ∙ tells.maps ∙ sym (ap (λ (x : Scenario). length x.nodes) same);

@@ -3,13 +3,14 @@ use Rattle.std.proofs.Common.{◌≡◌, ℕ, ◌+◌, ◌<◌, ◌≤◌, List,
 use Rattle.std.specs.Prelude.{◌==◌, ◌&&◌, Option, None, Some, slice_get}
 use Rattle.std.specs.List.{list_any, flat_map, count_by, AllByRecursion}
 use Rattle.std.specs.Option.{option_to_list}
-use Rattle.std.proofs.lemmas.Bool.{cond_both, cond-true}
+use Rattle.std.proofs.lemmas.Bool.{cond_both, cond-true, or_from}
 use Rattle.std.proofs.lemmas.List.{append-nil, take_at, length_push}
 use Rattle.std.proofs.lemmas.Option.{slice_get_within}
 use Rattle.mv_base.specs.declared.ids.IfaceId.{IfaceId}
 use Rattle.mv_base.specs.declared.ids.SiteId.{SiteId}
 use Rattle.mv_base.specs.declared.ids.VrfId.{VrfId}
 use Rattle.mv_base.specs.declared.addr.Addr.{Addr}
+use Rattle.scenario_defs.specs.declared.scenario.Iface.{Iface}
 use Rattle.scenario_defs.specs.declared.scenario.Scenario.{Scenario}
 use Rattle.scenario_defs.specs.declared.event.Timed.{Timed}
 use Rattle.scenario_defs.specs.declared.event.Script.{Script}
@@ -18,9 +19,10 @@ use Rattle.scenario_defs.specs.declared.event.Event.TheVariants as events
 use Rattle.scenario_defs.specs.declared.event.JoinEntry.TheVariants as entries
 use Rattle.pim_defs.specs.Asking.{asks_by}
 use Rattle.scenario_defs.specs.declared.report.ReportLine.{ReportLine}
-use Rattle.scenario_defs.specs.Rules.{Rules, IsEventOf, ScriptRules}
+use Rattle.scenario_defs.specs.Rules.{Rules, ScriptRules}
+use Rattle.scenario_defs.specs.Built.{IsBuilt, AreBuilt}
 use Rattle.scenario_defs.specs.Vpn.{same_vpn, is_of_site, vrf_of_site, ifaces_where, entered}
-use Rattle.mvpn_model.specs.Past.{is_accepted, is_home, asks, receives, receivers}
+use Rattle.mvpn_model.specs.Past.{Past, is_accepted, is_home, is_noted, is_active, is_active_at, asks, receives, receivers}
 use Rattle.mvpn_model.specs.Packet.{packet}
 use Rattle.mvpn_model.specs.Report.{Entry, Datagram, datagrams, sent_by, refused_lines, is_out_at, outs_at}
 use Rattle.mvpn_model.specs.Once.{Once, IsDeliveredOnce}
@@ -62,6 +64,23 @@ outs-before old place (timed ∷ more) number iface h =
 abbrev pub is_one_of : List IfaceId → IfaceId → Bool
 is_one_of list iface = list_any (λ receiver. receiver.0 == iface.0) list
 
+-- A test that fails at each element fails for all.
+any-none : {X : Type 0} (p : X → Bool) (xs : List X) → ((x : X) → p x ≡ false) → list_any p xs ≡ false
+any-none p [] h = refl
+any-none p (x ∷ xs) h = or_from (p x) (list_any p xs) (h x) (any-none p xs h)
+
+-- By events that note no source none is active.
+none-active : (refused : List ℕ) (done : List Timed) (old : Network) → Tells refused done old → (source group : Addr) (iface : IfaceId) →
+    is_active_at (record { scenario = old.scenario; events = done; refused = refused }) iface source group ≡ false
+none-active refused done old tells source group iface = by (slice_get old.scenario.ifaces iface.0)
+  where
+    past : Past
+    past = record { scenario = old.scenario; events = done; refused = refused }
+
+    by : (o : Option Iface) → (elim o [ None ↦ false | Some own ↦ is_active past own.vrf source group ]) ≡ false
+    by None = refl
+    by (Some own) = any-none (λ at. is_noted past at source group) (ifaces_where (λ number found. same_vpn old.scenario own.vrf found.vrf) 0 old.scenario.ifaces) (λ at. tells.quiet at source group)
+
 -- An interface of the scenario asks by the state where it asks by the events.
 asks-are : (refused : List ℕ) (done : List Timed) (old : Network) → Tells refused done old → (source group : Addr) (iface : IfaceId) →
     iface.0 < length old.scenario.ifaces → is_asking old source group iface ≡ asks (record { scenario = old.scenario; events = done; refused = refused }) iface source group
@@ -69,7 +88,8 @@ asks-are refused done old tells source group iface lt =
     let joined = tells.standing iface lt (entries.Source source group) in
     let shared = tells.standing iface lt (entries.Star group) in
     let pruned = tells.standing iface lt (entries.Rpt source group) in
-    sym (λ k. asks_by (joined k).clock false (joined k).expiry (shared k).expiry (pruned k).expiry)
+    let active = none-active refused done old tells source group iface in
+    sym (λ k. asks_by (joined k).clock (active k) (joined k).expiry (shared k).expiry (pruned k).expiry)
 
 -- the interfaces of the VRF at which a datagram leaves are those of its VPN that receive it
 leaves-are : (refused : List ℕ) (done : List Timed) (old : Network) → Rules old.scenario → HasOneEdge old.scenario → Tells refused done old →
@@ -148,10 +168,10 @@ once-sent scenario refused whole iface own sent accepted next acts place rest a 
 -- Each datagram leaves as often as it is to, from one event on, if each later one does.
 once-step : (scenario : Scenario) → Rules scenario → HasOneEdge scenario →
     (refused : List ℕ) (whole done : List Timed) (old : Network) (number line : ℕ) (event : Event) (more : List Timed) (iface : IfaceId) →
-    take number whole ≡ done → old.scenario ≡ scenario → is_accepted refused (record { line = line; event = event }) ≡ not (is_refused old event) → Tells refused done old →
+    take number whole ≡ done → old.scenario ≡ scenario → IsBuilt event → is_accepted refused (record { line = line; event = event }) ≡ not (is_refused old event) → Tells refused done old →
     EachOnce scenario refused whole iface (datagrams refused (number + 1) more) (after old event).accepted (report_from (after old event) (number + 1) more) →
     EachOnce scenario refused whole iface (cond (is_accepted refused (record { line = line; event = event })) (sent_by number event) [] ++ datagrams refused (number + 1) more) old.accepted (entries_of number (acts_of old line event) ++ report_from (after old event) (number + 1) more)
-once-step scenario rules one refused whole done old number line (events.Send site source group payload) more iface w s a tells later =
+once-step scenario rules one refused whole done old number line (events.Send site source group payload) more iface w s b a tells later =
     let event : Event = events.Send site source group payload in
     let own : Datagram = record { event = number; site = site; source = source; group = group; octets = packet source group payload } in
     let sent = datagrams refused (number + 1) more in
@@ -165,37 +185,37 @@ once-step scenario rules one refused whole done old number line (events.Send sit
     (λ n other. acts-other old line event n iface other)
     (λ n le. outs-before (after old event) (number + 1) more n iface le)
     later)
-once-step scenario rules one refused whole done old number line other more iface w s a tells later =
+once-step scenario rules one refused whole done old number line (events.Packet site octets) more iface w s b a tells later = absurd b
+once-step scenario rules one refused whole done old number line other more iface w s b a tells later =
     once-unsent scenario refused whole iface (cond (is_accepted refused (record { line = line; event = other })) [] []) (datagrams refused (number + 1) more) old.accepted (after old other).accepted (acts_of old line other) number (report_from (after old other) (number + 1) more)
     (none_either_way (is_accepted refused (record { line = line; event = other }))) (quiet-accepted old other tt) (λ n. quiet-outs old line other tt n iface) later
 
 -- Each datagram of the events behind those that are done leaves as often as it is to.
 once-from : (scenario : Scenario) → Rules scenario → HasOneEdge scenario →
     (refused : List ℕ) (whole done timeds : List Timed) (old : Network) (number : ℕ) (iface : IfaceId) → whole ≡ done ++ timeds →
-    number ≡ length done → old.scenario ≡ scenario → AllByRecursion (λ timed. IsEventOf scenario timed.event) timeds → Agrees refused old timeds → Tells refused done old →
+    number ≡ length done → old.scenario ≡ scenario → AreBuilt timeds → Agrees refused old timeds → Tells refused done old →
     EachOnce scenario refused whole iface (datagrams refused number timeds) old.accepted (report_from old number timeds)
 once-from scenario rules one refused whole done [] old number iface w n s known agrees tells = λ place datagram e. absurd cc
 once-from scenario rules one refused whole done (timed ∷ more) old number iface w n s known agrees tells =
     let own_rules : Rules old.scenario = subst Rules (sym s) rules in
-    let own_event : IsEventOf old.scenario timed.event = subst (λ (x : Scenario). IsEventOf x timed.event) (sym s) known.0 in
     let split : whole ≡ (done ++ timed ∷ []) ++ more = w ∙ sym (append_assoc done (timed ∷ []) more) in
     let so_far : take number whole ≡ done = ap (take number) w ∙ take_at done (timed ∷ more) number (sym n) in
-    once-step scenario rules one refused whole done old number timed.line timed.event more iface so_far s agrees.0 tells
-    (once-from scenario rules one refused whole (done ++ timed ∷ []) more (after old timed.event) (number + 1) iface split (ap (λ k. k + 1) n ∙ sym (length_push done timed)) (after-scenario old timed.event ∙ s) known.1 agrees.1 (tells-snoc refused done old own_rules timed own_event agrees.0 tells))
+    once-step scenario rules one refused whole done old number timed.line timed.event more iface so_far s known.0 agrees.0 tells
+    (once-from scenario rules one refused whole (done ++ timed ∷ []) more (after old timed.event) (number + 1) iface split (ap (λ k. k + 1) n ∙ sym (length_push done timed)) (after-scenario old timed.event ∙ s) known.1 agrees.1 (tells-snoc refused done old own_rules timed known.0 agrees.0 tells))
 
 -- In each run of a scenario with at most one edge each datagram leaves once at each of its receivers.
-pub one_edge-once : (script : Script) → ScriptRules script → HasOneEdge script.scenario →
+pub one_edge-once : (script : Script) → ScriptRules script → AreBuilt script.events → HasOneEdge script.scenario →
     (place : ℕ) (datagram : Datagram) → slice_get (datagrams (refused_lines (report_from (start script.scenario) 0 script.events)) 0 script.events) place ≡ Some datagram →
-    IsDeliveredOnce script.scenario script.events (report_from (start script.scenario) 0 script.events) (place + 1) datagram
-one_edge-once script rules one place datagram e iface =
+    IsDeliveredOnce script.scenario script.events (refused_lines (report_from (start script.scenario) 0 script.events)) (report_from (start script.scenario) 0 script.events) (place + 1) datagram
+one_edge-once script rules built one place datagram e iface =
     let old = start script.scenario in
     let refused = refused_lines (report_from old 0 script.events) in
-    once-from script.scenario rules.scenario one refused script.events [] script.events old 0 iface refl refl refl rules.events (agrees-of_report old 0 script.events rules.lines) (tells-start refused script.scenario) place datagram e (place + 1) (omega arith)
+    once-from script.scenario rules.scenario one refused script.events [] script.events old 0 iface refl refl refl built (agrees-of_report old 0 script.events rules.lines) (tells-start refused script.scenario) place datagram e (place + 1) (omega arith)
 
 -- In each run each datagram leaves once at each of its receivers, in each window.
-pub run_is_once : (script : Script) (report : List Entry) (new : Network) → ScriptRules script → Run script script.events report new →
-    Once script.scenario script.events report
-run_is_once script report new rules run =
+pub run_is_once : (script : Script) (report : List Entry) (new : Network) → ScriptRules script → AreBuilt script.events → Run script script.events report new →
+    Once script.scenario script.events (refused_lines report) report
+run_is_once script report new rules built run =
     let is = runs_are (start script.scenario) 0 script.events report new run in
-    subst (λ (r : List Entry). Once script.scenario script.events r) (sym is.0) (λ first last window place datagram e low high.
-    one_edge-once script rules (calm-one_edge script.scenario script.events window.calm window.is_calm) place datagram e)
+    subst (λ (r : List Entry). Once script.scenario script.events (refused_lines r) r) (sym is.0) (λ first last window place datagram e low high.
+    one_edge-once script rules built (calm-one_edge script.scenario script.events window.calm window.is_calm) place datagram e)

@@ -15,7 +15,8 @@ use Rattle.scenario_defs.specs.declared.event.Script.{Script}
 use Rattle.scenario_defs.specs.declared.event.Event.{Event}
 use Rattle.scenario_defs.specs.declared.event.Event.TheVariants as events
 use Rattle.scenario_defs.specs.declared.report.ReportLine.{ReportLine}
-use Rattle.scenario_defs.specs.Rules.{Rules, IsEventOf, ScriptRules}
+use Rattle.scenario_defs.specs.Rules.{Rules, ScriptRules}
+use Rattle.scenario_defs.specs.Built.{AreBuilt}
 use Rattle.scenario_defs.specs.Vpn.{is_of_site, is_of_vrf, ifaces_where, entered}
 use Rattle.mvpn_model.specs.Past.{is_accepted}
 use Rattle.mvpn_model.specs.Packet.{packet}
@@ -100,13 +101,12 @@ acts-safe refused done old rules line other a tells =
 
 -- The report of the events behind those that are done is safe.
 safe-from : (scenario : Scenario) → Rules scenario → (refused : List ℕ) (whole done timeds : List Timed) (old : Network) (number : ℕ) →
-    whole ≡ done ++ timeds → number ≡ length done → old.scenario ≡ scenario → AllByRecursion (λ timed. IsEventOf scenario timed.event) timeds → Agrees refused old timeds → Tells refused done old →
+    whole ≡ done ++ timeds → number ≡ length done → old.scenario ≡ scenario → AreBuilt timeds → Agrees refused old timeds → Tells refused done old →
     AllByRecursion (IsSafeEntry scenario whole refused) (report_from old number timeds)
 safe-from scenario rules refused whole done [] old number w n s known agrees tells = tt
 safe-from scenario rules refused whole done (timed ∷ more) old number w n s known agrees tells =
     let acts = acts_of old timed.line timed.event in
     let own_rules : Rules old.scenario = subst Rules (sym s) rules in
-    let own_event : IsEventOf old.scenario timed.event = subst (λ (x : Scenario). IsEventOf x timed.event) (sym s) known.0 in
     let split : whole ≡ (done ++ timed ∷ []) ++ more = w ∙ sym (append_assoc done (timed ∷ []) more) in
     let so_far : take (number + 1) whole ≡ done ++ timed ∷ [] = ap (take (number + 1)) split ∙ take_at (done ++ timed ∷ []) more (number + 1) (length_push done timed ∙ ap (λ k. k + 1) (sym n)) in
     let own : AllByRecursion (λ act. AllByRecursion (IsSafeLine old.scenario (done ++ timed ∷ []) refused) act) acts = acts-safe refused done old own_rules timed.line timed.event agrees.0 tells in
@@ -114,14 +114,14 @@ safe-from scenario rules refused whole done (timed ∷ more) old number w n s kn
     let own_safe : AllByRecursion (λ act. AllByRecursion (IsSafeLine scenario (take (number + 1) whole) refused) act) acts = subst (λ (x : List Timed). AllByRecursion (λ act. AllByRecursion (IsSafeLine scenario x refused) act) acts) (sym so_far) own_here in
     all-append (IsSafeEntry scenario whole refused) (entries_of number acts) (report_from (after old timed.event) (number + 1) more)
     (entries-all (IsSafeEntry scenario whole refused) number acts own_safe)
-    (safe-from scenario rules refused whole (done ++ timed ∷ []) more (after old timed.event) (number + 1) split (ap (λ k. k + 1) n ∙ sym (length_push done timed)) (after-scenario old timed.event ∙ s) known.1 agrees.1 (tells-snoc refused done old own_rules timed own_event agrees.0 tells))
+    (safe-from scenario rules refused whole (done ++ timed ∷ []) more (after old timed.event) (number + 1) split (ap (λ k. k + 1) n ∙ sym (length_push done timed)) (after-scenario old timed.event ∙ s) known.1 agrees.1 (tells-snoc refused done old own_rules timed known.0 agrees.0 tells))
 
 -- Each run is safe.
-pub run_is_safe : (script : Script) (report : List Entry) (new : Network) → ScriptRules script → Run script script.events report new →
-    Safe script.scenario script.events report
-run_is_safe script report new rules run =
+pub run_is_safe : (script : Script) (report : List Entry) (new : Network) → ScriptRules script → AreBuilt script.events → Run script script.events report new →
+    Safe script.scenario script.events (refused_lines report) report
+run_is_safe script report new rules built run =
     let old = start script.scenario in
     let all = report_from old 0 script.events in
     let is = runs_are old 0 script.events report new run in
-    subst (λ (r : List Entry). Safe script.scenario script.events r) (sym is.0)
-    (safe-from script.scenario rules.scenario (refused_lines all) script.events [] script.events old 0 refl refl refl rules.events (agrees-of_report old 0 script.events rules.lines) (tells-start (refused_lines all) script.scenario))
+    subst (λ (r : List Entry). Safe script.scenario script.events (refused_lines r) r) (sym is.0)
+    (safe-from script.scenario rules.scenario (refused_lines all) script.events [] script.events old 0 refl refl refl built (agrees-of_report old 0 script.events rules.lines) (tells-start (refused_lines all) script.scenario))

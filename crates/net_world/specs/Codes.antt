@@ -5,8 +5,8 @@ use Rattle.scenario_defs.specs.declared.scenario.Scenario.{Scenario}
 use Rattle.scenario_defs.specs.contracts.scenario.Scenario as scenarios
 use Rattle.pim_defs.specs.Entries.{Entries}
 use Rattle.pim_state.specs.Codes.{entries_code}
-use Rattle.net_defs.specs.declared.session.Session.{Session}
-use Rattle.net_defs.specs.contracts.session.Session as sessions
+use Rattle.mvpn_model.specs.declared.session.Session.{Session}
+use Rattle.mvpn_model.specs.contracts.session.Session as sessions
 use Rattle.net_defs.specs.Network.{Network}
 use Rattle.net_world.specs.declared.halt.Halt.{Halt}
 use Rattle.net_world.specs.declared.halt.Halt.TheVariants.{NoLabel, NoMemory}

@@ -1,9 +1,9 @@
 //! The sessions of the control plane.
 ghost use Rattle.std.specs.Prelude.{◌≡◌, ◌≤◌, ◌^◌, ◌++◌, length, map, IfOk, OnOk};
-ghost use Rattle.net_defs.specs.Sessions.{edges_from, bgp_session, bgp_sessions, ldp_session, sessions, unready};
+ghost use Rattle.mvpn_model.specs.Sessions.{edges_from, bgp_session, bgp_sessions, ldp_session, sessions};
 
 use mv_base::{Link, NoMemory, NodeId, Seq};
-use net_defs::Session;
+use mvpn_model::Session;
 use scenario_defs::{Kind, Node, Scenario};
 use std::alloc::Global;
 
@@ -30,7 +30,6 @@ fn add_pairs(all: &mut Seq<Session>, a: NodeId, later: &[NodeId]) -> Result<(), 
             kind: Kind::Bgp,
             a,
             b: *b,
-            joined: false,
         })?;
     }
     Ok(())
@@ -55,13 +54,12 @@ fn add_ldp(all: &mut Seq<Session>, links: &[Link]) -> Result<(), NoMemory>
             kind: Kind::Ldp,
             a: link.a,
             b: link.b,
-            joined: false,
         })?;
     }
     Ok(())
 }
 
-/// The sessions of a scenario in which nothing has happened: one over BGP for each pair of edges, and then one over LDP
+/// The sessions of a scenario: one over BGP for each pair of edges, and then one over LDP
 /// for each link.
 pub(crate) fn sessions_of(alloc: Global, scenario: &Scenario) -> Result<Seq<Session>, NoMemory>
     requires { length scenario.now.nodes ≤ 2 ^ 16 }
@@ -72,11 +70,4 @@ pub(crate) fn sessions_of(alloc: Global, scenario: &Scenario) -> Result<Seq<Sess
     add_bgp(&mut all, edges.as_slice())?;
     add_ldp(&mut all, scenario.links.as_slice())?;
     Ok(all)
-}
-
-/// How many of the sessions are not joined.
-pub(crate) fn count_unready(sessions: &[Session]) -> u64
-    ensures { result ≡ unready sessions.now }
-{
-    sessions.iter().filter(|session| !session.joined).count() as u64
 }

@@ -1,6 +1,7 @@
 //! The world that a script is replayed over.
 ghost use Rattle.std.specs.Prelude.{◌≡◌, ◌++◌, ◌+◌, ◌<◌, ◌^◌, ℕ, [], ◌∷◌, None, Some, Err, IfOk, OnOk, OnErr, IfErr};
 ghost use Rattle.scenario_defs.specs.Rules.{Rules, IsEventOf};
+ghost use Rattle.scenario_defs.specs.Built.{IsBuilt};
 ghost use Rattle.scenario_defs.specs.declared.event.Event.TheVariants as events;
 ghost use Rattle.pim_defs.specs.Entries.{kept_at};
 ghost use Rattle.mvpn_model.specs.Past.{ticks_of};
@@ -12,11 +13,11 @@ mod messages;
 use crate::Halt;
 use crate::downstreams::Downstreams;
 use crate::flows::Flow;
-use crate::sessions::{count_unready, sessions_of};
+use crate::sessions::sessions_of;
 use crate::tables::{routes_of_vrfs, vrfs_of_sites};
 use indexmap::IndexMap;
 use mv_base::{NoMemory, NodeId, Seq, VrfId};
-use net_defs::Session;
+use mvpn_model::Session;
 use scenario_defs::{Event, IfaceList, Lines, Refusal, ReportLine, Route, Scenario};
 use std::alloc::Global;
 use std::marker::Model;
@@ -136,7 +137,7 @@ impl World {
             copies: 0,
             buffers: 0,
             due: self.downstreams.due(self.clock),
-            unready: count_unready(self.sessions.as_slice()),
+            unready: self.sessions.len() as u64,
         });
         if told.is_err() {
             self.halt = Some(Halt::NoMemory);
@@ -148,8 +149,8 @@ impl World {
     fn act(&mut self, line: u32, event: &Event, lines: &mut Lines) -> Result<(), NoMemory>
         requires running { self.old.halt ≡ None }
         requires event { IsEventOf self.old.network.scenario event.now }
+        requires built { IsBuilt event.now }
         requires clock { self.old.network.clock + ticks_of event.now < 2 ^ 63 }
-        requires counted { self.old.network.accepted + 1 < 2 ^ 64 }
         ensures ok { OnOk result (Acts self.old line event.now self.new lines.old lines.new) }
         ensures err { OnErr result (Halts self.old line event.now self.new lines.old lines.new) }
     {
@@ -186,8 +187,8 @@ impl World {
     /// that were appended before it stand.
     pub fn step(&mut self, line: u32, event: &Event, lines: &mut Lines) -> Result<(), Halt>
         requires event { IsEventOf self.old.network.scenario event.now }
+        requires built { IsBuilt event.now }
         requires clock { self.old.network.clock + ticks_of event.now < 2 ^ 63 }
-        requires counted { self.old.network.accepted + 1 < 2 ^ 64 }
         ensures ok { OnOk result (Acts self.old line event.now self.new lines.old lines.new) }
         ensures halts { IfErr result (λ halt. self.new.halt ≡ Some halt) }
         ensures cause { IfErr result (λ halt. self.old.halt ≡ None → halt ≡ Halt.NoMemory) }

@@ -22,7 +22,7 @@ use Rattle.world_defs.specs.Acts.{Act, Tick, Timers, Move, Lose, Notice, RaiseFi
 use Rattle.world_defs.specs.Counts.{direction, directions}
 use Rattle.world_defs.specs.Nodes.{NodeState, Edge, CoreNode, Nodes, place_of}
 use Rattle.world_defs.specs.System.{NodeCall, Own, Elapse, Reset, system}
-use Rattle.ready_laws.specs.Unready.{SessionsStand, is_that}
+use Rattle.mvpn_model.specs.Unready.{SessionsStand, is_that}
 use Rattle.world_defs.specs.World.{World, Datagram, LinkCopy, scenario_of, clock_of}
 use Rattle.world_defs.proofs.Kept.{branches_keep}
 use Rattle.ready_laws.proofs.Nodes.{call_stand, reset_stand}

@@ -1,7 +1,6 @@
 -- Where the sessions stand by the events and by the acts: alike at each session, also behind a raise.
 use Rattle.std.specs.Prelude.{if◌then◌else◌, find}
 use Rattle.std.proofs.Common.{◌≡◌, ◌⊎◌, ◌==◌, Bool, true, false, cond, ◌&&◌, ◌||◌, List, [], ◌∷◌, Option, Some, None, inl, inr, refl, sym, ap, ◌∙◌}
-use Rattle.std.proofs.Math.Bool.{or_comm, and_comm}
 use Rattle.std.proofs.lemmas.Bool.{and_parts, or_parts, or_cases}
 use Rattle.mv_base.specs.declared.ids.NodeId.{NodeId}
 use Rattle.scenario_defs.specs.declared.event.Kind.{Kind}
@@ -9,19 +8,15 @@ use Rattle.scenario_defs.specs.declared.event.Kind.TheVariants as kinds
 use Rattle.scenario_defs.specs.declared.scenario.Scenario.{Scenario}
 use Rattle.label_defs.specs.declared.end.End.{End}
 use Rattle.label_defs.proofs.KeyLemmas.{node_equal}
-use Rattle.net_defs.specs.Sessions.{sessions}
-use Rattle.net_defs.specs.declared.session.Session.{Session}
-use Rattle.session_defs.specs.Message.{same_kind}
+use Rattle.mvpn_model.specs.Sessions.{sessions}
+use Rattle.mvpn_model.specs.declared.session.Session.{Session}
+use Rattle.scenario_defs.specs.Kinds.{same_kind}
 use Rattle.world_defs.specs.Acts.{RaiseFirst, RaiseSecond, Notice}
 use Rattle.world_defs.specs.Events.{is_session_of}
-use Rattle.ready_laws.specs.Unready.{SessionsStand, is_that, raised}
+use Rattle.mvpn_model.specs.Unready.{SessionsStand, is_that, raised}
+use Rattle.mvpn_model.proofs.SessionLemmas.{IsIn, other_order, other_way, one_kind}
 use Rattle.ready_laws.proofs.Ends.{new_end}
 use Rattle.ready_laws.proofs.ActsStand.{act_stand}
-
--- the session is one of the list
-abbrev pub IsIn : Session → List Session → Type 0
-IsIn session [] = ⊥
-IsIn session (first ∷ more) = (session ≡ first) ⊎ IsIn session more
 
 -- A session is joined in both or in neither, and the ends of a session over LDP are the same.
 pub record AlikeAt (told standing : SessionsStand) (session : Session) : Type 0 where
@@ -35,21 +30,6 @@ pub record Alike (scenario : Scenario) (told standing : SessionsStand) : Type 0 
   pub each : (session : Session) → IsIn session (sessions scenario) → AlikeAt told standing session
 
 -- ---- the session of two nodes
-
--- either end may be named first
-pub other_order : (kind : Kind) (a b : NodeId) (own : Kind) (u n : NodeId) → is_that kind b a own u n ≡ is_that kind a b own u n
-other_order kind a b own u n = ap (λ t. same_kind kind own && t) (or_comm ((u.0 == b.0) && (n.0 == a.0)) ((u.0 == a.0) && (n.0 == b.0)))
-
-pub other_way : (kind : Kind) (a b : NodeId) (own : Kind) (u n : NodeId) → is_that kind a b own n u ≡ is_that kind a b own u n
-other_way kind a b own u n =
-    ap (λ t. same_kind kind own && t)
-    ((λ i. and_comm (n.0 == a.0) (u.0 == b.0) i || and_comm (n.0 == b.0) (u.0 == a.0) i) ∙ or_comm ((u.0 == b.0) && (n.0 == a.0)) ((u.0 == a.0) && (n.0 == b.0)))
-
-one_kind : (a b : Kind) → same_kind a b ≡ true → a ≡ b
-one_kind kinds.Bgp kinds.Bgp e = refl
-one_kind kinds.Ldp kinds.Ldp e = refl
-one_kind kinds.Bgp kinds.Ldp e = absurd cc
-one_kind kinds.Ldp kinds.Bgp e = absurd cc
 
 -- the session that is found is that of the two nodes
 pub that_session : (kind : Kind) (a b : NodeId) (found : Session) → is_session_of kind a b found ≡ true → (own : Kind) (u n : NodeId) → is_that kind a b own u n ≡ is_that found.kind found.a found.b own u n

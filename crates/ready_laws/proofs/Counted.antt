@@ -15,17 +15,17 @@ use Rattle.scenario_defs.specs.declared.scenario.Scenario.{Scenario}
 use Rattle.label_defs.specs.declared.end.End.{End}
 use Rattle.mvpn_model.specs.Past.{Past}
 use Rattle.mvpn_model.specs.Report.{refused_lines}
-use Rattle.net_defs.specs.Sessions.{edges, bgp_session, bgp_sessions, ldp_session, sessions}
-use Rattle.net_defs.specs.declared.session.Session.{Session}
-use Rattle.session_defs.specs.Message.{same_kind}
+use Rattle.mvpn_model.specs.Sessions.{edges, bgp_session, bgp_sessions, ldp_session, sessions}
+use Rattle.mvpn_model.specs.declared.session.Session.{Session}
+use Rattle.scenario_defs.specs.Kinds.{same_kind}
 use Rattle.edge_defs.specs.Place.{Core}
 use Rattle.world_defs.specs.Counts.{is_joined, are_held, is_ready, unready}
 use Rattle.world_defs.specs.Run.{Traced, Run, report_of}
-use Rattle.ready_laws.specs.Unready.{SessionsStand, none_joined, sessions_stand, is_held, is_ready_in, unready_behind}
+use Rattle.mvpn_model.specs.Unready.{SessionsStand, none_joined, sessions_stand, is_held, is_ready_in, unready_behind}
 use Rattle.world_defs.specs.World.{World, start}
 use Rattle.ready_laws.proofs.Nodes.{end_of, fresh_end}
 use Rattle.ready_laws.proofs.TimersAlike.{HasNodes}
-use Rattle.ready_laws.proofs.Alike.{IsIn}
+use Rattle.mvpn_model.proofs.SessionLemmas.{IsIn, count_alike}
 use Rattle.ready_laws.proofs.EventsStand.{Tells}
 use Rattle.ready_laws.proofs.RunsTell.{runs_tell}
 
@@ -85,18 +85,6 @@ ready_alike scenario told world t session is = by session.kind refl
         λ i. joined i && (first i && second i)
 
 -- ---- all sessions
-
--- one more, where a test passes
-abbrev counts : (Session → Bool) → ℕ → Session → ℕ
-counts test count session = count + cond (test session) 1 0
-
-counts_alike : (test other : Session → Bool) (all : List Session) (count : ℕ) → ((session : Session) → IsIn session all → test session ≡ other session) → fold (counts test) count all ≡ fold (counts other) count all
-counts_alike test other [] count h = refl
-counts_alike test other (first ∷ more) count h =
-    ap (λ (t : Bool). fold (counts test) (count + cond t 1 0) more) (h first (inl refl)) ∙ counts_alike test other more (count + cond (other first) 1 0) (λ session is. h session (inr is))
-
-count_alike : (test other : Session → Bool) (all : List Session) → ((session : Session) → IsIn session all → test session ≡ other session) → count_by test all ≡ count_by other all
-count_alike test other all h = counts_alike test other all 0 h
 
 -- nothing has happened yet
 start_tells : (scenario : Scenario) (core : Core) → Tells scenario none_joined (start scenario core)

@@ -8,17 +8,18 @@ use Rattle.scenario_defs.specs.declared.event.Kind.{Kind}
 use Rattle.scenario_defs.specs.declared.event.Kind.TheVariants as kinds
 use Rattle.scenario_defs.specs.declared.scenario.Scenario.{Scenario}
 use Rattle.label_defs.specs.declared.end.End.{End}
-use Rattle.net_defs.specs.Sessions.{sessions}
-use Rattle.net_defs.specs.declared.session.Session.{Session}
+use Rattle.mvpn_model.specs.Sessions.{sessions}
+use Rattle.mvpn_model.specs.declared.session.Session.{Session}
 use Rattle.world_defs.specs.Acts.{Act, Notice}
 use Rattle.world_defs.specs.Counts.{is_joined, is_up}
 use Rattle.world_defs.specs.Events.{Outcome, Done, and_then, row, each, times, raise_acts, is_session_of, raises, notices, turn, settled, landings, drain_round, drained, sent, at_edge, with_message, done}
 use Rattle.world_defs.specs.Events as by_acts
-use Rattle.ready_laws.specs.Unready.{SessionsStand, is_that, raised, healed}
+use Rattle.mvpn_model.specs.Unready.{SessionsStand, is_that, raised, healed}
 use Rattle.world_defs.specs.World.{World}
 use Rattle.ready_laws.proofs.ActsStand.{WorldStands}
 use Rattle.ready_laws.proofs.Outcomes.{Comes, then_comes, comes_as, acts_stand, row_comes}
-use Rattle.ready_laws.proofs.Alike.{IsIn, Alike, AlikeAway, other_way, that_session, found_passes, none_passes, alike_away, raise_stand, raise_covers, near_notices, far_notices}
+use Rattle.mvpn_model.proofs.SessionLemmas.{IsIn, other_way}
+use Rattle.ready_laws.proofs.Alike.{Alike, AlikeAway, that_session, found_passes, none_passes, alike_away, raise_stand, raise_covers, near_notices, far_notices}
 
 -- The sessions of the world stand as the events tell.
 pub record Tells (scenario : Scenario) (told : SessionsStand) (world : World) : Type 0 where

@@ -14,17 +14,17 @@ use Rattle.label_defs.specs.declared.end.End.{End}
 use Rattle.mvpn_model.specs.Messages.{message_of}
 use Rattle.mvpn_model.specs.Packet.{packet}
 use Rattle.mvpn_model.specs.declared.message.Given.{Given}
-use Rattle.net_defs.specs.Sessions.{sessions}
-use Rattle.session_defs.specs.Message.{same_kind}
+use Rattle.mvpn_model.specs.Sessions.{sessions}
+use Rattle.scenario_defs.specs.Kinds.{same_kind}
 use Rattle.session_defs.specs.declared.direction.Direction.{Direction}
 use Rattle.edge_defs.specs.Steps as steps
 use Rattle.edge_defs.specs.Steps.{own_label_call}
 use Rattle.world_defs.specs.Acts.{Act, Tick, Timers, Move, Lose, Notice, Restart, At, Enter, Land, Drop, Tell}
 use Rattle.world_defs.specs.Counts.{directions, link_ways}
 use Rattle.world_defs.specs.Events.{Done, row, each, times, turn, settled, landings, drain_round, drained, sent, at_edge, with_message, done}
-use Rattle.world_defs.specs.Packets.{source_in, group_in}
+use Rattle.mvpn_model.specs.Packets.{source_in, group_in}
 use Rattle.world_defs.specs.Refusals.{edge_of_vrf}
-use Rattle.ready_laws.specs.Unready.{SessionsStand, is_that, timed, behind}
+use Rattle.mvpn_model.specs.Unready.{SessionsStand, is_that, timed, behind}
 use Rattle.world_defs.specs.World.{World, scenario_of}
 use Rattle.ready_laws.proofs.Nodes.{KeepsEnds}
 use Rattle.ready_laws.proofs.ActsStand.{WorldStands, act_stand}

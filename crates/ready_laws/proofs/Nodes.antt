@@ -22,7 +22,7 @@ use Rattle.edge_defs.specs.Steps.{EdgeStepped, LabelStep, edge_step, own_label_c
 use Rattle.edge_defs.specs.Tunnels.{leaves}
 use Rattle.world_defs.specs.Nodes.{NodeState, Edge, CoreNode, Nodes, is_edge, fresh_node, with_node, place_of, part_of}
 use Rattle.world_defs.specs.System.{edge_stepped, core_called, node_called, call_of}
-use Rattle.ready_laws.specs.Unready.{SessionsStand}
+use Rattle.mvpn_model.specs.Unready.{SessionsStand}
 use Rattle.ready_laws.proofs.Ends.{Holds, holds_then, end_by, end_with, EndsBehind, step_end, leaves_are, row_end}
 
 -- the end of a node's session over LDP with a peer

@@ -14,7 +14,7 @@ use Rattle.edge_defs.specs.Steps as steps
 use Rattle.world_defs.specs.Counts.{direction}
 use Rattle.world_defs.specs.Nodes.{Nodes}
 use Rattle.world_defs.specs.System.{NodeCall, Own, Elapse, Reset, system, node_called}
-use Rattle.ready_laws.specs.Unready.{SessionsStand}
+use Rattle.mvpn_model.specs.Unready.{SessionsStand}
 use Rattle.ready_laws.proofs.Ends.{Holds}
 use Rattle.ready_laws.proofs.Nodes.{NodesStand, call_stand, called_stand, taken_stand, reset_stand, fresh_stand}
 

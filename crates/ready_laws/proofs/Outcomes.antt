@@ -9,7 +9,7 @@ use Rattle.scenario_defs.specs.declared.report.ReportLine.{ReportLine}
 use Rattle.scenario_defs.specs.declared.scenario.Scenario.{Scenario}
 use Rattle.world_defs.specs.Acts.{Act, Acted, act}
 use Rattle.world_defs.specs.Events.{Happened, Outcome, Done, Halted, and_then, one_act, row, each, times}
-use Rattle.ready_laws.specs.Unready.{SessionsStand}
+use Rattle.mvpn_model.specs.Unready.{SessionsStand}
 use Rattle.world_defs.specs.World.{World}
 use Rattle.ready_laws.proofs.ActsStand.{refused_in, none_refused, Gives, WorldStands, act_stand, act_gives}
 

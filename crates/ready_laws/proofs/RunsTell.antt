@@ -16,7 +16,7 @@ use Rattle.mvpn_model.specs.Report.{lines_of, refused_line, refused_lines}
 use Rattle.world_defs.specs.Events.{Happened, Done, done}
 use Rattle.world_defs.specs.Refusals.{refusal}
 use Rattle.world_defs.specs.Run.{Traced, outcome, traced, report_of, Runs}
-use Rattle.ready_laws.specs.Unready.{SessionsStand, behind}
+use Rattle.mvpn_model.specs.Unready.{SessionsStand, behind}
 use Rattle.world_defs.specs.World.{World}
 use Rattle.ready_laws.proofs.ActsStand.{refused_in}
 use Rattle.ready_laws.proofs.Outcomes.{Comes, lines_in}

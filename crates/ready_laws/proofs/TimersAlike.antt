@@ -9,15 +9,16 @@ use Rattle.scenario_defs.specs.declared.event.Kind.TheVariants as kinds
 use Rattle.scenario_defs.specs.declared.scenario.Scenario.{Scenario}
 use Rattle.label_defs.specs.declared.end.End.{End}
 use Rattle.label_defs.specs.Steps.{hold_run}
-use Rattle.net_defs.specs.Sessions.{sessions}
-use Rattle.net_defs.specs.declared.session.Session.{Session}
+use Rattle.mvpn_model.specs.Sessions.{sessions}
+use Rattle.mvpn_model.specs.declared.session.Session.{Session}
 use Rattle.world_defs.specs.Acts.{Act, Timers}
 use Rattle.world_defs.specs.Counts.{node_ids}
-use Rattle.ready_laws.specs.Unready.{SessionsStand, timed}
+use Rattle.mvpn_model.specs.Unready.{SessionsStand, timed}
 use Rattle.ready_laws.proofs.Ends.{end_run}
 use Rattle.ready_laws.proofs.ActsStand.{act_stand}
 use Rattle.ready_laws.proofs.Outcomes.{acts_stand}
-use Rattle.ready_laws.proofs.Alike.{IsIn, Alike}
+use Rattle.mvpn_model.proofs.SessionLemmas.{IsIn}
+use Rattle.ready_laws.proofs.Alike.{Alike}
 
 run_told : (life now : ℕ) (t : Bool) (o : Option End) → elim o [ None ↦ None | Some end ↦ Some (if t then hold_run life now end else end) ] ≡ cond t (end_run life now o) o
 run_told life now true None = refl

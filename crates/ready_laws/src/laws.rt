@@ -7,7 +7,7 @@ ghost use Rattle.mvpn_model.specs.Report.{refused_lines};
 ghost use Rattle.edge_defs.specs.Place.{Core};
 ghost use Rattle.world_defs.specs.Counts.{unready};
 ghost use Rattle.world_defs.specs.Run.{Traced, Run, report_of};
-ghost use Rattle.ready_laws.specs.Unready.{unready_behind};
+ghost use Rattle.mvpn_model.specs.Unready.{unready_behind};
 ghost use Rattle.world_defs.specs.World.{World};
 
 /// How many sessions are not ready behind a run is what the events of the script say, and which of them were refused. By its rules

@@ -4,3 +4,5 @@ pub mod Names
 pub mod Prefixes
 pub mod Rules
 pub mod Text
+pub mod Kinds
+pub mod Built

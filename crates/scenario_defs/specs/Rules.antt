@@ -1,15 +1,17 @@
 -- What every scenario and script that is read meets.
-use Rattle.std.specs.Prelude.{◌≡◌, ◌≢◌, ◌⊎◌, ℕ, ◌<◌, ◌≤◌, true, false, List, [], ◌∷◌, length, take, slice_get, slice_index, Some, All, AllPairs, count_by}
+use Rattle.std.specs.Prelude.{◌≡◌, ◌≢◌, ◌⊎◌, ℕ, ◌<◌, ◌≤◌, true, false, List, [], ◌∷◌, length, take, slice_get, slice_index, Some, IfSome, All, AllPairs, count_by}
 use Rattle.std.specs.List.{AllByRecursion}
 use Rattle.mv_base.specs.declared.ids.NodeId.{NodeId}
 use Rattle.mv_base.specs.declared.addr.Addr.{Addr}
 use Rattle.mv_base.specs.declared.addr.Addr.TheVariants.{V4, V6}
+use Rattle.mv_base.specs.declared.pattern.Pattern.{Pattern}
 use Rattle.mv_base.specs.declared.prefix.Prefix.{Prefix}
 use Rattle.mv_base.specs.declared.rd.Rd.{Rd}
 use Rattle.mv_base.specs.declared.rd.Rule.TheVariants.{Highest, Nearest}
 use Rattle.mv_base.specs.Address.{same_addr}
 use Rattle.mv_base.specs.Prefix.{IsPrefixOf}
 use Rattle.core_walks.specs.Topology.{IsTopology, IsConnected}
+use Rattle.core_walks.specs.Walks.{IsLinked}
 use Rattle.route_targets.specs.declared.communities.Target.{Target}
 use Rattle.route_targets.specs.Communities.{kind}
 use Rattle.route_targets.specs.Targets.{same_target, same, shares}
@@ -23,6 +25,8 @@ use Rattle.scenario_defs.specs.declared.event.Timed.{Timed}
 use Rattle.scenario_defs.specs.declared.event.Script.{Script}
 use Rattle.scenario_defs.specs.declared.event.Event.{Event}
 use Rattle.scenario_defs.specs.declared.event.Event.TheVariants as events
+use Rattle.scenario_defs.specs.declared.event.Kind.{Kind}
+use Rattle.scenario_defs.specs.declared.event.Kind.TheVariants as kinds
 use Rattle.scenario_defs.specs.declared.event.JoinEntry.{JoinEntry}
 use Rattle.scenario_defs.specs.declared.event.JoinEntry.TheVariants as entries
 use Rattle.scenario_defs.specs.Names.{is_name, name_of}
@@ -161,21 +165,52 @@ IsEntry (entries.Star group) = IsGroup group
 IsEntry (entries.Source source group) = IsUnicast source × IsGroup group
 IsEntry (entries.Rpt source group) = IsUnicast source × IsGroup group
 
+-- What a selection names: source and group of a pattern, where they are given.
+abbrev pub IsPattern : Pattern → Type 0
+IsPattern pattern = IfSome pattern.source IsUnicast × IfSome pattern.group IsGroup
+
 -- the most ticks of one event
 abbrev pub tick_limit : ℕ
 tick_limit = 1000000
 
--- The event is of a line that is built, and names things of the scenario.
+-- the most octets that one event moves, and the last place on a link that one names
+abbrev pub count_limit : ℕ
+count_limit = 999999999
+
+-- a link joins the two nodes
+abbrev pub AreLinked : Scenario → NodeId → NodeId → Type 0
+AreLinked scenario a b = (cost : ℕ) × IsLinked scenario.links a.0 b.0 cost
+
+-- The two nodes have a session over the protocol: over BGP two edges (RFC 4364 section 4.3.2), over LDP the ends of a link
+-- (RFC 5036 section 2.2.3).
+abbrev pub HaveSession : Scenario → Kind → NodeId → NodeId → Type 0
+HaveSession scenario kinds.Bgp a b = IsEdge scenario a × IsEdge scenario b × (a.0 ≢ b.0)
+HaveSession scenario kinds.Ldp a b = AreLinked scenario a b
+
+-- The event names things of the scenario, and its numbers and octets are within their limits.
 abbrev pub IsEventOf : Scenario → Event → Type 0
 IsEventOf scenario (events.Tick count) = (1 ≤ count) × (count ≤ tick_limit)
 IsEventOf scenario (events.Timers node) = node.0 < length scenario.nodes
+IsEventOf scenario (events.Restart node) = node.0 < length scenario.nodes
+IsEventOf scenario (events.Move kind from to count) = HaveSession scenario kind from to × (1 ≤ count) × (count ≤ count_limit)
+IsEventOf scenario (events.Lose kind a b) = HaveSession scenario kind a b
+IsEventOf scenario (events.Notice kind a b) = HaveSession scenario kind a b
+IsEventOf scenario (events.Raise kind a b) = HaveSession scenario kind a b
 IsEventOf scenario (events.Join iface entry) = (iface.0 < length scenario.ifaces) × IsEntry entry
 IsEventOf scenario (events.Prune iface entry) = (iface.0 < length scenario.ifaces) × IsEntry entry
 IsEventOf scenario (events.Pim iface bytes) = (iface.0 < length scenario.ifaces) × (length bytes ≤ payload_limit)
+IsEventOf scenario (events.Active iface source group) = (iface.0 < length scenario.ifaces) × IsUnicast source × IsGroup group
+IsEventOf scenario (events.Idle iface source group) = (iface.0 < length scenario.ifaces) × IsUnicast source × IsGroup group
 IsEventOf scenario (events.Send site source group payload) = (site.0 < length scenario.sites) × IsUnicast source × IsGroup group × (length payload ≤ payload_limit)
+IsEventOf scenario (events.Packet site bytes) = (site.0 < length scenario.sites) × (length bytes ≤ payload_limit)
+IsEventOf scenario (events.Select vrf pattern) = (vrf.0 < length scenario.vrfs) × IsPattern pattern
+IsEventOf scenario (events.Unselect vrf pattern) = (vrf.0 < length scenario.vrfs) × IsPattern pattern
+IsEventOf scenario (events.Hop from to place) = AreLinked scenario from to × (1 ≤ place) × (place ≤ count_limit)
+IsEventOf scenario (events.DropCopy from to place) = AreLinked scenario from to × (1 ≤ place) × (place ≤ count_limit)
+IsEventOf scenario events.Heal = Unit {0}
+IsEventOf scenario events.Settle = Unit {0}
 IsEventOf scenario events.Drain = Unit {0}
 IsEventOf scenario events.State = Unit {0}
-IsEventOf scenario other = ⊥
 
 -- The lines of the events rise, from above that number on.
 abbrev pub Rises : ℕ → List Timed → Type 0

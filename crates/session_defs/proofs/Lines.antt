@@ -10,7 +10,8 @@ use Rattle.framing.specs.Feed.{unfed}
 use Rattle.scenario_defs.specs.declared.event.Kind.{Kind}
 use Rattle.scenario_defs.specs.declared.event.Kind.TheVariants as kinds
 use Rattle.session_defs.specs.declared.direction.Direction.{Direction}
-use Rattle.session_defs.specs.Message.{SessionMessage, IsPut, Spells, same_kind, same_direction}
+use Rattle.scenario_defs.specs.Kinds.{same_kind}
+use Rattle.session_defs.specs.Message.{SessionMessage, IsPut, Spells, same_direction}
 use Rattle.session_defs.specs.System.{Put, messages_over, octets_over}
 use Rattle.session_defs.specs.Octets.{Stream}
 use Rattle.session_defs.specs.Refined.{Carried, IsLine}

@@ -5,6 +5,7 @@ use Rattle.framing.specs.Cut.{Front}
 use Rattle.framing.specs.Cut.Front.{more, whole, bad}
 use Rattle.scenario_defs.specs.declared.event.Kind.{Kind}
 use Rattle.scenario_defs.specs.declared.event.Kind.TheVariants as kinds
+use Rattle.scenario_defs.specs.Kinds.{same_kind}
 use Rattle.bgp_attributes.specs.declared.update.Message.{Message}
 use Rattle.bgp_attributes.specs.declared.fault.StreamFault.{StreamFault}
 use Rattle.bgp_update.specs.Reading.{message_front}
@@ -25,12 +26,7 @@ pub data SessionFault : Type 0 where
   BgpFault : (fault : StreamFault) → SessionFault
   LabelFault : (fault : LdpFault) → SessionFault
 
--- whether both are one protocol, and one direction
-abbrev pub same_kind : Kind → Kind → Bool
-same_kind kinds.Bgp kinds.Bgp = true
-same_kind kinds.Ldp kinds.Ldp = true
-same_kind a b = false
-
+-- whether both are one direction
 abbrev pub same_direction : Direction → Direction → Bool
 same_direction a b = same_kind a.kind b.kind && (a.from.0 == b.from.0) && (a.to.0 == b.to.0)
 

@@ -38,7 +38,7 @@ use Rattle.edge_defs.specs.Place.{EdgePlace, OwnVrf, own_vrfs, label_place, addr
 use Rattle.edge_defs.specs.Steps as steps
 use Rattle.edge_defs.specs.Steps.{LabelStep, EdgeStepped, edge_step, control_step, refreshed, timed, selection_run, taken_run, changed_leaves, one_call, own_label_call, label_row, part_after}
 use Rattle.edge_defs.specs.Tunnels.{leaves, tunnels_of, inclusive_tunnels, flow_tunnels}
-use Rattle.net_defs.specs.Sessions.{edges}
+use Rattle.mvpn_model.specs.Sessions.{edges}
 use Rattle.world_defs.specs.Nodes.{NodeState, Edge, CoreNode, Nodes, with_node, place_of}
 use Rattle.world_defs.specs.Puts.{bgp_put, bgp_puts, label_puts}
 use Rattle.world_defs.specs.System.{node_called, core_called}

@@ -19,8 +19,8 @@ use Rattle.edge_defs.specs.Due as edges
 use Rattle.edge_defs.specs.Due.{is_selection_due, due_from}
 use Rattle.edge_defs.specs.Edge.{Selected, Taken, pattern_cmp}
 use Rattle.edge_defs.specs.Place.{label_place}
-use Rattle.net_defs.specs.Sessions.{sessions}
-use Rattle.net_defs.specs.declared.session.Session.{Session}
+use Rattle.mvpn_model.specs.Sessions.{sessions}
+use Rattle.mvpn_model.specs.declared.session.Session.{Session}
 use Rattle.world_defs.specs.Counts.{direction, is_up, is_ready, are_held, node_due, all_nodes, state_line}
 use Rattle.world_defs.specs.Example.{network, core}
 use Rattle.world_defs.specs.Nodes.{Edge, CoreNode, part_of, place_of}

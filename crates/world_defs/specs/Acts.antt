@@ -10,7 +10,7 @@ use Rattle.scenario_defs.specs.declared.scenario.Scenario.{Scenario}
 use Rattle.scenario_defs.specs.declared.scenario.Vrf.{Vrf}
 use Rattle.label_defs.specs.LabelData.{use_of, branches_of}
 use Rattle.label_defs.specs.declared.branch.Branch.{Branch}
-use Rattle.session_defs.specs.Message.{same_kind}
+use Rattle.scenario_defs.specs.Kinds.{same_kind}
 use Rattle.session_defs.specs.Octets as octets
 use Rattle.session_defs.specs.Octets.{OctetAct, octet_run}
 use Rattle.session_defs.specs.System.{Put, Behind, octets_over}
@@ -18,7 +18,8 @@ use Rattle.session_defs.specs.declared.direction.Direction.{Direction}
 use Rattle.edge_defs.specs.Datagrams.{Fate, discarded, tree_of, entering_fate, arriving_fate}
 use Rattle.edge_defs.specs.Place.{OwnVrf}
 use Rattle.edge_defs.specs.Steps as steps
-use Rattle.world_defs.specs.Counts.{direction, is_between, directions, state_line}
+use Rattle.mvpn_model.specs.Sessions.{is_between}
+use Rattle.world_defs.specs.Counts.{direction, directions, state_line}
 use Rattle.world_defs.specs.Nodes.{NodeState, Edge, CoreNode, Nodes, place_of}
 use Rattle.world_defs.specs.System.{NodeCall, Own, Elapse, Reset, system}
 use Rattle.world_defs.specs.World.{World, Datagram, LinkCopy, numbered, scenario_of, clock_of, with_copies}

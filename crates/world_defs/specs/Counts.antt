@@ -12,8 +12,8 @@ use Rattle.label_defs.specs.LabelData as labels
 use Rattle.session_defs.specs.declared.direction.Direction.{Direction}
 use Rattle.edge_defs.specs.Due as edges
 use Rattle.edge_defs.specs.Place.{label_place}
-use Rattle.net_defs.specs.Sessions.{sessions}
-use Rattle.net_defs.specs.declared.session.Session.{Session}
+use Rattle.mvpn_model.specs.Sessions.{sessions}
+use Rattle.mvpn_model.specs.declared.session.Session.{Session}
 use Rattle.world_defs.specs.Nodes.{NodeState, Edge, CoreNode, Nodes, part_of, place_of}
 use Rattle.world_defs.specs.World.{World, LinkCopy, scenario_of}
 
@@ -21,10 +21,6 @@ use Rattle.world_defs.specs.World.{World, LinkCopy, scenario_of}
 
 abbrev pub direction : Kind → NodeId → NodeId → Direction
 direction kind from to = record { kind = kind; from = from; to = to }
-
--- whether both are these two nodes, either way round
-abbrev pub is_between : NodeId → NodeId → NodeId → NodeId → Bool
-is_between a b u n = ((u.0 == a.0) && (n.0 == b.0)) || ((u.0 == b.0) && (n.0 == a.0))
 
 -- both directions of a session, that from its first end first
 abbrev pub directions_of : Session → List Direction
@@ -34,7 +30,7 @@ directions_of session = direction session.kind session.a session.b ∷ direction
 abbrev pub directions : Scenario → List Direction
 directions scenario = flat_map directions_of (sessions scenario)
 
--- Whether the session is joined. The list of a scenario's sessions tells only which there are.
+-- whether the session is joined
 abbrev pub is_joined : World → Session → Bool
 is_joined world session = world.network.joined (direction session.kind session.a session.b)
 

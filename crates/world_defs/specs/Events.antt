@@ -12,14 +12,14 @@ use Rattle.scenario_defs.specs.declared.report.ReportLine.{ReportLine}
 use Rattle.mvpn_model.specs.Messages.{message_of}
 use Rattle.mvpn_model.specs.Packet.{packet}
 use Rattle.mvpn_model.specs.declared.message.Given.{Given}
-use Rattle.net_defs.specs.Sessions.{sessions}
-use Rattle.net_defs.specs.declared.session.Session.{Session}
-use Rattle.session_defs.specs.Message.{same_kind}
+use Rattle.mvpn_model.specs.Sessions.{sessions, is_between}
+use Rattle.mvpn_model.specs.declared.session.Session.{Session}
+use Rattle.scenario_defs.specs.Kinds.{same_kind}
 use Rattle.session_defs.specs.declared.direction.Direction.{Direction}
 use Rattle.edge_defs.specs.Steps as steps
 use Rattle.world_defs.specs.Acts.{Act, Tick, Timers, Move, Lose, Notice, RaiseFirst, RaiseSecond, Restart, At, Enter, Land, Drop, Tell, act}
-use Rattle.world_defs.specs.Counts.{directions, link_ways, all_nodes, is_joined, is_up, is_between}
-use Rattle.world_defs.specs.Packets.{source_in, group_in}
+use Rattle.world_defs.specs.Counts.{directions, link_ways, all_nodes, is_joined, is_up}
+use Rattle.mvpn_model.specs.Packets.{source_in, group_in}
 use Rattle.world_defs.specs.Refusals.{edge_of_vrf}
 use Rattle.world_defs.specs.World.{World, scenario_of}
 

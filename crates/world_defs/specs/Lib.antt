@@ -2,7 +2,6 @@ pub mod Puts
 pub mod Nodes
 pub mod System
 pub mod World
-pub mod Packets
 pub mod Counts
 pub mod Refusals
 pub mod Acts

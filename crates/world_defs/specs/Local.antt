@@ -20,11 +20,11 @@ use Rattle.scenario_defs.specs.declared.report.ReportLine.TheVariants as lines
 use Rattle.scenario_defs.specs.declared.scenario.Iface.{Iface}
 use Rattle.scenario_defs.specs.declared.scenario.Scenario.{Scenario}
 use Rattle.scenario_defs.specs.declared.scenario.Vrf.{Vrf}
-use Rattle.session_defs.specs.Message.{same_kind}
+use Rattle.scenario_defs.specs.Kinds.{same_kind}
 use Rattle.edge_defs.specs.Imported.{lsp_of, is_admitted, has_comm}
 use Rattle.edge_defs.specs.Originated.{import_target}
 use Rattle.edge_defs.specs.Place.{addr_of, lsp, tunnel_number}
-use Rattle.world_defs.specs.Counts.{is_between}
+use Rattle.mvpn_model.specs.Sessions.{is_between}
 use Rattle.world_defs.specs.Acts.{Act, RaiseFirst, RaiseSecond, Notice, Restart, Enter, Land}
 use Rattle.world_defs.specs.Run.{Traced}
 use Rattle.world_defs.specs.World.{World, Datagram, numbered, scenario_of}

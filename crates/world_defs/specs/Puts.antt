@@ -24,7 +24,7 @@ use Rattle.edge_defs.specs.Keys.{Value}
 use Rattle.edge_defs.specs.Messages.{as_update}
 use Rattle.edge_defs.specs.Place.{EdgePlace}
 use Rattle.edge_defs.specs.Steps.{LabelStep}
-use Rattle.net_defs.specs.Sessions.{edges}
+use Rattle.mvpn_model.specs.Sessions.{edges}
 
 -- ---- BGP
 

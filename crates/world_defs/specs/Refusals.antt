@@ -20,7 +20,7 @@ use Rattle.net_defs.specs.Network.{is_ours, octets_refusal}
 use Rattle.edge_defs.specs.Edge.{Note, Control, no_control}
 use Rattle.world_defs.specs.Counts.{direction, is_up, octets_in_transit, all_copies}
 use Rattle.world_defs.specs.Nodes.{NodeState, Edge, CoreNode}
-use Rattle.world_defs.specs.Packets.{packet_fault}
+use Rattle.mvpn_model.specs.Packets.{packet_fault}
 use Rattle.world_defs.specs.World.{World, scenario_of, clock_of}
 
 abbrev pub refused_if : Bool → Refusal → Option Refusal

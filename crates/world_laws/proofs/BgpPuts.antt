@@ -15,7 +15,7 @@ use Rattle.edge_defs.specs.Edge.{Control}
 use Rattle.edge_defs.specs.Held.{held_for, told, put_to}
 use Rattle.edge_defs.specs.Keys.{key_cmp, Value, Table, same_value}
 use Rattle.edge_defs.specs.Place.{EdgePlace}
-use Rattle.net_defs.specs.Sessions.{edges}
+use Rattle.mvpn_model.specs.Sessions.{edges}
 use Rattle.world_defs.specs.Puts.{bgp_put, bgp_puts}
 use Rattle.world_laws.specs.Sound.{SoundScenario, SoundControl}
 use Rattle.world_laws.proofs.BgpHeld.{held_fits}

@@ -14,8 +14,8 @@ use Rattle.scenario_defs.specs.declared.scenario.Iface.{Iface}
 use Rattle.scenario_defs.specs.declared.scenario.Node.{Node}
 use Rattle.scenario_defs.specs.declared.scenario.Scenario.{Scenario}
 use Rattle.scenario_defs.specs.declared.scenario.Vrf.{Vrf}
-use Rattle.net_defs.specs.Sessions.{sessions, edges, edges_from, bgp_session, bgp_sessions, ldp_session}
-use Rattle.net_defs.specs.declared.session.Session.{Session}
+use Rattle.mvpn_model.specs.Sessions.{sessions, edges, edges_from, bgp_session, bgp_sessions, ldp_session}
+use Rattle.mvpn_model.specs.declared.session.Session.{Session}
 use Rattle.world_defs.specs.Counts.{node_ids}
 use Rattle.world_defs.specs.Refusals.{edge_of_vrf}
 use Rattle.world_laws.specs.Sound.{SoundScenario}

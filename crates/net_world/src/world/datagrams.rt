@@ -100,7 +100,8 @@ impl World {
         self.enter_at(vrfs.as_slice(), site, flow, payload, lines)
     }
 
-    /// A datagram of the site: it is accepted and counted, or the world halts.
+    /// A datagram of the site: it is accepted and counted, or the world halts. There is no memory for more of them than 64
+    /// bits count.
     pub(super) fn send(
         &mut self,
         line: u32,
@@ -110,12 +111,14 @@ impl World {
         lines: &mut Lines,
     ) -> Result<(), NoMemory>
         requires running { self.old.halt ≡ None }
-        requires counted { self.old.network.accepted + 1 < 2 ^ 64 }
         requires known { site.0 < length self.old.network.scenario.sites }
         requires fits { length payload.now ≤ 2048 }
         ensures ok { OnOk result (Acts self.old line (events.Send site flow.source flow.group payload.now) self.new lines.old lines.new) }
         ensures err { OnErr result (Halts self.old line (events.Send site flow.source flow.group payload.now) self.new lines.old lines.new) }
     {
+        if self.accepted == u64::MAX {
+            return Err(self.stop());
+        }
         let entered = self.enter(site, flow, payload, lines);
         if entered.is_err() {
             self.halt = Some(Halt::NoMemory);

@@ -12,7 +12,7 @@ returns-in-Err-Text-clause-taken g c = takes _ _ (Err c.write_fault.result) (rea
 
 pub returns-clause-ends : goal.returns-clause-ends
 returns-clause-ends g c =
-    ends-script _ _ _ _ _ _ c.in-Ok.ensures.rules (says-alike script_of _ _ _ script-bounded c.in_ok-input.ensures.octets) (sym (ap script_of c.deref.ensures.value) ∙ c.in-Ok.ensures.value) c.replay_script.ensures.replays c.replay_script.ensures.others
+    ends-script _ _ _ _ _ _ c.in-Ok.ensures.rules c.in-Ok.ensures.built (says-alike script_of _ _ _ script-bounded c.in_ok-input.ensures.octets) (sym (ap script_of c.deref.ensures.value) ∙ c.in-Ok.ensures.value) c.replay_script.ensures.replays c.replay_script.ensures.others
 
 pub returns-clause-taken : goal.returns-clause-taken
 returns-clause-taken g c = takes _ _ c.replay_script.result (read-taken _ _ _ c.in_ok-input.ensures.octets)

@@ -6,7 +6,6 @@ abbrev pub invariant-loop-timed : goal.invariant-loop-timed
 invariant-loop-timed g l = record {
   replayed : Replayed l.fn.script (take l.timed-index l.timeds) (g.K.Sink.written l.initial.sink) (g.K.Sink.written l.sink) l.world;
   scenario : l.world.network.scenario ≡ l.fn.script.scenario;
-  accepted : l.world.network.accepted ≤ l.timed-index;
   clock : l.world.network.clock ≤ 1000000 * l.timed-index;
   later : g.K.Sink.faults l.initial.sink ≤ g.K.Sink.faults l.sink;
 }

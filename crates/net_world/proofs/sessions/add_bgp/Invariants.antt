@@ -1,5 +1,5 @@
 use Rattle.std.proofs.Common.{◌≡◌, ◌++◌, drop}
-use Rattle.net_defs.specs.Sessions.{bgp_sessions}
+use Rattle.mvpn_model.specs.Sessions.{bgp_sessions}
 use Rattle.net_world.proofs.sessions.add_bgp.Given as goal
 
 abbrev pub invariant-loop-place : goal.invariant-loop-place

@@ -1,5 +1,5 @@
 use Rattle.std.proofs.Common.{◌≡◌, ◌++◌, map, take}
-use Rattle.net_defs.specs.Sessions.{ldp_session}
+use Rattle.mvpn_model.specs.Sessions.{ldp_session}
 use Rattle.net_world.proofs.sessions.add_ldp.Given as goal
 
 abbrev pub invariant-loop-link : goal.invariant-loop-link

@@ -1,5 +1,5 @@
 use Rattle.std.proofs.Common.{◌≡◌, ◌++◌, map, take}
-use Rattle.net_defs.specs.Sessions.{bgp_session}
+use Rattle.mvpn_model.specs.Sessions.{bgp_session}
 use Rattle.net_world.proofs.sessions.add_pairs.Given as goal
 
 abbrev pub invariant-loop-b : goal.invariant-loop-b

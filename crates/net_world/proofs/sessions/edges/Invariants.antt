@@ -1,5 +1,5 @@
 use Rattle.std.proofs.Common.{◌≡◌, ◌++◌, drop}
-use Rattle.net_defs.specs.Sessions.{edges_from}
+use Rattle.mvpn_model.specs.Sessions.{edges_from}
 use Rattle.net_world.proofs.sessions.edges.Given as goal
 
 abbrev pub invariant-loop-number : goal.invariant-loop-number

@@ -10,10 +10,9 @@ use Rattle.scenario_defs.specs.declared.scenario.Scenario.{Scenario}
 use Rattle.label_defs.specs.declared.end.End.{End}
 use Rattle.label_defs.specs.Steps.{hold_run}
 use Rattle.mvpn_model.specs.Past.{Past, is_accepted}
-use Rattle.net_defs.specs.Sessions.{sessions}
-use Rattle.net_defs.specs.declared.session.Session.{Session}
-use Rattle.session_defs.specs.Message.{same_kind}
-use Rattle.world_defs.specs.Counts.{is_between}
+use Rattle.mvpn_model.specs.Sessions.{sessions, is_between}
+use Rattle.mvpn_model.specs.declared.session.Session.{Session}
+use Rattle.scenario_defs.specs.Kinds.{same_kind}
 
 -- Where the sessions stand behind some events: the clock, whether the session of two nodes is joined, and the end of a node's session
 -- with a peer, where it is up.
@@ -44,7 +43,13 @@ healed old session = if old.joined session.kind session.a session.b then old els
 
 -- the holds that are due are run, at the nodes that pass a test
 abbrev pub timed : Scenario → (NodeId → Bool) → SessionsStand → SessionsStand
-timed scenario passes old = record old { end = λ kind n peer. elim (old.end kind n peer) [ None ↦ None | Some end ↦ Some (if passes n then hold_run scenario.life old.clock end else end) ] }
+timed scenario passes old =
+    record old {
+      end = λ kind n peer. elim (old.end kind n peer) [
+        | None ↦ None
+        | Some end ↦ Some (if passes n then hold_run scenario.life old.clock end else end)
+      ];
+    }
 
 -- where the sessions stand behind an accepted event
 abbrev pub behind : Scenario → SessionsStand → Event → SessionsStand
@@ -54,7 +59,8 @@ behind scenario old events.Settle = timed scenario (λ n. true) old
 behind scenario old (events.Raise kind a b) = raised kind a b old
 behind scenario old events.Heal = fold healed old (sessions scenario)
 behind scenario old (events.Lose kind a b) = record old { joined = λ own u n. old.joined own u n && not (is_that kind a b own u n) }
-behind scenario old (events.Notice kind a b) = record old { end = λ own n peer. if same_kind kind own && (n.0 == a.0) && (peer.0 == b.0) then None else old.end own n peer }
+behind scenario old (events.Notice kind a b) =
+    record old { end = λ own n peer. if same_kind kind own && (n.0 == a.0) && (peer.0 == b.0) then None else old.end own n peer }
 behind scenario old (events.Restart node) =
     record old {
       joined = λ own u n. old.joined own u n && not ((u.0 == node.0) || (n.0 == node.0));
@@ -75,7 +81,8 @@ is_held (Some end) = end.held
 abbrev pub is_ready_in : SessionsStand → Session → Bool
 is_ready_in standing session =
     standing.joined session.kind session.a session.b
-    && (same_kind session.kind kinds.Bgp || (is_held (standing.end session.kind session.a session.b) && is_held (standing.end session.kind session.b session.a)))
+    && (same_kind session.kind kinds.Bgp
+    || (is_held (standing.end session.kind session.a session.b) && is_held (standing.end session.kind session.b session.a)))
 
 -- How many sessions are not ready behind a past.
 abbrev pub unready_behind : Past → ℕ

@@ -1,11 +1,11 @@
 -- The sessions of a network, in their order.
-use Rattle.std.specs.Prelude.{ℕ, ◌+◌, false, not, List, [], ◌∷◌, ◌++◌, map, count_by, if◌then◌else◌}
+use Rattle.std.specs.Prelude.{ℕ, ◌+◌, ◌==◌, ◌&&◌, ◌||◌, Bool, List, [], ◌∷◌, ◌++◌, map, if◌then◌else◌}
 use Rattle.mv_base.specs.declared.ids.NodeId.{NodeId}
 use Rattle.mv_base.specs.declared.core_link.Link.{Link}
 use Rattle.scenario_defs.specs.declared.event.Kind.TheVariants as kinds
 use Rattle.scenario_defs.specs.declared.scenario.Node.{Node}
 use Rattle.scenario_defs.specs.declared.scenario.Scenario.{Scenario}
-use Rattle.net_defs.specs.declared.session.Session.{Session}
+use Rattle.mvpn_model.specs.declared.session.Session.{Session}
 
 -- the numbers of those of the nodes, numbered from that one on, that are edges
 abbrev pub edges_from : ℕ → List Node → List NodeId
@@ -16,24 +16,23 @@ edges_from number (node ∷ more) = if node.edge then record { 0 = number } ∷ 
 abbrev pub edges : Scenario → List NodeId
 edges scenario = edges_from 0 scenario.nodes
 
--- a session over BGP that is not joined
+-- the session over BGP of two edges
 abbrev pub bgp_session : NodeId → NodeId → Session
-bgp_session a b = record { kind = kinds.Bgp; a = a; b = b; joined = false }
+bgp_session a b = record { kind = kinds.Bgp; a = a; b = b }
 
 -- a session for each two of the edges, by the first and then by the second (RFC 4364 section 4.3.2)
 abbrev pub bgp_sessions : List NodeId → List Session
 bgp_sessions [] = []
 bgp_sessions (a ∷ later) = map (bgp_session a) later ++ bgp_sessions later
 
--- the session over LDP of a link, which is not joined (RFC 5036 section 2.2.3)
+-- the session over LDP of a link (RFC 5036 section 2.2.3)
 abbrev pub ldp_session : Link → Session
-ldp_session link = record { kind = kinds.Ldp; a = link.a; b = link.b; joined = false }
+ldp_session link = record { kind = kinds.Ldp; a = link.a; b = link.b }
 
--- the sessions of a scenario in which nothing has happened: first those over BGP, then one over LDP for each link
+-- the sessions of a scenario: first those over BGP, then one over LDP for each link
 abbrev pub sessions : Scenario → List Session
 sessions scenario = bgp_sessions (edges scenario) ++ map ldp_session scenario.links
 
--- How many of the sessions are not ready: those that are not joined. No line that is built raises one, so none is joined
--- with a hold that was not run.
-abbrev pub unready : List Session → ℕ
-unready all = count_by (λ session. not session.joined) all
+-- whether both are these two nodes, either way round
+abbrev pub is_between : NodeId → NodeId → NodeId → NodeId → Bool
+is_between a b u n = ((u.0 == a.0) && (n.0 == b.0)) || ((u.0 == b.0) && (n.0 == a.0))

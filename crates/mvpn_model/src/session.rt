@@ -9,6 +9,4 @@ pub struct Session {
     /// The end that is declared first; of a link its first end.
     pub a: NodeId,
     pub b: NodeId,
-    /// Whether it is joined: from its raise until it is lost or one of its nodes restarts.
-    pub joined: bool,
 }

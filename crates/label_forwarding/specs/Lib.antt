@@ -1,0 +1,4 @@
+pub mod Spelling
+pub mod FirstFault
+pub mod Reading
+pub mod Written

@@ -5,7 +5,7 @@ use mv_base::Addr;
 use std::marker::Model;
 
 /// A packet, its source and the group that it is sent to. Contracts see it as a `Packet`.
-#[derive(Debug, Drop)]
+#[derive(Drop)]
 pub struct Datagram<'a> {
     source: Addr,
     group: Addr,

@@ -16,14 +16,14 @@ use Rattle.scenario_defs.specs.declared.report.ReportLine.{ReportLine}
 use Rattle.mvpn_model.specs.Messages.{message_of}
 use Rattle.mvpn_model.specs.Packet.{packet}
 use Rattle.mvpn_model.specs.declared.message.Given.{Given}
-use Rattle.net_defs.specs.Sessions.{sessions}
-use Rattle.net_defs.specs.declared.session.Session.{Session}
+use Rattle.mvpn_model.specs.Sessions.{sessions}
+use Rattle.mvpn_model.specs.declared.session.Session.{Session}
 use Rattle.session_defs.specs.declared.direction.Direction.{Direction}
 use Rattle.edge_defs.specs.Steps as steps
 use Rattle.world_defs.specs.Acts.{Act, Tick, Timers, Move, Lose, Notice, Restart, At, Enter, Land, Drop, Tell, act}
 use Rattle.world_defs.specs.Counts.{directions, link_ways, all_nodes, is_joined, is_up}
 use Rattle.world_defs.specs.Events.{Done, row, each, times, raise_acts, raises, is_session_of, notices, healed, turn, landings, drain_round, sent, at_edge, with_message, done}
-use Rattle.world_defs.specs.Packets.{source_in, group_in}
+use Rattle.mvpn_model.specs.Packets.{source_in, group_in}
 use Rattle.world_defs.specs.Refusals.{edge_of_vrf}
 use Rattle.world_defs.specs.World.{World, scenario_of}
 use Rattle.delivery_laws.specs.Once.{sent_by}

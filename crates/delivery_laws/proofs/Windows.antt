@@ -21,7 +21,7 @@ use Rattle.world_defs.specs.Acts.{Enter, Land, Tell}
 use Rattle.world_defs.specs.Counts.{link_ways}
 use Rattle.world_defs.specs.Events.{Happened, Outcome, Done, row, drained, sent, done}
 use Rattle.world_defs.specs.Nodes.{Nodes}
-use Rattle.world_defs.specs.Packets.{source_in, group_in}
+use Rattle.mvpn_model.specs.Packets.{source_in, group_in}
 use Rattle.world_defs.specs.World.{World, Datagram, scenario_of, numbered}
 use Rattle.world_defs.proofs.Numbered.{numbered_at}
 use Rattle.delivery_laws.specs.Flood.{SoundCopy, OnLinks, written_from, written_of, lines_in, outs_in}

@@ -16,7 +16,7 @@ use Rattle.mvpn_model.specs.Past.{Past, is_accepted, receivers}
 use Rattle.mvpn_model.specs.Report.{Entry, refused_lines, outs_at}
 use Rattle.edge_defs.specs.Place.{Core}
 use Rattle.world_defs.specs.Counts.{state_line}
-use Rattle.world_defs.specs.Packets.{source_in, group_in}
+use Rattle.mvpn_model.specs.Packets.{source_in, group_in}
 use Rattle.world_defs.specs.Run.{Traced, Run, report_of}
 use Rattle.world_defs.specs.World.{World, Datagram}
 use Rattle.delivery_laws.specs.Choice.{CalmChoice}

@@ -10,7 +10,7 @@ use Rattle.scenario_defs.specs.declared.scenario.Scenario.{Scenario}
 use Rattle.label_defs.specs.declared.end.End.{End}
 use Rattle.edge_defs.specs.Place.{Core}
 use Rattle.edge_defs.specs.Steps as steps
-use Rattle.ready_laws.specs.Unready.{SessionsStand}
+use Rattle.mvpn_model.specs.Unready.{SessionsStand}
 use Rattle.ready_laws.proofs.ActsStand as stand
 use Rattle.ready_laws.proofs.ActsStand.{WorldStands, act_stand, act_gives}
 use Rattle.ready_laws.proofs.Ends.{end_run}

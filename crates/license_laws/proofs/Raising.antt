@@ -9,7 +9,7 @@ use Rattle.framing.specs.Units.{NoUnit}
 use Rattle.framing.proofs.Cuts.{none_whole}
 use Rattle.scenario_defs.specs.declared.event.Kind.{Kind}
 use Rattle.scenario_defs.specs.declared.scenario.Scenario.{Scenario}
-use Rattle.net_defs.specs.declared.session.Session.{Session}
+use Rattle.mvpn_model.specs.declared.session.Session.{Session}
 use Rattle.session_defs.specs.Message.{SessionMessage, same_kind, front_of, Spells}
 use Rattle.session_defs.specs.Octets as octets
 use Rattle.session_defs.specs.Octets.{Stream, OctetNetwork, octet_run}

@@ -10,7 +10,7 @@ use Rattle.scenario_defs.specs.declared.event.Kind.{Kind}
 use Rattle.scenario_defs.specs.declared.event.Timed.{Timed}
 use Rattle.scenario_defs.specs.declared.report.ReportLine.TheVariants as lines
 use Rattle.scenario_defs.specs.declared.scenario.Scenario.{Scenario}
-use Rattle.net_defs.specs.declared.session.Session.{Session}
+use Rattle.mvpn_model.specs.declared.session.Session.{Session}
 use Rattle.label_defs.specs.Settling as labels
 use Rattle.label_defs.specs.Steps as label_calls
 use Rattle.label_defs.specs.Steps.{label_step}

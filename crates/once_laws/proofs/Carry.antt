@@ -22,8 +22,8 @@ use Rattle.scenario_defs.specs.declared.scenario.Vrf.{Vrf}
 use Rattle.mvpn_model.specs.Messages.{message_of}
 use Rattle.mvpn_model.specs.Packet.{packet}
 use Rattle.mvpn_model.specs.declared.message.Given.{Given}
-use Rattle.net_defs.specs.Sessions.{sessions}
-use Rattle.net_defs.specs.declared.session.Session.{Session}
+use Rattle.mvpn_model.specs.Sessions.{sessions}
+use Rattle.mvpn_model.specs.declared.session.Session.{Session}
 use Rattle.label_defs.specs.declared.branch.Branch.{Branch}
 use Rattle.session_defs.specs.Message.{SessionMessage, front_of, same_direction}
 use Rattle.session_defs.proofs.Lines.{direction_is}
@@ -37,7 +37,7 @@ use Rattle.world_defs.specs.Acts.{Act, Tick, Timers, Move, Lose, Notice, RaiseFi
 use Rattle.world_defs.specs.Counts.{direction, directions, is_joined, is_up, link_ways, all_nodes}
 use Rattle.world_defs.specs.Events.{Done, row, each, times, raise_acts, raises, is_session_of, notices, healed, turn, landings, drain_round, sent, at_edge, with_message, done}
 use Rattle.world_defs.specs.Nodes.{Nodes, NodeState, Edge, CoreNode, place_of}
-use Rattle.world_defs.specs.Packets.{source_in, group_in}
+use Rattle.mvpn_model.specs.Packets.{source_in, group_in}
 use Rattle.world_defs.specs.Refusals.{edge_of_vrf}
 use Rattle.world_defs.specs.Run.{Traced, Runs}
 use Rattle.world_defs.specs.System.{NodeCall, Own, Elapse, Reset, system, call_of, nodes_called}

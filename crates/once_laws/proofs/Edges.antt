@@ -14,8 +14,8 @@ use Rattle.scenario_defs.specs.declared.event.IfaceEntry.{IfaceEntry}
 use Rattle.scenario_defs.specs.declared.event.Kind.TheVariants as kinds
 use Rattle.scenario_defs.specs.declared.scenario.Node.{Node}
 use Rattle.scenario_defs.specs.declared.scenario.Scenario.{Scenario}
-use Rattle.net_defs.specs.Sessions.{edges, edges_from, bgp_session, bgp_sessions, ldp_session}
-use Rattle.net_defs.specs.declared.session.Session.{Session}
+use Rattle.mvpn_model.specs.Sessions.{edges, edges_from, bgp_session, bgp_sessions, ldp_session}
+use Rattle.mvpn_model.specs.declared.session.Session.{Session}
 use Rattle.label_defs.specs.LabelData as labels
 use Rattle.selective_defs.specs.Selective.{Among, IsDue}
 use Rattle.session_defs.specs.Refined.{Carried, IsLine, seen}

@@ -46,7 +46,7 @@ use Rattle.world_defs.specs.Run.{Traced, Runs}
 use Rattle.world_defs.specs.System.{NodeCall, Own, Elapse, Reset, node_called, core_called, nodes_called}
 use Rattle.world_defs.specs.World.{World, start}
 use Rattle.mv_base.specs.declared.core_link.Link.{Link}
-use Rattle.net_defs.specs.Sessions.{sessions, edges_from, bgp_session, bgp_sessions, ldp_session}
+use Rattle.mvpn_model.specs.Sessions.{sessions, edges_from, bgp_session, bgp_sessions, ldp_session}
 use Rattle.scenario_defs.specs.declared.scenario.Node.{Node}
 use Rattle.label_defs.specs.Keys.{node_cmp}
 use Rattle.label_defs.proofs.KeyLemmas.{node_cmp_total, node_cmp_exact, node_equal}

@@ -11,8 +11,8 @@ use Rattle.core_walks.specs.Walks.{IsLinked}
 use Rattle.label_defs.specs.LabelData.{is_ready}
 use Rattle.label_defs.proofs.KeyLemmas.{node_equal}
 use Rattle.label_defs.proofs.MemberLemmas.{count-cons}
-use Rattle.net_defs.specs.Sessions.{sessions, edges, bgp_sessions, ldp_session}
-use Rattle.net_defs.specs.declared.session.Session.{Session}
+use Rattle.mvpn_model.specs.Sessions.{sessions, edges, bgp_sessions, ldp_session}
+use Rattle.mvpn_model.specs.declared.session.Session.{Session}
 use Rattle.scenario_defs.specs.Rules.{Rules}
 use Rattle.scenario_defs.specs.declared.event.Kind.TheVariants as kinds
 use Rattle.scenario_defs.specs.declared.scenario.Scenario.{Scenario}

@@ -3,8 +3,8 @@ use Rattle.std.specs.Prelude.{sum_by, count_by}
 use Rattle.std.proofs.Common.{◌≡◌, ℕ, Bool, true, false, not, cond, List, [], ◌∷◌, length, refl, arith}
 use Rattle.std.specs.List.{AllByRecursion}
 use Rattle.std.proofs.lemmas.List.Sums.{sum_by-cons}
-use Rattle.net_defs.specs.Sessions.{sessions}
-use Rattle.net_defs.specs.declared.session.Session.{Session}
+use Rattle.mvpn_model.specs.Sessions.{sessions}
+use Rattle.mvpn_model.specs.declared.session.Session.{Session}
 use Rattle.scenario_defs.specs.declared.report.ReportLine.TheVariants as lines
 use Rattle.session_defs.specs.declared.direction.Direction.{Direction}
 use Rattle.world_defs.specs.Counts.{directions, all_nodes, node_due, octets_in_transit, due_timers, unready, state_line, is_ready}

@@ -30,8 +30,8 @@ use Rattle.scenario_defs.specs.declared.scenario.Vrf.{Vrf}
 use Rattle.mvpn_model.specs.Messages.{message_of}
 use Rattle.mvpn_model.specs.Packet.{packet}
 use Rattle.mvpn_model.specs.declared.message.Given.{Given}
-use Rattle.net_defs.specs.Sessions.{sessions, edges, bgp_session, bgp_sessions, ldp_session}
-use Rattle.net_defs.specs.declared.session.Session.{Session}
+use Rattle.mvpn_model.specs.Sessions.{sessions, edges, bgp_session, bgp_sessions, ldp_session}
+use Rattle.mvpn_model.specs.declared.session.Session.{Session}
 use Rattle.session_defs.specs.Message.{same_kind}
 use Rattle.session_defs.specs.declared.direction.Direction.{Direction}
 use Rattle.edge_defs.specs.Datagrams.{entering_fate}
@@ -40,7 +40,7 @@ use Rattle.world_defs.specs.Acts.{Act, Tick, Timers, Move, Lose, Notice, Restart
 use Rattle.world_defs.specs.Counts.{all_nodes, directions, link_ways, is_between, is_up as is_end}
 use Rattle.world_defs.specs.Events.{Happened, Done, row, each, times, raise_acts, is_session_of, raises, turn, healed, settled, landings, drain_round, sent, at_edge, with_message, done}
 use Rattle.world_defs.specs.Nodes.{NodeState, Edge, CoreNode, place_of}
-use Rattle.world_defs.specs.Packets.{source_in, group_in}
+use Rattle.mvpn_model.specs.Packets.{source_in, group_in}
 use Rattle.world_defs.specs.Refusals.{control_at, edge_of_vrf, refused_if, is_session_joined, is_selected, are_sessions_full, selection_limit, selections_at, refusal}
 use Rattle.world_defs.specs.Run.{Traced, outcome, Runs}
 use Rattle.world_defs.specs.World.{World, Datagram, scenario_of, clock_of}
@@ -59,7 +59,7 @@ use Rattle.rule_laws.proofs.Acts.{InStep, IsFit, IsFitEnter, act_in_step}
 use Rattle.std.proofs.lemmas.Option.{slice_get_within}
 use Rattle.scenario_defs.specs.declared.scenario.Node.{Node}
 use Rattle.world_defs.specs.Nodes.{is_edge}
-use Rattle.net_defs.specs.Sessions.{edges_from}
+use Rattle.mvpn_model.specs.Sessions.{edges_from}
 use Rattle.rule_laws.proofs.Raised.{bgp_up_is, IsPair, one_then, pair_raised, healed_in_step}
 use Rattle.rule_laws.proofs.Raises.{between}
 

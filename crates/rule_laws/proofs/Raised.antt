@@ -12,7 +12,7 @@ use Rattle.scenario_defs.specs.declared.scenario.Scenario.{Scenario}
 use Rattle.label_defs.specs.Steps as labels
 use Rattle.label_defs.specs.declared.end.End.{End}
 use Rattle.label_defs.proofs.KeyLemmas.{node_itself, node_apart}
-use Rattle.net_defs.specs.declared.session.Session.{Session}
+use Rattle.mvpn_model.specs.declared.session.Session.{Session}
 use Rattle.session_defs.specs.Message.{SessionMessage}
 use Rattle.session_defs.specs.Octets as octets
 use Rattle.session_defs.specs.Octets.{OctetNetwork, with_octets, with_step, octet_run}
@@ -22,7 +22,7 @@ use Rattle.session_defs.specs.declared.direction.Direction.{Direction}
 use Rattle.session_defs.proofs.Deliveries.{with_news, news_are}
 use Rattle.session_defs.proofs.Lines.{line_joined}
 use Rattle.edge_defs.specs.Steps as steps
-use Rattle.ready_laws.specs.Unready.{SessionsStand}
+use Rattle.mvpn_model.specs.Unready.{SessionsStand}
 use Rattle.ready_laws.proofs.ActsStand as stand
 use Rattle.ready_laws.proofs.ActsStand.{WorldStands, act_stand}
 use Rattle.ready_laws.proofs.Ends.{end_with}

@@ -21,8 +21,8 @@ use Rattle.scenario_defs.specs.declared.scenario.Scenario.{Scenario}
 use Rattle.mvpn_model.specs.Messages.{message_of}
 use Rattle.mvpn_model.specs.Packet.{packet}
 use Rattle.mvpn_model.specs.declared.message.Given.{Given}
-use Rattle.net_defs.specs.Sessions.{sessions}
-use Rattle.net_defs.specs.declared.session.Session.{Session}
+use Rattle.mvpn_model.specs.Sessions.{sessions}
+use Rattle.mvpn_model.specs.declared.session.Session.{Session}
 use Rattle.session_defs.specs.Octets as octets
 use Rattle.session_defs.specs.Octets.{OctetNetwork, octet_run}
 use Rattle.session_defs.specs.System.{Behind, Put, octets_over}
@@ -32,7 +32,7 @@ use Rattle.world_defs.specs.Acts.{Act, Tick, Timers, Move, Lose, Notice, RaiseFi
 use Rattle.world_defs.specs.Counts.{direction, directions, all_nodes, link_ways, is_joined, is_up as is_end}
 use Rattle.world_defs.specs.Events.{Happened, Outcome, Done, Halted, and_then, one_act, row, each, times, raise_acts, is_session_of, raises, notices, healed, turn, settled, landings, drain_round, sent, at_edge, with_message, done}
 use Rattle.world_defs.specs.Nodes.{Nodes}
-use Rattle.world_defs.specs.Packets.{source_in, group_in}
+use Rattle.mvpn_model.specs.Packets.{source_in, group_in}
 use Rattle.world_defs.specs.Refusals.{edge_of_vrf, refusal}
 use Rattle.world_defs.specs.Run.{Traced, traced, outcome, Runs}
 use Rattle.world_defs.specs.System.{Own, Elapse, Reset, system}

@@ -7,8 +7,8 @@ use Rattle.mv_base.specs.declared.ids.NodeId.{NodeId}
 use Rattle.mldp_fec.specs.declared.fec.Fec.{Fec}
 use Rattle.bgp_update.specs.Table.{changes_of}
 use Rattle.label_defs.proofs.KeyLemmas.{node_equal, node_itself}
-use Rattle.net_defs.specs.Sessions.{sessions}
-use Rattle.net_defs.specs.declared.session.Session.{Session}
+use Rattle.mvpn_model.specs.Sessions.{sessions}
+use Rattle.mvpn_model.specs.declared.session.Session.{Session}
 use Rattle.scenario_defs.specs.declared.event.Event.TheVariants as events
 use Rattle.scenario_defs.specs.declared.scenario.Scenario.{Scenario}
 use Rattle.selective_defs.specs.Selective.{Among}

@@ -30,7 +30,7 @@ use Rattle.label_defs.proofs.SettleLemmas.{bind_some}
 use Rattle.label_defs.proofs.MemberLemmas.{contains_in_order}
 use Rattle.label_laws.specs.Rounds as label_rounds
 use Rattle.label_laws.proofs.Answers.{PutsBelow, answers_below}
-use Rattle.net_defs.specs.Sessions.{edges}
+use Rattle.mvpn_model.specs.Sessions.{edges}
 use Rattle.selective_defs.specs.Selective.{Among}
 use Rattle.session_defs.specs.Message.{SessionMessage, Bgp, Label}
 use Rattle.session_defs.specs.System.{Put, Stepped}

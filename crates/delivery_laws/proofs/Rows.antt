@@ -1,6 +1,6 @@
 -- Rows of acts in a network whose nodes do not change: what was written and what is owed grows by what was let in.
 use Rattle.std.specs.Prelude.{⊤, replicate, sum_by}
-use Rattle.std.proofs.Common.{◌≡◌, ℕ, zero, suc, ◌+◌, ◌-◌, ◌≤◌, ◌++◌, length, List, [], ◌∷◌, Some, Ok, Err, Result, refl, sym, ap, subst, subst₂, append-nil, ◌∙◌, arith}
+use Rattle.std.proofs.Common.{◌≡◌, ℕ, zero, suc, ◌+◌, ◌≤◌, ◌++◌, length, List, [], ◌∷◌, Some, Ok, Err, Result, refl, sym, ap, subst, subst₂, append-nil, ◌∙◌, arith}
 use Rattle.std.specs.List.{flat_map, AllByRecursion}
 use Rattle.std.proofs.lemmas.List.Concat.{flat_map-append}
 use Rattle.std.proofs.lemmas.List.Sums.{sum_by-cons}

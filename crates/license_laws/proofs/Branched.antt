@@ -95,11 +95,11 @@ has_label octets units rest fec label each parts waits is =
     let p = pdus_of units each in (
       messages_of p.plain,
       AllWhole rest
-      (record {
-        begins = record { units = p.plain; each = p.each; parts = parts ∙ ap (λ (xs : List ℕ). xs ++ rest) p.octets; carried = refl };
-        no_unit = λ ms text after spells. no_unit kinds.Ldp rest waits (map (λ message. Label message) ms) text after (ms, refl, spells);
-      })
-      (no_pdu_fault rest waits.octets (by (pdu_front rest) refl waits.partial)),
+          (record {
+            begins = record { units = p.plain; each = p.each; parts = parts ∙ ap (λ (xs : List ℕ). xs ++ rest) p.octets; carried = refl };
+            no_unit = λ ms text after spells. no_unit kinds.Ldp rest waits (map (λ message. Label message) ms) text after (ms, refl, spells);
+          })
+          (no_pdu_fault rest waits.octets (by (pdu_front rest) refl waits.partial)),
       subst (λ (ms : List LabelMessage). IsMapped ms fec label) p.says is,
     )
   where

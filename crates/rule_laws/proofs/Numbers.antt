@@ -12,8 +12,9 @@ use Rattle.scenario_defs.specs.declared.event.Kind.TheVariants as kinds
 use Rattle.edge_defs.proofs.KeyLemmas.{pattern_total, pattern_exact}
 use Rattle.edge_defs.specs.Edge.{VrfPattern, pattern_cmp, Selected, Taken, Control, no_control}
 use Rattle.edge_defs.specs.Place.{EdgePlace}
+use Rattle.selective_defs.specs.Selective.{free_number}
 use Rattle.edge_defs.specs.Steps as steps
-use Rattle.edge_defs.specs.Steps.{is_used, free_number, selection_run, selections_run, taken_change, effect, is_vrf_step, refreshed, control_step}
+use Rattle.edge_defs.specs.Steps.{is_used, selection_run, selections_run, taken_change, effect, is_vrf_step, refreshed, control_step}
 use Rattle.world_laws.proofs.Lists.{each_map}
 use Rattle.world_laws.proofs.Maps.{Each, all_entries, made_meets, put_meets, cut_meets}
 
@@ -29,11 +30,11 @@ abbrev pub HasRoom : Control → steps.Call → Type 0
 HasRoom control (steps.Select vrf pattern) = maps.len control.selections < 1000000
 HasRoom control other = Unit {0}
 
-number_within : (vrf : VrfId) (entries : List (VrfPattern × Selected)) (count number : ℕ) → free_number vrf entries count number ≤ number + count
-number_within vrf entries zero number = omega arith
-number_within vrf entries (suc count) number =
-    let rest = number_within vrf entries count (number + 1) in
-    elim (list_any (is_used vrf number) entries) as (λ b. cond b (free_number vrf entries count (number + 1)) number ≤ number + suc count) [
+number_within : (used : ℕ → Bool) (count number : ℕ) → free_number used count number ≤ number + count
+number_within used zero number = omega arith
+number_within used (suc count) number =
+    let rest = number_within used count (number + 1) in
+    elim (used number) as (λ b. cond b (free_number used count (number + 1)) number ≤ number + suc count) [
       | true ↦ omega (arith, rest)
       | false ↦ omega arith
     ]
@@ -57,8 +58,9 @@ effect_numbers place now old (steps.Pim iface message) room h = h
 effect_numbers place now old (steps.Active iface source group) room h = h
 effect_numbers place now old (steps.Idle iface source group) room h = h
 effect_numbers place now old (steps.Select vrf pattern) room h =
-    let within = number_within vrf (maps.entries old.selections) (maps.len old.selections) 1 in
-    put_meets pattern_total pattern_exact IsSmall old.selections (record { vrf = vrf; pattern = pattern }) (record { number = free_number vrf (maps.entries old.selections) (maps.len old.selections) 1; since = now; run = false }) h (omega (arith, within, room))
+    let used = λ (number : ℕ). list_any (is_used vrf number) (maps.entries old.selections) in
+    let within = number_within used (maps.len old.selections) 1 in
+    put_meets pattern_total pattern_exact IsSmall old.selections (record { vrf = vrf; pattern = pattern }) (record { number = free_number used (maps.len old.selections) 1; since = now; run = false }) h (omega (arith, within, room))
 effect_numbers place now old (steps.Unselect vrf pattern) room h = cut_meets pattern_total pattern_exact IsSmall old.selections (record { vrf = vrf; pattern = pattern }) h
 effect_numbers place now old (steps.Raised kinds.Bgp peer) room h = h
 effect_numbers place now old (steps.Raised kinds.Ldp peer) room h = h

@@ -1,6 +1,6 @@
 -- What a call itself changes at an edge stays sound.
 use Rattle.std.proofs.Common.{◌≡◌, ℕ, false, map, Option, Some, None, refl, sym, ◌∙◌}
-use Rattle.std.specs.List.{AllByRecursion, fold}
+use Rattle.std.specs.List.{AllByRecursion, fold, list_any}
 use Rattle.std.specs.FinMap as maps
 use Rattle.std.specs.FinMap.{FinMap}
 use Rattle.std.specs.FinSet as sets
@@ -14,7 +14,8 @@ use Rattle.edge_defs.specs.Edge.{Note, VrfPattern, pattern_cmp, Selected, Taken,
 use Rattle.edge_defs.specs.Keys.{key_cmp}
 use Rattle.edge_defs.specs.Place.{EdgePlace}
 use Rattle.edge_defs.specs.Steps as steps
-use Rattle.edge_defs.specs.Steps.{taken_change, with_update, free_number, with_selection, selection_run, selections_run, route_run, taken_run, peers_run, timed, effect}
+use Rattle.selective_defs.specs.Selective.{free_number}
+use Rattle.edge_defs.specs.Steps.{taken_change, with_update, is_used, with_selection, selection_run, selections_run, route_run, taken_run, peers_run, timed, effect}
 use Rattle.world_laws.specs.Sound.{SoundPattern, SoundTaken, SoundControl}
 use Rattle.world_laws.specs.Honest.{IsSoundCall}
 use Rattle.world_laws.proofs.Lists.{each_map, each_weaker}
@@ -102,7 +103,7 @@ effect_sound place now old (steps.Idle iface source group) h heard = without_not
 effect_sound place now old (steps.Select vrf pattern) h heard =
     with_selections old (with_selection now vrf pattern old.selections) h
     (put_meets pattern_total pattern_exact SoundSelection old.selections (record { vrf = vrf; pattern = pattern })
-    (record { number = free_number vrf (maps.entries old.selections) (maps.len old.selections) 1; since = now; run = false }) h.selections heard)
+    (record { number = free_number (λ number. list_any (is_used vrf number) (maps.entries old.selections)) (maps.len old.selections) 1; since = now; run = false }) h.selections heard)
 effect_sound place now old (steps.Unselect vrf pattern) h heard =
     with_selections old (maps.remove old.selections (record { vrf = vrf; pattern = pattern })) h
     (cut_meets pattern_total pattern_exact SoundSelection old.selections (record { vrf = vrf; pattern = pattern }) h.selections)

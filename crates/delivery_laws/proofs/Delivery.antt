@@ -28,7 +28,7 @@ use Rattle.world_defs.proofs.Numbered.{numbered_at}
 use Rattle.delivery_laws.specs.Flood.{is_way, SoundCopy, OnLinks, owed_by, fates_in, written_of, lines_in, outs_in}
 use Rattle.delivery_laws.specs.Calm.{CalmWorld}
 use Rattle.delivery_laws.specs.Window.{AreOfWindow, WindowRun, AreDeliveredOnce}
-use Rattle.delivery_laws.specs.Once.{sent_by}
+use Rattle.delivery_laws.specs.Once.{brought_by}
 use Rattle.delivery_laws.proofs.Totals.{count-append}
 use Rattle.delivery_laws.proofs.Copies.{EachCopy}
 use Rattle.delivery_laws.proofs.Trees.{sum-zero}
@@ -142,12 +142,12 @@ came old timed acts next e = by (refusal old timed.event) e
         record { is = inr (reason, (let same : first ≡ acts = cc in same), (let world : old ≡ next = cc in world)) }
 
 -- the datagrams behind an event
-pub done_sends : (old : World) (event : Event) (acts : List Happened) (next : World) → done old event ≡ Done acts next → next.datagrams ≡ old.datagrams ++ sent_by event
+pub done_sends : (old : World) (event : Event) (acts : List Happened) (next : World) → done old event ≡ Done acts next → next.datagrams ≡ old.datagrams ++ brought_by event
 done_sends old event acts next e =
-    let all = old.datagrams ++ sent_by event in
+    let all = old.datagrams ++ brought_by event in
     (subst (Leads (λ l. ⊤) (Sent all)) e (event_leads (λ l. ⊤) any_lines (Sent all) (Sent all) (λ one k world s. act_sent all one world s) (λ one k world s. act_sent all one world s) (λ world s. s) old event (before event))).1
   where
-    before : (one : Event) → Before (λ l. ⊤) any_lines (Sent (old.datagrams ++ sent_by one)) (Sent (old.datagrams ++ sent_by one)) (λ a k world s. act_sent (old.datagrams ++ sent_by one) a world s) (λ a k world s. act_sent (old.datagrams ++ sent_by one) a world s) (λ world s. s) old one
+    before : (one : Event) → Before (λ l. ⊤) any_lines (Sent (old.datagrams ++ brought_by one)) (Sent (old.datagrams ++ brought_by one)) (λ a k world s. act_sent (old.datagrams ++ brought_by one) a world s) (λ a k world s. act_sent (old.datagrams ++ brought_by one) a world s) (λ world s. s) old one
     before (events.Send site source group payload) = refl
     before (events.Packet site octets) = refl
     before other = sym (append-nil old.datagrams)
@@ -158,15 +158,15 @@ not_fewer [] old start trace new run = (let same = ap (λ (w : World). length w.
 not_fewer (timed ∷ more) old start trace new run =
     let rest = not_fewer more run.1 (start + 1) run.2 new run.5 in
     elim (came old timed run.0 run.1 run.3).is [
-      | inl is ↦ (let long = ap (λ (d : List Datagram). length d) (done_sends old timed.event run.0 run.1 is) in omega (arith, rest, long, length-append old.datagrams (sent_by timed.event)))
+      | inl is ↦ (let long = ap (λ (d : List Datagram). length d) (done_sends old timed.event run.0 run.1 is) in omega (arith, rest, long, length-append old.datagrams (brought_by timed.event)))
       | inr r ↦ (let same = ap (λ (w : World). length w.datagrams) r.2 in omega (arith, rest, same))
     ]
 
 module _ (number : ℕ) (iface : IfaceId) where
-  before_silent : (world : World) (event : Event) → Silent number iface world → (length world.datagrams < length (world.datagrams ++ sent_by event) → length (world.datagrams ++ sent_by event) ≢ number)
+  before_silent : (world : World) (event : Event) → Silent number iface world → (length world.datagrams < length (world.datagrams ++ brought_by event) → length (world.datagrams ++ brought_by event) ≢ number)
       → Before (WritesNothing number iface) (write_nothing number iface) (Silent number iface) (Entering number iface) (act_silent number iface) (entry_silent number iface) (λ w s. s.silent) world event
-  before_silent world (events.Send site source group payload) s h = record { not_last = h (omega (arith, length-append world.datagrams (sent_by (events.Send site source group payload)))); silent = record { no_copy = s.no_copy } }
-  before_silent world (events.Packet site octets) s h = record { not_last = h (omega (arith, length-append world.datagrams (sent_by (events.Packet site octets)))); silent = record { no_copy = s.no_copy } }
+  before_silent world (events.Send site source group payload) s h = record { not_last = h (omega (arith, length-append world.datagrams (brought_by (events.Send site source group payload)))); silent = record { no_copy = s.no_copy } }
+  before_silent world (events.Packet site octets) s h = record { not_last = h (omega (arith, length-append world.datagrams (brought_by (events.Packet site octets)))); silent = record { no_copy = s.no_copy } }
   before_silent world other s h = s
 
   -- A datagram without copies that is not sent among these events leaves nowhere.
@@ -175,7 +175,7 @@ module _ (number : ℕ) (iface : IfaceId) where
   silent_runs (timed ∷ more) old start trace new s side run =
       let acts = run.0 in
       let next = run.1 in
-      let all = old.datagrams ++ sent_by timed.event in
+      let all = old.datagrams ++ brought_by timed.event in
       ap (λ (t : List Traced). outs_at (report_of t) number iface) run.4 ∙ elim (came old timed acts next run.3).is [
         | inl is ↦
             let sent : next.datagrams ≡ all = done_sends old timed.event acts next is in
@@ -185,7 +185,7 @@ module _ (number : ℕ) (iface : IfaceId) where
             let leads = subst (Leads (WritesNothing number iface) (Silent number iface)) is
             (event_leads (WritesNothing number iface) (write_nothing number iface) (Silent number iface) (Entering number iface) (act_silent number iface) (entry_silent number iface) (λ w x. x.silent) old timed.event (before_silent old timed.event s not_last)) in
             let none = leads.0 in
-            let rest = silent_runs more next (start + 1) run.2 new leads.1 (⊎_elim (λ le. inl (omega (arith, le, long, length-append old.datagrams (sent_by timed.event)))) (λ gt. inr gt) side) run.5 in
+            let rest = silent_runs more next (start + 1) run.2 new leads.1 (⊎_elim (λ le. inl (omega (arith, le, long, length-append old.datagrams (brought_by timed.event)))) (λ gt. inr gt) side) run.5 in
             omega (arith, outs_first start acts run.2 number iface, none, rest)
         | inr r ↦
             let none : outs_in number iface (lines_in acts) ≡ 0 = ap (λ (a : List Happened). outs_in number iface (lines_in a)) (sym r.1) in

@@ -26,13 +26,13 @@ use Rattle.world_defs.specs.Events.{Done, row, each, times, raise_acts, raises, 
 use Rattle.mvpn_model.specs.Packets.{source_in, group_in}
 use Rattle.world_defs.specs.Refusals.{edge_of_vrf}
 use Rattle.world_defs.specs.World.{World, scenario_of}
-use Rattle.delivery_laws.specs.Once.{sent_by}
+use Rattle.delivery_laws.specs.Once.{brought_by}
 use Rattle.delivery_laws.proofs.Outcomes.{IsOfLines, Leads, Gives, leads_as, then_leads, row_leads, each_leads, times_leads}
 use Rattle.world_laws.proofs.Lists.{each_append}
 
 -- the network with the datagrams that the event sends
 abbrev pub begun : World → Event → World
-begun world event = record world { datagrams = world.datagrams ++ sent_by event }
+begun world event = record world { datagrams = world.datagrams ++ brought_by event }
 
 -- an act that lets no datagram in
 abbrev pub IsNoEntry : Act → Type 0

@@ -34,7 +34,7 @@ use Rattle.ready_laws.proofs.Ends.{Holds}
 abbrev OfFront : Kind → Front SessionMessage SessionFault → Type 0
 OfFront kind more = ⊤
 OfFront kind (whole count messages) = AllByRecursion (IsOf kind) messages
-OfFront kind (bad offset reason) = ⊤
+OfFront kind (bad messages offset reason) = AllByRecursion (IsOf kind) messages
 
 bgp_of : (list : List Message) → AllByRecursion (IsOf kinds.Bgp) (map (λ message. Bgp message) list)
 bgp_of [] = tt
@@ -50,13 +50,13 @@ front_is_of kinds.Bgp bytes = by (message_front bytes)
     by : (f : Front Message StreamFault) → OfFront kinds.Bgp (as_front (λ message. Bgp message) (λ fault. BgpFault fault) f)
     by more = tt
     by (whole count messages) = bgp_of messages
-    by (bad offset reason) = tt
+    by (bad messages offset reason) = bgp_of messages
 front_is_of kinds.Ldp bytes = by (pdu_front bytes)
   where
     by : (f : Front LabelMessage LdpFault) → OfFront kinds.Ldp (as_front (λ message. Label message) (λ fault. LabelFault fault) f)
     by more = tt
     by (whole count messages) = label_of messages
-    by (bad offset reason) = tt
+    by (bad messages offset reason) = label_of messages
 
 cut_is_of : (kind : Kind) (place passed : ℕ) (bytes : List ℕ) → AllByRecursion (IsOf kind) (cut_at (front_of kind) place passed bytes).messages
 unfolding cut_at
@@ -68,11 +68,11 @@ cut_is_of kind place zero (b ∷ bs) = by (front_of kind (b ∷ bs)) (front_is_o
         → AllByRecursion (IsOf kind) (elim f as (λ x. Cut SessionMessage SessionFault) [
           | more ↦ record { messages = []; rest = b ∷ bs; fault = None }
           | whole n ms ↦ (let c = cut_at (front_of kind) (place + 1) (n - 1) bs in record { messages = ms ++ c.messages; rest = c.rest; fault = c.fault })
-          | bad offset e ↦ record { messages = []; rest = b ∷ bs; fault = Some (place + offset, e) }
+          | bad ms offset e ↦ record { messages = ms; rest = b ∷ bs; fault = Some (place + offset, e) }
         ]).messages
     by more h rest = tt
     by (whole count messages) h rest = each_append (IsOf kind) messages (cut_at (front_of kind) (place + 1) (count - 1) bs).messages h (rest count)
-    by (bad offset reason) h rest = tt
+    by (bad messages offset reason) h rest = h
 
 fed_is_of : (kind : Kind) (stream : Stream) (piece : List ℕ) → AllByRecursion (IsOf kind) stream.waiting → AllByRecursion (IsOf kind) (fed (front_of kind) stream piece).waiting
 fed_is_of kind stream piece h = by stream.fault

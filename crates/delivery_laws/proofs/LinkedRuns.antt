@@ -10,14 +10,15 @@ use Rattle.scenario_defs.specs.declared.event.Kind.TheVariants as kinds
 use Rattle.scenario_defs.specs.declared.report.ReportLine.{ReportLine}
 use Rattle.scenario_defs.specs.declared.report.ReportLine.TheVariants as lines
 use Rattle.scenario_defs.specs.declared.scenario.Scenario.{Scenario}
-use Rattle.session_defs.specs.Message.{same_kind}
+use Rattle.scenario_defs.specs.Kinds.{same_kind}
 use Rattle.session_defs.specs.Octets as octets
 use Rattle.session_defs.specs.Octets.{OctetNetwork, OctetAct}
 use Rattle.session_defs.specs.System.{Behind}
 use Rattle.session_defs.specs.declared.direction.Direction.{Direction}
 use Rattle.edge_defs.specs.Steps as steps
 use Rattle.world_defs.specs.Acts.{Act, Tick, Timers, Move, Lose, Notice, RaiseFirst, RaiseSecond, Restart, At, Enter, Land, Drop, Tell, Acted, act, with_network, at_node, is_of_session, is_at, leads_to, is_from_peer, with_aged}
-use Rattle.world_defs.specs.Counts.{direction, is_between, link_ways}
+use Rattle.mvpn_model.specs.Sessions.{is_between}
+use Rattle.world_defs.specs.Counts.{direction, link_ways}
 use Rattle.world_defs.specs.Nodes.{Nodes}
 use Rattle.world_defs.specs.System.{NodeCall, Own, Elapse, Reset, system}
 use Rattle.world_defs.specs.World.{World, Datagram, scenario_of, clock_of}

@@ -14,8 +14,8 @@ use Rattle.scenario_defs.specs.declared.event.Script.{Script}
 use Rattle.scenario_defs.specs.declared.event.Timed.{Timed}
 use Rattle.scenario_defs.specs.declared.report.ReportLine.TheVariants as lines
 use Rattle.scenario_defs.specs.declared.scenario.Scenario.{Scenario}
-use Rattle.mvpn_model.specs.Once.{EndsWindow, IsWindow, past_at}
-use Rattle.mvpn_model.specs.Report.{refused_lines, outs_at}
+use Rattle.mvpn_model.specs.Once.{EndsWindow, IsWindow, past_at, Once}
+use Rattle.mvpn_model.specs.Report.{Datagram as Accepted, datagrams, refused_lines, outs_at}
 use Rattle.session_defs.specs.Octets.{OctetNetwork}
 use Rattle.edge_defs.specs.Place.{Core}
 use Rattle.world_defs.specs.Counts.{state_line, link_ways, all_copies}
@@ -25,7 +25,7 @@ use Rattle.world_defs.specs.Run.{Traced, outcome, report_of, Runs, Run, IsDraine
 use Rattle.world_defs.specs.World.{World, Datagram, start, scenario_of}
 use Rattle.delivery_laws.specs.Calm.{CalmWorld}
 use Rattle.delivery_laws.specs.Flood.{OnLinks, SoundCopy, AreSound}
-use Rattle.delivery_laws.specs.Once.{Sending, sendings, receives_by, Once, ZerosAreCalm, FlowsAreCalm, ChoicesAreCalm}
+use Rattle.delivery_laws.specs.Once.{in_network, receives_by, ZerosAreCalm, FlowsAreCalm, ChoicesAreCalm}
 use Rattle.delivery_laws.proofs.Choice.{calm_flow}
 use Rattle.delivery_laws.specs.Linked.{LinksOnce}
 use Rattle.delivery_laws.proofs.LinksOnce.{links_once}
@@ -37,7 +37,7 @@ use Rattle.delivery_laws.proofs.Rows.{Ready}
 use Rattle.delivery_laws.proofs.Drains.{IsEmpty, drain_empties}
 use Rattle.delivery_laws.proofs.Accepted.{TellsAccepted, tells_accepted}
 use Rattle.delivery_laws.proofs.Splits.{cut_at, take_to, get_first, get_behind, all_from_places, runs_split, runs_join, long_take, take_two, cut_in_two}
-use Rattle.delivery_laws.proofs.Sendings.{datagrams_of, runs_send, IsWithin, sendings_within, sendings_both, tells_first, tells_later, IsWindowIf, are_of_window, tell_same, window_standing, same_receivers}
+use Rattle.delivery_laws.proofs.Sendings.{in_networks, runs_send, IsWithin, datagrams_within, datagrams_both, tells_first, tells_later, IsWindowIf, are_of_window, tell_same, window_standing, window_noted, same_receivers}
 use Rattle.delivery_laws.proofs.Told.{state_acts, state_at}
 use Rattle.delivery_laws.proofs.Delivery.{drained_empty, ready_calm, windowed, delivered_once}
 use Rattle.calm_laws.proofs.Maps.{none_of_length}
@@ -95,7 +95,7 @@ module _ (core : Core) (script : Script) (events : List Timed) (trace : List Tra
     long : length (take first events) ≡ first
     count : first + length within ≡ last + 1
 
-  module _ (rises : Rises 0 events) (zeros : ZerosAreCalm core script events) (first last : ℕ) (window : IsWindow events (report_of trace) first last) (some : first ≤ last) where
+  module _ (rises : Rises 0 events) (zeros : ZerosAreCalm core script events) (first last : ℕ) (window : IsWindow events (refused_lines (report_of trace)) (report_of trace) first last) (some : first ≤ last) where
     end : (timed : Timed) × (slice_get events last ≡ Some timed)
     end = end_at events trace last window.closes
 
@@ -128,7 +128,7 @@ module _ (core : Core) (script : Script) (events : List Timed) (trace : List Tra
         }
 
   -- What holds of a window, given where it is cut.
-  module _ (rises : Rises 0 events) (zeros : ZerosAreCalm core script events) (first last : ℕ) (window : IsWindow events (report_of trace) first last) (some : first ≤ last) (c : Cut first last) where
+  module _ (rises : Rises 0 events) (zeros : ZerosAreCalm core script events) (first last : ℕ) (window : IsWindow events (refused_lines (report_of trace)) (report_of trace) first last) (some : first ≤ last) (c : Cut first last) where
     abbrev all_refused : List ℕ
     all_refused = refused_lines (report_of trace)
 
@@ -240,50 +240,50 @@ module _ (core : Core) (script : Script) (events : List Timed) (trace : List Tra
 
     -- ---- the datagrams
 
-    sendings_are : sendings all_refused 0 events ≡ sendings all_refused 0 before ++ (sendings all_refused first c.within ++ sendings all_refused (first + length c.within) c.after)
-    sendings_are =
+    datagrams_are_those : datagrams all_refused 0 events ≡ datagrams all_refused 0 before ++ (datagrams all_refused first c.within ++ datagrams all_refused (first + length c.within) c.after)
+    datagrams_are_those =
         let long = c.long in
-        ap (sendings all_refused 0) c.events_are
-        ∙ sendings_both all_refused before (c.within ++ c.after) 0 first (omega (arith, long))
-        ∙ ap (λ (l : List Sending). sendings all_refused 0 before ++ l) (sendings_both all_refused c.within c.after first (first + length c.within) refl)
+        ap (datagrams all_refused 0) c.events_are
+        ∙ datagrams_both all_refused before (c.within ++ c.after) 0 first (omega (arith, long))
+        ∙ ap (λ (l : List Accepted). datagrams all_refused 0 before ++ l) (datagrams_both all_refused c.within c.after first (first + length c.within) refl)
 
-    calm_datagrams : c.calm.datagrams ≡ datagrams_of (sendings all_refused 0 before)
+    calm_datagrams : c.calm.datagrams ≡ in_networks (datagrams all_refused 0 before)
     calm_datagrams = runs_send all_refused before begin 0 c.early c.calm tells_before c.begins
 
-    end_datagrams : c.end.datagrams ≡ c.calm.datagrams ++ datagrams_of (sendings all_refused first c.within)
+    end_datagrams : c.end.datagrams ≡ c.calm.datagrams ++ in_networks (datagrams all_refused first c.within)
     end_datagrams = runs_send all_refused c.within c.calm first c.middle c.end tells_within c.goes_on
 
     -- a datagram that was accepted in the window is one of those that were sent in it
-    sent_in_window : (place : ℕ) (sending : Sending) → slice_get (sendings all_refused 0 events) place ≡ Some sending → first ≤ sending.event → sending.event ≤ last → (length c.calm.datagrams ≤ place) × (slice_get c.end.datagrams place ≡ Some sending.datagram)
-    sent_in_window place sending at low high =
-        let s0 = sendings all_refused 0 before in
-        let s1 = sendings all_refused first c.within in
-        let s2 = sendings all_refused (first + length c.within) c.after in
+    sent_in_window : (place : ℕ) (accepted : Accepted) → slice_get (datagrams all_refused 0 events) place ≡ Some accepted → first ≤ accepted.event → accepted.event ≤ last → (length c.calm.datagrams ≤ place) × (slice_get c.end.datagrams place ≡ Some (in_network accepted))
+    sent_in_window place accepted at low high =
+        let s0 = datagrams all_refused 0 before in
+        let s1 = datagrams all_refused first c.within in
+        let s2 = datagrams all_refused (first + length c.within) c.after in
         let long = c.long in
         let count = c.count in
-        let whole : slice_get (s0 ++ (s1 ++ s2)) place ≡ Some sending = ap (λ (l : List Sending). slice_get l place) (sym sendings_are) ∙ at in
-        let sizes : length c.calm.datagrams ≡ length s0 = ap (λ (l : List Datagram). length l) calm_datagrams ∙ length_map (λ (s : Sending). s.datagram) s0 in
+        let whole : slice_get (s0 ++ (s1 ++ s2)) place ≡ Some accepted = ap (λ (l : List Accepted). slice_get l place) (sym datagrams_are_those) ∙ at in
+        let sizes : length c.calm.datagrams ≡ length s0 = ap (λ (l : List Datagram). length l) calm_datagrams ∙ length_map (λ (s : Accepted). in_network s) s0 in
         elim (cases_lt place (length s0)) [
           | inl lt ↦
-              let in_first = all_at (IsWithin 0 first) s0 place sending (sendings_within all_refused before 0 0 first (omega arith) (omega (arith, long))) (sym (get_first s0 (s1 ++ s2) place lt) ∙ whole) in
+              let in_first = all_at (IsWithin 0 first) s0 place accepted (datagrams_within all_refused before 0 0 first (omega arith) (omega (arith, long))) (sym (get_first s0 (s1 ++ s2) place lt) ∙ whole) in
               let early = in_first.1 in
               absurd (omega (arith, early, low))
           | inr le ↦
-              let behind : slice_get (s1 ++ s2) (place - length s0) ≡ Some sending = sym (get_behind s0 (s1 ++ s2) place le) ∙ whole in
+              let behind : slice_get (s1 ++ s2) (place - length s0) ≡ Some accepted = sym (get_behind s0 (s1 ++ s2) place le) ∙ whole in
               elim (cases_lt (place - length s0) (length s1)) [
                 | inl lt ↦
-                    let own : slice_get s1 (place - length s0) ≡ Some sending = sym (get_first s1 s2 (place - length s0) lt) ∙ behind in
+                    let own : slice_get s1 (place - length s0) ≡ Some accepted = sym (get_first s1 s2 (place - length s0) lt) ∙ behind in
                     let shift : place - length c.calm.datagrams ≡ place - length s0 = ap (λ n. place - n) sizes in (
                       omega (arith, sizes, le),
                       ap (λ (l : List Datagram). slice_get l place) end_datagrams
-                          ∙ get_behind c.calm.datagrams (datagrams_of s1) place (omega (arith, sizes, le))
-                          ∙ ap (slice_get (datagrams_of s1)) shift
-                          ∙ slice_get-map (λ (s : Sending). s.datagram) s1 (place - length s0)
-                          ∙ ap (option_map (λ (s : Sending). s.datagram)) own,
+                          ∙ get_behind c.calm.datagrams (in_networks s1) place (omega (arith, sizes, le))
+                          ∙ ap (slice_get (in_networks s1)) shift
+                          ∙ slice_get-map (λ (s : Accepted). in_network s) s1 (place - length s0)
+                          ∙ ap (option_map (λ (s : Accepted). in_network s)) own,
                     )
                 | inr more ↦
-                    let late : slice_get s2 (place - length s0 - length s1) ≡ Some sending = sym (get_behind s1 s2 (place - length s0) more) ∙ behind in
-                    let in_last = all_at (IsWithin (first + length c.within) (first + length c.within + length c.after)) s2 (place - length s0 - length s1) sending (sendings_within all_refused c.after (first + length c.within) (first + length c.within) (first + length c.within + length c.after) (omega arith) (omega arith)) late in
+                    let late : slice_get s2 (place - length s0 - length s1) ≡ Some accepted = sym (get_behind s1 s2 (place - length s0) more) ∙ behind in
+                    let in_last = all_at (IsWithin (first + length c.within) (first + length c.within + length c.after)) s2 (place - length s0 - length s1) accepted (datagrams_within all_refused c.after (first + length c.within) (first + length c.within) (first + length c.within + length c.after) (omega arith) (omega arith)) late in
                     let after = in_last.0 in
                     absurd (omega (arith, after, high, count))
               ]
@@ -291,30 +291,33 @@ module _ (core : Core) (script : Script) (events : List Timed) (trace : List Tra
 
     -- ---- the receivers
 
-    still_receives : (number : ℕ) → first ≤ number → number ≤ last → (site : SiteId) (source group : Addr) (iface : IfaceId) → receives site source group iface ≡ receives_by (past_at script.scenario events (report_of trace) number) site source group iface
+    still_receives : (number : ℕ) → first ≤ number → number ≤ last → (site : SiteId) (source group : Addr) (iface : IfaceId) → receives site source group iface ≡ receives_by (past_at script.scenario events all_refused number) site source group iface
     still_receives number low high site source group iface =
         let k = number - first in
         let count = c.count in
+        let told = tell_same early_refused all_refused before begin 0 c.early c.calm tells_early tells_before c.begins in
+        let still : (k : ℕ) → AllByRecursion (IsWindowIf all_refused) (take k c.within) = λ k. all_take (IsWindowIf all_refused) k c.within all_window in
         let place : first + k ≡ number = omega (arith, low) in
         let prefix : take number events ≡ before ++ take k c.within = ap (λ n. take n events) (sym place) ∙ take_two first k events ∙ ap (λ (l : List Timed). before ++ take k l) c.post_is ∙ ap (λ (l : List Timed). before ++ l) (take_within k c.within c.after (omega (arith, low, high, count))) in
         same_receivers script.scenario before (before ++ take k c.within) early_refused all_refused
-        (λ own entry. window_standing script.scenario own entry early_refused all_refused before (take k c.within) (tell_same early_refused all_refused before begin 0 c.early c.calm tells_early tells_before c.begins) (all_take (IsWindowIf all_refused) k c.within all_window))
+        (λ own entry. window_standing script.scenario own entry early_refused all_refused before (take k c.within) told (still k))
+        (λ own s g. window_noted script.scenario own s g early_refused all_refused before (take k c.within) told (still k))
         site source group iface
         ∙ ap (λ (l : List Timed). receives_by (record { scenario = script.scenario; events = l; refused = all_refused }) site source group iface) (sym prefix)
 
-    window_once : (place : ℕ) (sending : Sending) → slice_get (sendings all_refused 0 events) place ≡ Some sending → first ≤ sending.event → sending.event ≤ last
-        → (iface : IfaceId) → outs_at (report_of trace) (place + 1) iface ≡ (if receives_by (past_at script.scenario events (report_of trace) sending.event) sending.datagram.site sending.datagram.source sending.datagram.group iface then 1 else 0)
-    window_once place sending at low high iface =
-        let s = sent_in_window place sending at low high in
-        delivered_once receives core script before c.within c.after trace c.calm c.end new window_run place sending.datagram iface s.0 s.1
-        ∙ ap (λ (b : Bool). if b then 1 else 0) (still_receives sending.event low high sending.datagram.site sending.datagram.source sending.datagram.group iface)
+    window_once : (place : ℕ) (accepted : Accepted) → slice_get (datagrams all_refused 0 events) place ≡ Some accepted → first ≤ accepted.event → accepted.event ≤ last
+        → (iface : IfaceId) → outs_at (report_of trace) (place + 1) iface ≡ (if receives_by (past_at script.scenario events all_refused accepted.event) accepted.site accepted.source accepted.group iface then 1 else 0)
+    window_once place accepted at low high iface =
+        let s = sent_in_window place accepted at low high in
+        delivered_once receives core script before c.within c.after trace c.calm c.end new window_run place (in_network accepted) iface s.0 s.1
+        ∙ ap (λ (b : Bool). if b then 1 else 0) (still_receives accepted.event low high accepted.site accepted.source accepted.group iface)
 
 -- ---- the whole
 
-pub once : (core : Core) (script : Script) (events : List Timed) (trace : List Traced) (new : World) → Rises 0 events → ZerosAreCalm core script events → Run core script events trace new → Once script.scenario events (report_of trace)
-once core script events trace new rises zeros run first last window place sending at low high iface =
+pub once : (core : Core) (script : Script) (events : List Timed) (trace : List Traced) (new : World) → Rises 0 events → ZerosAreCalm core script events → Run core script events trace new → Once script.scenario events (refused_lines (report_of trace)) (report_of trace)
+once core script events trace new rises zeros run first last window place accepted at low high iface =
     let some : first ≤ last = omega (arith, low, high) in
-    window_once core script events trace new run rises zeros first last window some (cut core script events trace new run rises zeros first last window some) place sending at low high iface
+    window_once core script events trace new run rises zeros first last window some (cut core script events trace new run rises zeros first last window some) place accepted at low high iface
 
 -- Where flows are calm, the network is: no copy is on a link, and branches lead along links, in every run.
 zeros_are_calm : (core : Core) (script : Script) (events : List Timed) → LinksOnce script.scenario → FlowsAreCalm core script events → ZerosAreCalm core script events
@@ -327,13 +330,13 @@ zeros_are_calm core script events links flows count trace world run zeros =
       flows = flows count trace world run zeros;
     }
 
-pub calm_flows_once : (core : Core) (script : Script) (events : List Timed) (trace : List Traced) (new : World) → Rules script.scenario → Rises 0 events → FlowsAreCalm core script events → Run core script events trace new → Once script.scenario events (report_of trace)
+pub calm_flows_once : (core : Core) (script : Script) (events : List Timed) (trace : List Traced) (new : World) → Rules script.scenario → Rises 0 events → FlowsAreCalm core script events → Run core script events trace new → Once script.scenario events (refused_lines (report_of trace)) (report_of trace)
 calm_flows_once core script events trace new rules rises flows run = once core script events trace new rises (zeros_are_calm core script events (links_once script.scenario rules) flows) run
 
 pub copies_sound : (core : Core) (script : Script) (events : List Timed) (trace : List Traced) (new : World) → Rules script.scenario → Run core script events trace new → OnLinks new.network × AreSound script.scenario new
 copies_sound core script events trace new rules run = (let l = run_is_linked core script events trace new (links_once script.scenario rules) run in (on_links script.scenario new l, l.sound))
 
-pub calm_choices_once : (core : Core) (script : Script) (events : List Timed) (trace : List Traced) (new : World) → Rules script.scenario → Rises 0 events → ChoicesAreCalm core script events → Run core script events trace new → Once script.scenario events (report_of trace)
+pub calm_choices_once : (core : Core) (script : Script) (events : List Timed) (trace : List Traced) (new : World) → Rules script.scenario → Rises 0 events → ChoicesAreCalm core script events → Run core script events trace new → Once script.scenario events (refused_lines (report_of trace)) (report_of trace)
 calm_choices_once core script events trace new rules rises choices run =
     calm_flows_once core script events trace new rules rises
     (λ count early world before zeros datagram. calm_flow world.network (receives_by (record { scenario = script.scenario; events = take count events; refused = refused_lines (report_of early) }) datagram.site datagram.source datagram.group) datagram (choices count early world before zeros datagram))

@@ -2,10 +2,15 @@
 use Rattle.std.proofs.Common.{◌≡◌, ◌≢◌, ℕ, Bool, true, false, map, List, [], ◌∷◌, ◌++◌, refl, sym, ap, subst, ◌∙◌}
 use Rattle.std.specs.FinSet as sets
 use Rattle.mv_base.specs.declared.ids.NodeId.{NodeId}
-use Rattle.framing.specs.Units.{Spelled, octets_of, messages_of, AreUnits, NoUnit}
+use Rattle.framing.specs.Cut.{Front}
+use Rattle.framing.specs.Cut.Front.{more, whole, bad}
+use Rattle.framing.specs.Cut.Yields.{sound as AllWhole}
+use Rattle.framing.specs.Units.{Spelled, octets_of, messages_of, AreUnits}
 use Rattle.mldp_fec.specs.declared.fec.Fec.{Fec}
 use Rattle.mldp_msgs.specs.Labels.{IsMapped, HasLabel}
+use Rattle.mldp_msgs.specs.Reading.{pdu_front}
 use Rattle.mldp_msgs.specs.Spelling.{SpellsPdu}
+use Rattle.mldp_msgs.specs.declared.fault.LdpFault.{LdpFault}
 use Rattle.mldp_msgs.specs.declared.message.LabelMessage.{LabelMessage}
 use Rattle.mldp_msgs.specs.declared.message.LabelMessage.TheVariants as messages
 use Rattle.scenario_defs.specs.declared.event.Kind.{Kind}
@@ -13,7 +18,7 @@ use Rattle.scenario_defs.specs.declared.event.Kind.TheVariants as kinds
 use Rattle.scenario_defs.specs.declared.report.ReportLine.TheVariants as lines
 use Rattle.scenario_defs.specs.declared.scenario.Scenario.{Scenario}
 use Rattle.label_defs.specs.declared.branch.Branch.{Branch}
-use Rattle.session_defs.specs.Message.{SessionMessage, Label, Spells}
+use Rattle.session_defs.specs.Message.{SessionMessage, Label, LabelFault, as_front, Spells}
 use Rattle.world_defs.specs.Counts.{direction, is_up as is_end}
 use Rattle.world_defs.specs.LabelRule.{part_at}
 use Rattle.world_defs.specs.Local.{is_up_in, taken_since, MayHop}
@@ -24,9 +29,10 @@ use Rattle.edge_defs.specs.Place.{Core}
 use Rattle.rule_laws.specs.Labels.{labels_in}
 use Rattle.rule_laws.proofs.Acts.{InStep}
 use Rattle.rule_laws.proofs.Puts.{labels_both}
-use Rattle.rule_laws.proofs.Full.{labels_map}
+use Rattle.rule_laws.proofs.Full.{labels_map, no_pdu_fault}
 use Rattle.license_laws.proofs.Also.{KeepsAlso, refused_step}
 use Rattle.license_laws.proofs.Branches.{Mapped, mapped_follower}
+use Rattle.license_laws.proofs.Heard.{Waits, no_unit}
 use Rattle.license_laws.proofs.Hearing.{Heard, single_heard, heard_more, still_effect}
 use Rattle.license_laws.proofs.Hears.{Follower}
 use Rattle.license_laws.proofs.Raising.{pair_heard}
@@ -43,7 +49,7 @@ module _ (kind : Kind) (P : NodeId → List SessionMessage → NodeState → Typ
     single = λ before number world one acted s sound fit e t k l from to. single_heard kind from to (P from) (f from to) scenario before number world k s (l from to) one acted sound fit e;
     pair = λ before number world session first second declared s off back e g t k l from to.
         pair_heard kind from to (P from) (f from to) scenario before number world session first second k (first_taking scenario before number world session first declared s.2.base.sound.same e k) (l from to) e g declared.pair.apart (λ ne end. down world s from to ne end) off back;
-    accepted = λ before world datagram s k l from to. (let h = l from to in record { up = h.up; heard = λ u. (let x = h.heard u in record { units = x.units; each = x.each; parts = x.parts; no_unit = x.no_unit; holds = x.holds }); silent = h.silent });
+    accepted = λ before world datagram s k l from to. (let h = l from to in record { up = h.up; heard = λ u. (let x = h.heard u in record { units = x.units; each = x.each; parts = x.parts; waits = x.waits; holds = x.holds }); silent = h.silent });
     refused = λ before number world line reason k l from to.
         let x = still_effect kind from to (P from) (f from to) world world (lines.Refused line reason ∷ []) refl refl in
         heard_more kind from to (P from) (f from to) before world world (refused_step number line reason) refl refl (λ off. refl) (λ j. j) x.hears (λ d p. p) (l from to);
@@ -83,18 +89,24 @@ pdus_of (unit ∷ units) are =
       says = labels_both unit.messages (messages_of units) ∙ (λ i. (ap labels_in are.0.1 ∙ labels_map are.0.0) i ++ rest.says i);
     }
 
--- Whole units that carry what maps a label, and then no whole unit: the octets leave it mapped.
-pub has_label : (octets : List ℕ) (units : List (Spelled SessionMessage)) (rest : List ℕ) (fec : Fec) (label : ℕ) → AreUnits (Spells kinds.Ldp) units → octets ≡ octets_of units ++ rest → NoUnit (Spells kinds.Ldp) rest → IsMapped (labels_in (messages_of units)) fec label → HasLabel octets fec label
-has_label octets units rest fec label each parts none is =
+-- Whole units that carry what maps a label, and then less than a unit: the octets leave it mapped.
+pub has_label : (octets : List ℕ) (units : List (Spelled SessionMessage)) (rest : List ℕ) (fec : Fec) (label : ℕ) → AreUnits (Spells kinds.Ldp) units → octets ≡ octets_of units ++ rest → Waits kinds.Ldp rest → IsMapped (labels_in (messages_of units)) fec label → HasLabel octets fec label
+has_label octets units rest fec label each parts waits is =
     let p = pdus_of units each in (
       messages_of p.plain,
-      rest,
-      record {
+      AllWhole rest
+      (record {
         begins = record { units = p.plain; each = p.each; parts = parts ∙ ap (λ (xs : List ℕ). xs ++ rest) p.octets; carried = refl };
-        no_unit = λ ms text after spells. none (map (λ message. Label message) ms) text after (ms, refl, spells);
-      },
+        no_unit = λ ms text after spells. no_unit kinds.Ldp rest waits (map (λ message. Label message) ms) text after (ms, refl, spells);
+      })
+      (no_pdu_fault rest waits.octets (by (pdu_front rest) refl waits.partial)),
       subst (λ (ms : List LabelMessage). IsMapped ms fec label) p.says is,
     )
+  where
+    by : (front : Front LabelMessage LdpFault) → pdu_front rest ≡ front → as_front (λ message. Label message) (λ fault. LabelFault fault) front ≡ more → pdu_front rest ≡ more
+    by more is e = is
+    by (whole count ms) is e = absurd cc
+    by (bad ms offset fault) is e = absurd cc
 
 none_mapped : (fec : Fec) (label : ℕ) → IsMapped [] fec label → ⊥
 none_mapped fec label is = by is.before is.parts
@@ -110,5 +122,5 @@ may_hop trace world all u branch h = by (is_up_in kinds.Ldp u branch.node trace)
     by : (t : Bool) → is_up_in kinds.Ldp u branch.node trace ≡ t → MayHop trace u branch.node branch.label branch.fec
     by true e =
         let x = (all branch.node u).heard e in
-        record { up = e; mapped = has_label (taken_since kinds.Ldp branch.node u trace) x.units (world.network.stream (direction kinds.Ldp branch.node u)).held branch.fec branch.label x.each x.parts x.no_unit (x.holds branch.fec branch.label h) }
+        record { up = e; mapped = has_label (taken_since kinds.Ldp branch.node u trace) x.units (world.network.stream (direction kinds.Ldp branch.node u)).held branch.fec branch.label x.each x.parts x.waits (x.holds branch.fec branch.label h) }
     by false e = absurd (none_mapped branch.fec branch.label ((all branch.node u).silent e branch.fec branch.label h))

@@ -24,15 +24,15 @@ use Rattle.scenario_defs.specs.declared.scenario.Scenario.{Scenario}
 use Rattle.mvpn_model.specs.Messages.{message_of}
 use Rattle.mvpn_model.specs.Packet.{packet}
 use Rattle.mvpn_model.specs.declared.message.Given.{Given}
-use Rattle.mvpn_model.specs.Sessions.{sessions}
+use Rattle.mvpn_model.specs.Sessions.{sessions, is_between}
 use Rattle.mvpn_model.specs.declared.session.Session.{Session}
-use Rattle.session_defs.specs.Message.{same_kind}
+use Rattle.scenario_defs.specs.Kinds.{same_kind}
 use Rattle.session_defs.specs.Refined.{seen}
 use Rattle.session_defs.specs.declared.direction.Direction.{Direction}
 use Rattle.edge_defs.specs.Steps as steps
 use Rattle.label_laws.specs.Rule.{Kept}
 use Rattle.world_defs.specs.Acts.{Act, Tick, Timers, Move, Lose, Notice, RaiseFirst, RaiseSecond, Restart, At, Enter, Land, Drop, Tell, Acted, act}
-use Rattle.world_defs.specs.Counts.{direction, all_nodes, directions, link_ways, is_between, is_joined, is_up as is_end}
+use Rattle.world_defs.specs.Counts.{direction, all_nodes, directions, link_ways, is_joined, is_up as is_end}
 use Rattle.world_defs.specs.Events.{Happened, Outcome, Done, Halted, and_then, one_act, row, each, times, raise_acts, is_session_of, raises, notices, turn, healed, settled, landings, drain_round, sent, at_edge, with_message, done}
 use Rattle.mvpn_model.specs.Packets.{source_in, group_in}
 use Rattle.world_defs.specs.Refusals.{control_at, edge_of_vrf, refused_if, is_session_joined, is_selected, are_sessions_full, selection_limit, selections_at, refusal}

@@ -1,14 +1,16 @@
 -- What a node keeps of a neighbour is what the messages say that it took from that neighbour since the last raise: in each run.
 use Rattle.std.specs.Prelude.{⊤, take, drop, fold}
-use Rattle.std.proofs.Common.{◌≡◌, ℕ, Bool, true, false, cond, flat_map, List, [], ◌∷◌, ◌++◌, Option, Some, None, refl, sym, ap, subst, ◌∙◌}
+use Rattle.std.proofs.Common.{◌≡◌, ℕ, Bool, true, false, cond, flat_map, List, [], ◌∷◌, ◌++◌, Option, Some, None, refl, sym, ap, subst, ◌∙◌, arith}
 use Rattle.std.specs.List.{AllByRecursion}
 use Rattle.std.proofs.lemmas.Grind.{flat_map-append}
-use Rattle.std.proofs.lemmas.List.{append_assoc}
+use Rattle.std.proofs.lemmas.List.{append_assoc, take-append-drop}
 use Rattle.mv_base.specs.Number.{◌>>?◌}
+use Rattle.mv_base.specs.Octets.{IsOctets}
 use Rattle.mv_base.specs.declared.ids.NodeId.{NodeId}
+use Rattle.framing.specs.Cut.Front.{more}
 use Rattle.framing.specs.Feed.{fed}
 use Rattle.framing.specs.Units.{Spelled, octets_of, messages_of, AreUnits, NoUnit}
-use Rattle.framing.proofs.Cuts.{none_whole}
+use Rattle.framing.proofs.Cuts.{none_whole, IsOctets-before, IsOctets-behind}
 use Rattle.scenario_defs.specs.declared.event.Kind.{Kind}
 use Rattle.session_defs.specs.Message.{SessionMessage, same_direction, front_of, Spells}
 use Rattle.session_defs.specs.Octets.{Stream, OctetNetwork, OctetAct, all_taken, moved, octet_run}
@@ -16,7 +18,7 @@ use Rattle.session_defs.specs.Refined.{Carried}
 use Rattle.session_defs.specs.System.{Behind, with_earlier}
 use Rattle.session_defs.specs.declared.direction.Direction.{Direction}
 use Rattle.session_defs.proofs.Fronts.{stream_of}
-use Rattle.session_defs.proofs.Lines.{are_both, own_direction}
+use Rattle.session_defs.proofs.Lines.{are_both, are_octets, own_direction}
 use Rattle.session_defs.proofs.Moves.{came_of}
 use Rattle.world_defs.specs.Counts.{direction}
 use Rattle.world_defs.specs.Local.{is_up_after, is_up_in, taken_since}
@@ -45,6 +47,19 @@ taken_more kind from to trace step off none = told_next kind from to (λ step. t
     by true e = refl
     by false e = sym ((λ i. flat_map (λ step. takes_of kind from to step.happened.lines) (since_none kind from to trace e i) ++ none e i))
 
+-- ---- what is held back
+
+-- less than a whole unit, and no fault
+pub record Waits (kind : Kind) (held : List ℕ) : Type 0 where
+  pub octets : IsOctets held
+  pub partial : front_of kind held ≡ more
+
+pub nothing_waits : (kind : Kind) → Waits kind []
+nothing_waits kind = record { octets = λ i. omega arith; partial = (stream_of kind).framing.empty }
+
+pub no_unit : (kind : Kind) (held : List ℕ) → Waits kind held → NoUnit (Spells kind) held
+no_unit kind held w = none_whole (front_of kind) (Spells kind) (stream_of kind).framing held w.partial
+
 -- ---- one direction
 
 module _ (kind : Kind) (from to : NodeId) (P : List SessionMessage → NodeState → Type 0) (f : Follower kind from to P) where
@@ -54,7 +69,7 @@ module _ (kind : Kind) (from to : NodeId) (P : List SessionMessage → NodeState
     pub units : List (Spelled SessionMessage)
     pub each : AreUnits (Spells kind) units
     pub parts : taken ≡ octets_of units ++ (network.stream (direction kind from to)).held
-    pub no_unit : NoUnit (Spells kind) (network.stream (direction kind from to)).held
+    pub waits : Waits kind (network.stream (direction kind from to)).held
     pub holds : P (messages_of units) (network.state.node to)
 
   abbrev pub HearingBehind : List ℕ → Option (Behind (OctetNetwork Nodes)) → Type 0
@@ -62,20 +77,20 @@ module _ (kind : Kind) (from to : NodeId) (P : List SessionMessage → NodeState
   HearingBehind taken (Some new) = Hearing new.network taken
 
   -- the state and the stream apart
-  both_behind : (taken : List ℕ) (units : List (Spelled SessionMessage)) (stream : Stream) → AreUnits (Spells kind) units → taken ≡ octets_of units ++ stream.held → NoUnit (Spells kind) stream.held → (o : Option (Behind (OctetNetwork Nodes)))
+  both_behind : (taken : List ℕ) (units : List (Spelled SessionMessage)) (stream : Stream) → AreUnits (Spells kind) units → taken ≡ octets_of units ++ stream.held → Waits kind stream.held → (o : Option (Behind (OctetNetwork Nodes)))
       → StreamStays kind from to P f stream o → NetworkHas kind from to P f (messages_of units) o → HearingBehind taken o
-  both_behind taken units stream each parts no_unit None s h = tt
-  both_behind taken units stream each parts no_unit (Some new) s h = record {
+  both_behind taken units stream each parts waits None s h = tt
+  both_behind taken units stream each parts waits (Some new) s h = record {
     units = units;
     each = each;
     parts = parts ∙ ap (λ (d : Stream). octets_of units ++ d.held) (sym s);
-    no_unit = subst (λ (d : Stream). NoUnit (Spells kind) d.held) (sym s) no_unit;
+    waits = subst (λ (d : Stream). Waits kind d.held) (sym s) waits;
     holds = h;
   }
 
   pub run_hears : (acts : List (OctetAct NodeCall)) → AllByRecursion (λ one. IsTame kind from to P f one) acts → (old : OctetNetwork Nodes) (taken : List ℕ) → Hearing old taken → HearingBehind taken (octet_run system old acts)
   run_hears acts tame old taken h =
-      both_behind taken h.units (old.stream (direction kind from to)) h.each h.parts h.no_unit (octet_run system old acts) (run_stream kind from to P f acts tame (old.stream (direction kind from to)) old refl) (run_has kind from to P f acts tame (messages_of h.units) old h.holds)
+      both_behind taken h.units (old.stream (direction kind from to)) h.each h.parts h.waits (octet_run system old acts) (run_stream kind from to P f acts tame (old.stream (direction kind from to)) old refl) (run_has kind from to P f acts tame (messages_of h.units) old h.holds)
 
   -- ---- a move
 
@@ -93,11 +108,15 @@ module _ (kind : Kind) (from to : NodeId) (P : List SessionMessage → NodeState
       let ours : AllByRecursion (λ message. IsOfKind kind message) new.waiting = subst (λ (ms : List SessionMessage). AllByRecursion (λ message. IsOfKind kind message) ms) (sym now.0) (units_kind kind from to P f kind some.done some.done_are) in
       let says : messages_of h.units ++ new.waiting ≡ messages_of units = ap (λ (ms : List SessionMessage). messages_of h.units ++ ms) now.0 ∙ sym (flat_map-append (λ (u : Spelled SessionMessage). u.messages) h.units some.done) in
       let piece : List ℕ = take count (old.transit (direction kind from to)) in
+      let coming : List ℕ = drop count (old.transit (direction kind from to)) in
+      let here : List ℕ = (old.stream (direction kind from to)).held ++ piece in
+      let whole : here ++ coming ≡ octets_of c.units = append_assoc (old.stream (direction kind from to)).held piece coming ∙ ap (λ (xs : List ℕ). (old.stream (direction kind from to)).held ++ xs) (take-append-drop count (old.transit (direction kind from to))) ∙ c.octets in
+      let fits : IsOctets here = IsOctets-before here coming (subst IsOctets (sym whole) (are_octets kind c.units c.each)) in
       let parts : taken ++ piece ≡ octets_of units ++ new.held =
       ap (λ (xs : List ℕ). xs ++ piece) h.parts ∙ append_assoc (octets_of h.units) (old.stream (direction kind from to)).held piece ∙ ap (λ (xs : List ℕ). octets_of h.units ++ xs) some.came ∙ sym (append_assoc (octets_of h.units) (octets_of some.done) some.rest)
       ∙ (λ i. sym (flat_map-append (λ (u : Spelled SessionMessage). u.octets) h.units some.done) i ++ sym now.1 i) in
       both_behind (taken ++ piece) units (record new { waiting = [] }) (are_both (Spells kind) h.units some.done h.each some.done_are) parts
-      (subst (NoUnit (Spells kind)) (sym now.1) (none_whole (front_of kind) (Spells kind) (stream_of kind).framing some.rest some.partial))
+      (subst (Waits kind) (sym now.1) (record { octets = IsOctets-behind (octets_of some.done) some.rest (subst IsOctets some.came fits); partial = some.partial }))
       (all_taken system left (direction kind from to) new.waiting)
       (taken_stream kind from to P f (direction kind from to) new.waiting (record new { waiting = [] }) left (ap (λ (t : Bool). cond t (record new { waiting = [] }) (old.stream (direction kind from to))) (own_direction (direction kind from to))))
       (subst (λ (ms : List SessionMessage). NetworkHas kind from to P f ms (all_taken system left (direction kind from to) new.waiting)) says (own_taken kind from to P f new.waiting ours (messages_of h.units) left h.holds))
@@ -129,7 +148,7 @@ module _ (kind : Kind) (from to : NodeId) (P : List SessionMessage → NodeState
 
   pub other_moved : (old : OctetNetwork Nodes) (way : Direction) (count : ℕ) (pending : List SessionMessage) (taken : List ℕ) → same_direction (direction kind from to) way ≡ false → Carried way.kind (old.stream way) (old.transit way) pending → Hearing old taken → HearingBehind taken (moved system old way count)
   other_moved old way count pending taken off c h =
-      both_behind taken h.units (old.stream (direction kind from to)) h.each h.parts h.no_unit (moved system old way count)
+      both_behind taken h.units (old.stream (direction kind from to)) h.each h.parts h.waits (moved system old way count)
       (taken_stream kind from to P f way (fed (front_of way.kind) (old.stream way) (take count (old.transit way))).waiting (old.stream (direction kind from to)) (gone old way count)
       (ap (λ (t : Bool). cond t (record (fed (front_of way.kind) (old.stream way) (take count (old.transit way))) { waiting = [] }) (old.stream (direction kind from to))) off))
       (others_taken kind from to P f way (fed (front_of way.kind) (old.stream way) (take count (old.transit way))).waiting (others_come old way count pending off c) (messages_of h.units) (gone old way count) h.holds)

@@ -14,7 +14,8 @@ use Rattle.scenario_defs.specs.declared.report.ReportLine.{ReportLine}
 use Rattle.scenario_defs.specs.declared.report.ReportLine.TheVariants as lines
 use Rattle.scenario_defs.specs.declared.scenario.Scenario.{Scenario}
 use Rattle.label_defs.proofs.KeyLemmas.{node_equal, node_cases, node_itself}
-use Rattle.session_defs.specs.Message.{SessionMessage, same_direction, same_kind}
+use Rattle.scenario_defs.specs.Kinds.{same_kind}
+use Rattle.session_defs.specs.Message.{SessionMessage, same_direction}
 use Rattle.session_defs.specs.Octets as octets
 use Rattle.session_defs.specs.Octets.{OctetNetwork, OctetAct, moved, octet_run, with_step}
 use Rattle.session_defs.specs.Refined.{Carried, IsLine}

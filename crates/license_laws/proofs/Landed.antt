@@ -53,10 +53,7 @@ use Rattle.world_laws.proofs.Lists.{each_append, each_flat, each_map, each_of, e
 use Rattle.rule_laws.proofs.Acts.{InStep}
 use Rattle.rule_laws.proofs.Admits.{all_of_among, IsIfaceOf, asking_are}
 use Rattle.framing.specs.Units.{octets_of}
-use Rattle.framing.proofs.Cuts.{none_whole}
 use Rattle.mldp_msgs.specs.Labels.{HasLabel}
-use Rattle.session_defs.specs.Message.{front_of, Spells}
-use Rattle.session_defs.proofs.Fronts.{stream_of}
 use Rattle.scenario_defs.specs.declared.event.Kind.TheVariants as kinds
 use Rattle.label_defs.specs.declared.end.End.{End}
 use Rattle.label_defs.specs.declared.label_use.LabelUse.TheVariants as uses
@@ -65,6 +62,7 @@ use Rattle.rule_laws.proofs.Acts.{IsFit}
 use Rattle.rule_laws.proofs.Outs.{mapped_towards, said_of}
 use Rattle.license_laws.specs.Lands.{LandMay, LandsMay}
 use Rattle.license_laws.proofs.Ending.{Ending}
+use Rattle.license_laws.proofs.Heard.{nothing_waits}
 use Rattle.license_laws.proofs.Said.{Said}
 use Rattle.license_laws.proofs.Also.{KeepsAlso, each_next, refused_step}
 use Rattle.license_laws.proofs.Branched.{Branched, may_hop, has_label}
@@ -310,7 +308,7 @@ knows_label scenario trace world s branched tabling ending said a b ne label fec
     let held = ((s.2.kept []).rule.view a b label ne).owner fec (inl e) in
     let up : is_up_in kinds.Ldp b a trace ≡ true = ending b a ∙ held_some (end_of (part_at world b) a) held in
     let x = said b a up in
-    (up, has_label (put_since kinds.Ldp b a trace) x.units [] fec label x.each (x.parts ∙ sym (append-nil (octets_of x.units))) (none_whole (front_of kinds.Ldp) (Spells kinds.Ldp) (stream_of kinds.Ldp).framing [] (stream_of kinds.Ldp).framing.empty) (x.says.mapped fec label e))
+    (up, has_label (put_since kinds.Ldp b a trace) x.units [] fec label x.each (x.parts ∙ sym (append-nil (octets_of x.units))) (nothing_waits kinds.Ldp) (x.says.mapped fec label e))
   where
     held_some : (o : Option End) → is_held o ≡ true → is_some o ≡ true
     held_some None e = absurd cc

@@ -12,14 +12,16 @@ use Rattle.scenario_defs.specs.declared.report.ReportLine.{ReportLine}
 use Rattle.scenario_defs.specs.declared.report.ReportLine.TheVariants as lines
 use Rattle.scenario_defs.specs.declared.scenario.Vrf.{Vrf}
 use Rattle.label_defs.specs.declared.branch.Branch.{Branch}
-use Rattle.session_defs.specs.Message.{same_kind, same_direction}
+use Rattle.scenario_defs.specs.Kinds.{same_kind}
+use Rattle.session_defs.specs.Message.{same_direction}
 use Rattle.session_defs.specs.Octets as octets
 use Rattle.session_defs.specs.Octets.{octet_run}
 use Rattle.edge_defs.specs.Datagrams.{Fate, entering_fate}
 use Rattle.edge_defs.specs.Place.{OwnVrf}
 use Rattle.edge_defs.specs.Steps as steps
 use Rattle.world_defs.specs.Acts.{Act, Tick, Timers, Move, Lose, Notice, RaiseFirst, RaiseSecond, Restart, At, Enter, Land, Drop, Tell, Acted, at_node, with_aged, aged, is_of_session, is_from_peer, is_at, leads_to, hop_line, fated, datagram_at, enters_at, entering, fate_at, with_ttl, landed, without_copy, landing, act}
-use Rattle.world_defs.specs.Counts.{direction, is_between}
+use Rattle.mvpn_model.specs.Sessions.{is_between}
+use Rattle.world_defs.specs.Counts.{direction}
 use Rattle.world_defs.specs.Local.{put_by, taken_by}
 use Rattle.world_defs.specs.Nodes.{NodeState, Edge, CoreNode, place_of}
 use Rattle.world_defs.specs.System.{NodeCall, Own, Elapse, Reset, system}

@@ -5,19 +5,18 @@ use Rattle.std.proofs.lemmas.Bool.{and_parts}
 use Rattle.std.proofs.lemmas.List.{append_assoc}
 use Rattle.mv_base.specs.declared.ids.NodeId.{NodeId}
 use Rattle.framing.specs.Feed.{unfed}
-use Rattle.framing.specs.Units.{NoUnit}
-use Rattle.framing.proofs.Cuts.{none_whole}
 use Rattle.scenario_defs.specs.declared.event.Kind.{Kind}
 use Rattle.scenario_defs.specs.declared.scenario.Scenario.{Scenario}
 use Rattle.mvpn_model.specs.declared.session.Session.{Session}
-use Rattle.session_defs.specs.Message.{SessionMessage, same_kind, front_of, Spells}
+use Rattle.scenario_defs.specs.Kinds.{same_kind}
+use Rattle.session_defs.specs.Message.{SessionMessage}
 use Rattle.session_defs.specs.Octets as octets
 use Rattle.session_defs.specs.Octets.{Stream, OctetNetwork, octet_run}
 use Rattle.session_defs.specs.System.{Behind, with_earlier}
-use Rattle.session_defs.proofs.Fronts.{stream_of}
 use Rattle.edge_defs.specs.Steps as steps
 use Rattle.world_defs.specs.Acts.{RaiseFirst, RaiseSecond, Acted, is_of_session, act}
-use Rattle.world_defs.specs.Counts.{direction, directions, is_between, is_up as is_end}
+use Rattle.mvpn_model.specs.Sessions.{is_between}
+use Rattle.world_defs.specs.Counts.{direction, directions, is_up as is_end}
 use Rattle.world_defs.specs.Local.{is_up_in, taken_since}
 use Rattle.world_defs.specs.Nodes.{NodeState, Nodes}
 use Rattle.world_defs.specs.Run.{Traced}
@@ -27,7 +26,7 @@ use Rattle.rule_laws.proofs.Raises.{between}
 use Rattle.license_laws.proofs.Flows.{joined_now, join_flows}
 use Rattle.license_laws.proofs.Follows.{stepped}
 use Rattle.license_laws.proofs.Hears.{Follower, NetworkHas, StreamStays, run_has, run_stream}
-use Rattle.license_laws.proofs.Heard.{up_next, taken_more}
+use Rattle.license_laws.proofs.Heard.{up_next, taken_more, Waits, nothing_waits}
 use Rattle.license_laws.proofs.Hearing.{Behaved, behaved, Heard, tame_effect, heard_more, none_taken, or_nothing}
 use Rattle.license_laws.proofs.Moving.{raise_is, quiet_moves}
 use Rattle.license_laws.proofs.Puts.{puts_take, kind_is}
@@ -106,7 +105,7 @@ module _ (kind : Kind) (from to : NodeId) (P : List SessionMessage → NodeState
         units = [];
         each = tt;
         parts = nothing ∙ ap (λ (d : Stream). d.held) (sym stream);
-        no_unit = subst (λ (d : Stream). NoUnit (Spells kind) d.held) (sym stream) (none_whole (front_of kind) (Spells kind) (stream_of kind).framing [] (stream_of kind).framing.empty);
+        waits = subst (λ (d : Stream). Waits kind d.held) (sym stream) (nothing_waits kind);
         holds = has;
       };
       silent = λ d. (let x : true ≡ false = sym up ∙ d in absurd cc);

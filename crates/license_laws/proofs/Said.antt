@@ -16,14 +16,16 @@ use Rattle.scenario_defs.specs.declared.scenario.Scenario.{Scenario}
 use Rattle.label_defs.specs.declared.end.End.{End}
 use Rattle.label_laws.specs.Rule.{is_held, end_of}
 use Rattle.mvpn_model.specs.declared.session.Session.{Session}
-use Rattle.session_defs.specs.Message.{SessionMessage, Spells, same_kind}
+use Rattle.scenario_defs.specs.Kinds.{same_kind}
+use Rattle.session_defs.specs.Message.{SessionMessage, Spells}
 use Rattle.session_defs.specs.Octets as octets
 use Rattle.session_defs.specs.Octets.{OctetNetwork, octet_run}
 use Rattle.session_defs.specs.System.{Put, Behind, octets_over}
 use Rattle.session_defs.proofs.Lines.{are_spelled, are_both, sent_over}
 use Rattle.edge_defs.specs.Steps as steps
 use Rattle.world_defs.specs.Acts.{Act, Tick, Timers, Move, Lose, Notice, RaiseFirst, RaiseSecond, Restart, At, Enter, Land, Drop, Tell, Acted, with_network, at_node, put_lines, with_aged, aged, is_of_session, is_from_peer, is_at, leads_to, act}
-use Rattle.world_defs.specs.Counts.{direction, directions, is_between, is_up as is_end}
+use Rattle.mvpn_model.specs.Sessions.{is_between}
+use Rattle.world_defs.specs.Counts.{direction, directions, is_up as is_end}
 use Rattle.world_defs.specs.Local.{put_by, is_up_after, is_up_in, put_since}
 use Rattle.world_defs.specs.Nodes.{part_of, Nodes}
 use Rattle.world_defs.specs.Run.{Traced}

@@ -27,6 +27,7 @@ use Rattle.rule_laws.proofs.Acts.{InStep}
 use Rattle.rule_laws.proofs.Raised.{bgp_up_is}
 use Rattle.license_laws.proofs.Also.{KeepsAlso}
 use Rattle.license_laws.proofs.Branched.{AllHeard, all_heard_kept}
+use Rattle.license_laws.proofs.Heard.{no_unit}
 use Rattle.license_laws.proofs.Tables.{HoldsValue, Tabled, tabled_follower, changes_in, changes_both}
 use Rattle.license_laws.proofs.Taking.{Taking}
 
@@ -95,7 +96,7 @@ taken_route trace world all peer n key route e = by (is_up_in kinds.Bgp n peer t
             rest,
             record {
               begins = record { units = p.plain; each = p.each; parts = x.parts ∙ ap (λ (xs : List ℕ). xs ++ rest) p.octets; carried = refl };
-              no_unit = λ ms text after spells. x.no_unit (map (λ message. Bgp message) ms) text after (ms, refl, spells);
+              no_unit = λ ms text after spells. no_unit kinds.Bgp rest x.waits (map (λ message. Bgp message) ms) text after (ms, refl, spells);
             },
             subst (λ (cs : List Change). Holds cs key h.advert) p.says h.holds,
           );

@@ -14,7 +14,7 @@ use Rattle.mvpn_model.specs.declared.session.Session.{Session}
 use Rattle.label_defs.specs.Settling as labels
 use Rattle.label_defs.specs.Steps as label_calls
 use Rattle.label_defs.specs.Steps.{label_step}
-use Rattle.session_defs.specs.Message.{same_kind}
+use Rattle.scenario_defs.specs.Kinds.{same_kind}
 use Rattle.session_defs.specs.Octets as octets
 use Rattle.session_defs.specs.Octets.{OctetNetwork, octet_run, with_step}
 use Rattle.session_defs.specs.System.{Stepped, Behind, with_earlier}
@@ -22,7 +22,8 @@ use Rattle.edge_defs.specs.Place.{Core, addr_of, label_place}
 use Rattle.edge_defs.specs.Steps as steps
 use Rattle.edge_defs.specs.Steps.{EdgeStepped, edge_step, own_label_call}
 use Rattle.world_defs.specs.Acts.{RaiseFirst, RaiseSecond, Acted, with_network, put_lines, is_of_session, act}
-use Rattle.world_defs.specs.Counts.{direction, directions, is_between}
+use Rattle.mvpn_model.specs.Sessions.{is_between}
+use Rattle.world_defs.specs.Counts.{direction, directions}
 use Rattle.world_defs.specs.Local.{put_since, taken_since, TakesWhatWasPut}
 use Rattle.world_defs.specs.Nodes.{NodeState, Edge, CoreNode, Nodes, with_node, place_of}
 use Rattle.world_defs.specs.Puts.{bgp_puts, label_puts}

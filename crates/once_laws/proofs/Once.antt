@@ -9,8 +9,10 @@ use Rattle.mv_base.specs.declared.ids.IfaceId.{IfaceId}
 use Rattle.mv_base.specs.declared.ids.NodeId.{NodeId}
 use Rattle.mv_base.specs.declared.ids.SiteId.{SiteId}
 use Rattle.mv_base.specs.declared.ids.VrfId.{VrfId}
+use Rattle.mvpn_model.specs.Once.{Once}
 use Rattle.mvpn_model.specs.Past as pasts
 use Rattle.mvpn_model.specs.Past.{Past, is_home}
+use Rattle.mvpn_model.specs.Report.{refused_lines}
 use Rattle.scenario_defs.specs.Home.{home}
 use Rattle.scenario_defs.specs.Vpn.{is_of_site, same_vpn, vrf_of_site, edge_of, ifaces_where, entered}
 use Rattle.scenario_defs.specs.declared.event.Script.{Script}
@@ -22,7 +24,7 @@ use Rattle.selective_defs.specs.Selective.{Among}
 use Rattle.edge_defs.specs.Place.{Core}
 use Rattle.calm_laws.proofs.Lists.{any_from, any_among}
 use Rattle.delivery_laws.specs.Choice.{serves_by, serves_from, is_served, CalmChoice}
-use Rattle.delivery_laws.specs.Once.{receives_by, Once, past_of}
+use Rattle.delivery_laws.specs.Once.{receives_by, past_of}
 use Rattle.delivery_laws.proofs.OnceLemmas.{calm_choices_once}
 use Rattle.delivery_laws.proofs.Copies.{all_take}
 use Rattle.scenario_defs.specs.Rules.{Rises}
@@ -30,15 +32,15 @@ use Rattle.world_laws.specs.Honest.{IsSoundEvent}
 use Rattle.world_defs.specs.Run.{Traced, Run, report_of}
 use Rattle.world_defs.specs.World.{World, Datagram, scenario_of}
 use Rattle.once_laws.specs.Run.{QuietRun, CalmRun, IsQuietEvent}
-use Rattle.once_laws.specs.Told.{AsksAreTold}
+use Rattle.once_laws.specs.Told.{JoinsAreTold}
 use Rattle.once_laws.proofs.Behind.{Known, known_of, trees_calm}
 use Rattle.once_laws.proofs.CalmFlows.{among_where}
 use Rattle.once_laws.proofs.Receivers as receivers
 use Rattle.once_laws.proofs.Receivers.{Receives, served_receives, receives_served, home_vpn, count_none, count_one, where_among}
-use Rattle.once_laws.proofs.StandRuns.{asks_told}
+use Rattle.once_laws.proofs.StandRuns.{joins_told}
 use Rattle.once_laws.proofs.Serves.{Here, here_of, served_by, one_serves}
 
-module _ (scenario : Scenario) (core : Core) (world : World) (k : Known scenario core world) (datagram : Datagram) (past : Past) (of_past : past.scenario ≡ scenario_of world) (told : AsksAreTold past world) (iface : IfaceId) where
+module _ (scenario : Scenario) (core : Core) (world : World) (k : Known scenario core world) (datagram : Datagram) (past : Past) (of_past : past.scenario ≡ scenario_of world) (told : JoinsAreTold past world) (iface : IfaceId) where
   abbrev sc : Scenario
   sc = scenario_of world
 
@@ -147,7 +149,7 @@ module _ (scenario : Scenario) (core : Core) (world : World) (k : Known scenario
           ∙ ap (λ (b : Bool). cond {A = ℕ} b 1 0) (sym (false_from_ne_true (receives_by past datagram.site datagram.source datagram.group iface) (λ t. (let l = listed (vrf_of_site sc datagram.site) refl (sym received ∙ t) in none-some l.3.0 (sym e ∙ l.3.1)))))
 
 -- Behind such a run choices are calm, where what interfaces ask for is what the events tell.
-pub choice_calm : (core : Core) (script : Script) (events : List Timed) (trace : List Traced) (world : World) → CalmRun core script events trace world → (past : Past) → past.scenario ≡ script.scenario → AsksAreTold past world
+pub choice_calm : (core : Core) (script : Script) (events : List Timed) (trace : List Traced) (world : World) → CalmRun core script events trace world → (past : Past) → past.scenario ≡ script.scenario → JoinsAreTold past world
     → (datagram : Datagram) → CalmChoice world.network (receives_by past datagram.site datagram.source datagram.group) datagram
 choice_calm core script events trace world c past of_past told datagram =
     let k = known_of core script events trace world c in
@@ -180,9 +182,9 @@ first_events core script events trace new s count early world run = record {
 pub choices_calm : (core : Core) (script : Script) (events : List Timed) (trace : List Traced) (world : World) → CalmRun core script events trace world
     → (datagram : Datagram) → CalmChoice world.network (receives_by (past_of script.scenario events trace) datagram.site datagram.source datagram.group) datagram
 choices_calm core script events trace world c =
-    choice_calm core script events trace world c (past_of script.scenario events trace) refl (asks_told core script.scenario events trace world c.run.sound.scenario.rules c.run.rises c.run.sound.run)
+    choice_calm core script events trace world c (past_of script.scenario events trace) refl (joins_told core script.scenario events trace world c.run.sound.scenario.rules c.run.rises c.run.quiet c.run.sound.run)
 
-pub deliver_once : (core : Core) (script : Script) (events : List Timed) (trace : List Traced) (new : World) → QuietRun core script events trace new → Once script.scenario events (report_of trace)
+pub deliver_once : (core : Core) (script : Script) (events : List Timed) (trace : List Traced) (new : World) → QuietRun core script events trace new → Once script.scenario events (refused_lines (report_of trace)) (report_of trace)
 deliver_once core script events trace new s =
     calm_choices_once core script events trace new s.sound.scenario.rules s.rises
     (λ count early world run zeros. choices_calm core script (take count events) early world (record { run = first_events core script events trace new s count early world run; zeros = zeros }))

@@ -46,7 +46,7 @@ use Rattle.delivery_laws.specs.Choice.{serves_near, sends_on, serves_far, serves
 use Rattle.delivery_laws.specs.Leaving.{is_iface_of_vrf, asks_at, takes_from}
 use Rattle.world_defs.specs.Nodes.{is_edge, part_of}
 use Rattle.world_defs.specs.World.{World, Datagram, scenario_of}
-use Rattle.once_laws.specs.Told.{AsksAreTold}
+use Rattle.once_laws.specs.Told.{JoinsAreTold}
 use Rattle.once_laws.proofs.Behind.{Known}
 use Rattle.once_laws.proofs.CalmFlows.{peer_is, asked_flow, asks_is}
 use Rattle.once_laws.proofs.Choices.{own_among, vpn_ids, UpstreamIs, IsNone, IsNear, IsFar, FromPeer, upstream_is}
@@ -180,7 +180,7 @@ where_among test number (own ∷ more) x a = by (test (record { 0 = number }) ow
 
 -- ---- receivers
 
-module _ (scenario : Scenario) (core : Core) (world : World) (k : Known scenario core world) (datagram : Datagram) (iface : IfaceId) (past : Past) (of_past : past.scenario ≡ scenario_of world) (told : AsksAreTold past world) where
+module _ (scenario : Scenario) (core : Core) (world : World) (k : Known scenario core world) (datagram : Datagram) (iface : IfaceId) (past : Past) (of_past : past.scenario ≡ scenario_of world) (told : JoinsAreTold past world) where
   abbrev sc : Scenario
   sc = scenario_of world
 

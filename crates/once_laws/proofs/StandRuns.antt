@@ -1,7 +1,7 @@
 -- What interfaces ask for by the events is what the edges keep, behind every run.
 use Rattle.std.specs.Prelude.{⊤}
-use Rattle.std.proofs.Common.{◌≡◌, ℕ, ◌+◌, ◌==◌, Bool, true, false, cond, List, [], ◌∷◌, slice_get, option_map, Option, Some, None, refl, sym, ap, subst, ◌∙◌, arith}
-use Rattle.std.specs.List.{AllByRecursion, fold}
+use Rattle.std.proofs.Common.{◌≡◌, ℕ, ◌+◌, ◌==◌, ◌||◌, ◌&&◌, not, Bool, true, false, cond, List, [], ◌∷◌, slice_get, option_map, Option, Some, None, refl, sym, ap, subst, ◌∙◌, arith}
+use Rattle.std.specs.List.{AllByRecursion, fold, list_any}
 use Rattle.std.specs.FinMap as maps
 use Rattle.std.proofs.lemmas.Bool.{cond_both, true≢false, eqb-true, eq-eqb}
 use Rattle.std.proofs.lemmas.Option.{none-some, same_Some}
@@ -9,10 +9,12 @@ use Rattle.mv_base.specs.Number.{◌>>?◌}
 use Rattle.mv_base.specs.declared.ids.IfaceId.{IfaceId}
 use Rattle.mv_base.specs.declared.ids.NodeId.{NodeId}
 use Rattle.mvpn_model.specs.Messages.{message_of}
-use Rattle.mvpn_model.specs.Past.{Past, is_accepted, ticks_of, is_of_edge, expiry_given, expiry_by, stands_after, standing}
+use Rattle.mvpn_model.specs.Past.{Past, is_accepted, ticks_of, is_of_edge, expiry_given, expiry_by, stands_after, standing, noted_by, noted_after, is_noted, is_active, is_active_at}
 use Rattle.mvpn_model.specs.Report.{refused_lines}
 use Rattle.mvpn_model.specs.declared.message.Given.{Given}
 use Rattle.mvpn_model.specs.declared.standing.Standing.{Standing}
+use Rattle.mv_base.specs.declared.addr.Addr.{Addr}
+use Rattle.pim_defs.specs.Asking.{asks_by}
 use Rattle.pim_defs.specs.Entries.{entry_cmp}
 use Rattle.pim_defs.specs.Expiry.{counts, remaining}
 use Rattle.pim_defs.specs.Mention.{mention_of, expiry_after}
@@ -51,13 +53,14 @@ use Rattle.world_defs.specs.Nodes.{NodeState, Edge, CoreNode, Nodes, is_edge, fr
 use Rattle.world_defs.specs.Refusals.{control_of, refusal}
 use Rattle.world_defs.specs.Run.{Traced, Runs, outcome, report_of}
 use Rattle.world_defs.specs.System.{NodeCall, Own, node_called, nodes_called}
-use Rattle.world_defs.specs.World.{World, start, scenario_of}
+use Rattle.world_defs.specs.World.{World, start, scenario_of, clock_of}
 use Rattle.delivery_laws.proofs.Accepted.{TellsAccepted, accepts, tells_accepted}
 use Rattle.ready_laws.proofs.Ends.{Holds}
 use Rattle.delivery_laws.proofs.Outcomes.{Leads, Gives, then_leads, one_leads, leads_as}
 use Rattle.delivery_laws.proofs.Silent.{any_lines}
 use Rattle.rule_laws.proofs.Rows.{IsEdgeNode}
-use Rattle.once_laws.specs.Told.{AsksAreTold, EntriesAreTold}
+use Rattle.once_laws.specs.Run.{IsQuietEvent}
+use Rattle.once_laws.specs.Told.{kept_at_edge, AsksAreTold, JoinsAreTold, EntriesAreTold}
 use Rattle.once_laws.proofs.Carry.{IsOfSession, AreFit, EventMay, event_holds}
 use Rattle.once_laws.proofs.CalmFlows.{only_joined}
 use Rattle.once_laws.proofs.Rests.{Rests, unfed_rests}
@@ -278,7 +281,7 @@ event_stands scenario rules c told world s r (events.Join iface entry) = message
 event_stands scenario rules c told world s r (events.Prune iface entry) = message_event scenario rules c told world (events.Prune iface entry) s
 event_stands scenario rules c told world s r (events.Pim iface bytes) = message_event scenario rules c told world (events.Pim iface bytes) s
 event_stands scenario rules c told world s r (events.Timers node) = no_ticks scenario c told (told_after scenario c (events.Timers node) told) world (events.Timers node) (timers_told scenario c told node) (quiet_event scenario c told world (events.Timers node) tt s r)
-event_stands scenario rules c told world s r events.Settle = no_ticks scenario c told told world events.Settle (λ i a. refl) (quiet_event scenario c told world events.Settle (λ n. tt) s r)
+event_stands scenario rules c told world s r events.Settle = no_ticks scenario c told (told_after scenario c events.Settle told) world events.Settle (λ i a. remaining_twice c (told i a)) (quiet_event scenario c told world events.Settle (λ n. tt) s r)
 event_stands scenario rules c told world s r (events.Active iface source group) = no_ticks scenario c told told world (events.Active iface source group) (λ i a. refl) (quiet_event scenario c told world (events.Active iface source group) (λ n. tt) s r)
 event_stands scenario rules c told world s r (events.Idle iface source group) = no_ticks scenario c told told world (events.Idle iface source group) (λ i a. refl) (quiet_event scenario c told world (events.Idle iface source group) (λ n. tt) s r)
 event_stands scenario rules c told world s r (events.Select vrf pattern) = no_ticks scenario c told told world (events.Select vrf pattern) (λ i a. refl) (quiet_event scenario c told world (events.Select vrf pattern) (λ n. tt) s r)
@@ -381,14 +384,58 @@ entries_told core scenario all trace world rules rises run =
           counts_by now told ∙ ap (counts now) alike ∙ sym (counts_by now kept);
     }
 
--- Where no source is known to send, interfaces ask for what the events tell.
+-- ---- what interfaces ask for
+
+asks_by_counts : (c : ℕ) (active : Bool) (x y z u v w : Option Expiry) → counts c x ≡ counts c u → counts c y ≡ counts c v → counts c z ≡ counts c w → asks_by c active x y z ≡ asks_by c active u v w
+asks_by_counts c active x y z u v w p q r = λ i. p i || (q i && not (r i) && active)
+
+-- Behind every run interfaces ask by the entries of their edges, given which sources the events note.
 pub asks_told : (core : Core) (scenario : Scenario) (all : List Timed) (trace : List Traced) (world : World) → Rules scenario → Rises 0 all → Runs (start scenario core) 0 all trace world → AsksAreTold (record { scenario = scenario; events = all; refused = refused_lines (report_of trace) }) world
 asks_told core scenario all trace world rules rises run =
     let past : Past = record { scenario = scenario; events = all; refused = refused_lines (report_of trace) } in
     let e = entries_told core scenario all trace world rules rises run in
+    let now : ℕ = clock_of world in
     λ iface n source group at.
-    let own : JoinEntry = join_entries.Source source group in
-    let joined = standing past iface own in
-    only_joined joined.clock false joined.expiry (standing past iface (join_entries.Star group)).expiry (standing past iface (join_entries.Rpt source group)).expiry refl
-    ∙ ap (λ (c : ℕ). counts c joined.expiry) (e.clock iface own)
-    ∙ e.counted iface n own at
+    let active : Bool = is_active_at past iface source group in
+    let told : JoinEntry → Option Expiry = λ entry. (standing past iface entry).expiry in
+    let kept : JoinEntry → Option Expiry = λ entry. kept_at_edge world n iface entry in
+    let joined : JoinEntry = join_entries.Source source group in
+    let shared : JoinEntry = join_entries.Star group in
+    let pruned : JoinEntry = join_entries.Rpt source group in
+    ap (λ (c : ℕ). asks_by c active (told joined) (told shared) (told pruned)) (e.clock iface joined)
+    ∙ asks_by_counts now active (told joined) (told shared) (told pruned) (kept joined) (kept shared) (kept pruned) (e.counted iface n joined at) (e.counted iface n shared at) (e.counted iface n pruned at)
+
+-- events none of which is `active` note no source
+never_noted : (scenario : Scenario) (refused : List ℕ) (iface : IfaceId) (source group : Addr) (all : List Timed) → AllByRecursion (λ (timed : Timed). IsQuietEvent timed.event) all → fold (noted_after scenario refused iface source group) false all ≡ false
+never_noted scenario refused iface source group [] h = refl
+never_noted scenario refused iface source group (timed ∷ more) h =
+    ap (λ (b : Bool). fold (noted_after scenario refused iface source group) b more) (if_accepted (is_accepted refused timed)) ∙ never_noted scenario refused iface source group more h.1
+  where
+    still : (event : Event) → IsQuietEvent event → noted_by scenario iface source group event false ≡ false
+    still (events.Active own own_source own_group) q = absurd q
+    still other q = refl
+
+    if_accepted : (b : Bool) → cond b (noted_by scenario iface source group timed.event false) false ≡ false
+    if_accepted true = still timed.event h.0
+    if_accepted false = refl
+
+none_of : {A : Type 0} (test : A → Bool) (xs : List A) → ((x : A) → test x ≡ false) → list_any test xs ≡ false
+none_of test [] h = refl
+none_of test (x ∷ xs) h = λ i. h x i || none_of test xs h i
+
+-- so no source is known to send
+never_active : (past : Past) → AllByRecursion (λ (timed : Timed). IsQuietEvent timed.event) past.events → (iface : IfaceId) (source group : Addr) → is_active_at past iface source group ≡ false
+never_active past quiet iface source group = by (slice_get past.scenario.ifaces iface.0)
+  where
+    by : (o : Option Iface) → elim o as (λ _. Bool) [ None ↦ false | Some own ↦ is_active past own.vrf source group ] ≡ false
+    by None = refl
+    by (Some own) = none_of (λ iface. is_noted past iface source group) _ (λ iface. never_noted past.scenario past.refused iface source group past.events quiet)
+
+-- Where no event is `active`, interfaces ask for what is joined at their edges.
+pub joins_told : (core : Core) (scenario : Scenario) (all : List Timed) (trace : List Traced) (world : World) → Rules scenario → Rises 0 all → AllByRecursion (λ (timed : Timed). IsQuietEvent timed.event) all → Runs (start scenario core) 0 all trace world
+    → JoinsAreTold (record { scenario = scenario; events = all; refused = refused_lines (report_of trace) }) world
+joins_told core scenario all trace world rules rises quiet run iface n source group at =
+    let past : Past = record { scenario = scenario; events = all; refused = refused_lines (report_of trace) } in
+    let kept : JoinEntry → Option Expiry = λ entry. kept_at_edge world n iface entry in
+    asks_told core scenario all trace world rules rises run iface n source group at
+    ∙ only_joined (clock_of world) (is_active_at past iface source group) (kept (join_entries.Source source group)) (kept (join_entries.Star group)) (kept (join_entries.Rpt source group)) (never_active past quiet iface source group)

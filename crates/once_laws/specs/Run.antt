@@ -13,7 +13,7 @@ use Rattle.world_defs.specs.Run.{Traced}
 use Rattle.world_defs.specs.World.{World}
 use Rattle.world_laws.specs.SoundRun.{SoundRun}
 
--- No source is noted. `mvpn_model` does not count noted sources yet, so nobody receives through them there.
+-- The event notes no source as a sender.
 abbrev pub IsQuietEvent : Event → Type 0
 IsQuietEvent (events.Active iface source group) = ⊥
 IsQuietEvent other = ⊤

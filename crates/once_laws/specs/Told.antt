@@ -3,7 +3,8 @@ use Rattle.std.specs.Prelude.{◌≡◌, Option, Some}
 use Rattle.mv_base.specs.declared.addr.Addr.{Addr}
 use Rattle.mv_base.specs.declared.ids.IfaceId.{IfaceId}
 use Rattle.mv_base.specs.declared.ids.NodeId.{NodeId}
-use Rattle.mvpn_model.specs.Past.{Past, asks, standing}
+use Rattle.mvpn_model.specs.Past.{Past, asks, is_active_at, standing}
+use Rattle.pim_defs.specs.Asking.{asks_by}
 use Rattle.pim_defs.specs.Entries.{expiry_at}
 use Rattle.pim_defs.specs.Expiry.{counts}
 use Rattle.pim_defs.specs.declared.expiry.Expiry.{Expiry}
@@ -17,9 +18,18 @@ use Rattle.world_defs.specs.World.{World, scenario_of, clock_of}
 abbrev pub kept_at_edge : World → NodeId → IfaceId → JoinEntry → Option Expiry
 kept_at_edge world n iface entry = expiry_at (control_of (world.network.state.node n)).entries iface entry
 
--- An interface asks for a flow by the events exactly where its edge has a join of it that has not ended.
+-- An interface asks for a flow by the events exactly where it asks by the entries of its edge, given whether the events note the
+-- source in its VPN.
 abbrev pub AsksAreTold : Past → World → Type 0
 AsksAreTold past world =
+    (iface : IfaceId) (n : NodeId) (source group : Addr) → edge_of (scenario_of world) iface ≡ Some n →
+    asks past iface source group ≡
+    asks_by (clock_of world) (is_active_at past iface source group) (kept_at_edge world n iface (entries.Source source group))
+    (kept_at_edge world n iface (entries.Star group)) (kept_at_edge world n iface (entries.Rpt source group))
+
+-- An interface asks for a flow by the events exactly where its edge has a join of it that has not ended.
+abbrev pub JoinsAreTold : Past → World → Type 0
+JoinsAreTold past world =
     (iface : IfaceId) (n : NodeId) (source group : Addr) → edge_of (scenario_of world) iface ≡ Some n →
     asks past iface source group ≡ counts (clock_of world) (kept_at_edge world n iface (entries.Source source group))
 

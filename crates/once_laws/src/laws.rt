@@ -1,5 +1,6 @@
-//! Laws of a network of which `state` tells of zeros alone, and of the datagrams that are sent then.
+//! Laws of a network of which `state` tells of zeros alone, of the datagrams that are sent then, and of what leaves in any run.
 ghost use Rattle.std.specs.Prelude.{◌≡◌, ◌<◌, List, length, Some, slice_get};
+ghost use Rattle.std.specs.List.{AllByRecursion};
 ghost use Rattle.mv_base.specs.declared.ids.NodeId.{NodeId};
 ghost use Rattle.mv_base.specs.declared.ids.VrfId.{VrfId};
 ghost use Rattle.mldp_fec.specs.declared.fec.Fec.{Fec};
@@ -8,16 +9,20 @@ ghost use Rattle.scenario_defs.specs.declared.event.Script.{Script};
 ghost use Rattle.scenario_defs.specs.declared.event.Timed.{Timed};
 ghost use Rattle.scenario_defs.specs.declared.report.ReportLine.TheVariants as lines;
 ghost use Rattle.scenario_defs.specs.declared.scenario.Vrf.{Vrf};
+ghost use Rattle.mvpn_model.specs.Once.{Once};
+ghost use Rattle.mvpn_model.specs.Report.{refused_lines};
+ghost use Rattle.mvpn_model.specs.Safe.{Safe};
 ghost use Rattle.edge_defs.specs.Place.{Core, addr_of};
 ghost use Rattle.world_defs.specs.Counts.{state_line};
 ghost use Rattle.world_defs.specs.Run.{Traced, Run, report_of};
 ghost use Rattle.world_defs.specs.World.{World, Datagram, scenario_of};
+ghost use Rattle.world_laws.specs.SoundRun.{SoundRun};
 ghost use Rattle.delivery_laws.specs.Calm.{CalmTree};
 ghost use Rattle.delivery_laws.specs.Choice.{CalmChoice, sends_on};
 ghost use Rattle.delivery_laws.specs.Labels.{CalmLabels};
-ghost use Rattle.delivery_laws.specs.Once.{Once, past_of, receives_datagram};
-ghost use Rattle.once_laws.specs.Run.{QuietRun, CalmRun};
-ghost use Rattle.once_laws.specs.Told.{AsksAreTold, EntriesAreTold};
+ghost use Rattle.delivery_laws.specs.Once.{past_of, receives_datagram};
+ghost use Rattle.once_laws.specs.Run.{IsQuietEvent, QuietRun, CalmRun};
+ghost use Rattle.once_laws.specs.Told.{AsksAreTold, JoinsAreTold, EntriesAreTold};
 ghost use Rattle.once_laws.specs.Zeros.{Zeros};
 
 /// Where `state` tells of zeros alone, no octet is in transit, no timer is due, and each session is ready.
@@ -49,12 +54,15 @@ pub fn entries_are_told()
         EntriesAreTold (past_of script.scenario events trace) world }
 {}
 
-/// Behind every run an interface asks for a flow by its events exactly where its edge has a join of it that has not ended. Sources that
-/// are noted are not counted yet.
+/// Behind every run an interface asks for a flow by its events exactly where it asks by the entries of its edge, given whether the
+/// events note the source in its VPN. Where no event is `active`, that is where its edge has a join of it that has not ended.
 pub fn asks_are_told()
-    ensures { (core : Core) (script : Script) (events : List Timed) (trace : List Traced) (world : World) →
+    ensures by_entries { (core : Core) (script : Script) (events : List Timed) (trace : List Traced) (world : World) →
         Rules script.scenario → Rises 0 events → Run core script events trace world →
         AsksAreTold (past_of script.scenario events trace) world }
+    ensures by_joins { (core : Core) (script : Script) (events : List Timed) (trace : List Traced) (world : World) →
+        Rules script.scenario → Rises 0 events → AllByRecursion (λ (timed : Timed). IsQuietEvent timed.event) events →
+        Run core script events trace world → JoinsAreTold (past_of script.scenario events trace) world }
 {}
 
 /// Behind a run as that of `labels_are_calm` each receiver of a datagram is served by one of the VRFs at which it enters, each other
@@ -69,5 +77,14 @@ pub fn choices_are_calm()
 /// window leaves once at each interface that receives it, and nowhere else, over the whole report.
 pub fn runs_deliver_once()
     ensures { (core : Core) (script : Script) (events : List Timed) (trace : List Traced) (new : World) →
-        QuietRun core script events trace new → Once script.scenario events (report_of trace) }
+        QuietRun core script events trace new →
+        Once script.scenario events (refused_lines (report_of trace)) (report_of trace) }
+{}
+
+/// In every run of a sound scenario, by its core and by sound events: each `out` line names a datagram that was accepted by then, with
+/// its octets, and an interface whose VRF admits the sender's.
+pub fn each_run_is_safe()
+    ensures { (core : Core) (script : Script) (events : List Timed) (trace : List Traced) (new : World) →
+        SoundRun core script events trace new → Rises 0 events →
+        Safe script.scenario events (refused_lines (report_of trace)) (report_of trace) }
 {}

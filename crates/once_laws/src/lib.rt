@@ -1,9 +1,10 @@
-//! Laws of the whole network: what holds at a line of zeros, and that each datagram sent then is delivered once.
+//! Laws of the whole network: what holds at a line of zeros, that each datagram sent then is delivered once, and that none leaves for a
+//! VPN that its own does not admit.
 #![tactic(auto)]
 
 mod laws;
 
 pub use laws::{
-    asks_are_told, choices_are_calm, entries_are_told, labels_are_calm, runs_deliver_once,
+    asks_are_told, choices_are_calm, each_run_is_safe, entries_are_told, labels_are_calm, runs_deliver_once,
     tunnels_are_trees, zeros_are_calm,
 };

@@ -30,14 +30,14 @@ use Rattle.scenario_defs.specs.declared.scenario.Vrf.{Vrf}
 use Rattle.mvpn_model.specs.Messages.{message_of}
 use Rattle.mvpn_model.specs.Packet.{packet}
 use Rattle.mvpn_model.specs.declared.message.Given.{Given}
-use Rattle.mvpn_model.specs.Sessions.{sessions, edges, bgp_session, bgp_sessions, ldp_session}
+use Rattle.mvpn_model.specs.Sessions.{sessions, edges, bgp_session, bgp_sessions, ldp_session, is_between}
 use Rattle.mvpn_model.specs.declared.session.Session.{Session}
-use Rattle.session_defs.specs.Message.{same_kind}
+use Rattle.scenario_defs.specs.Kinds.{same_kind}
 use Rattle.session_defs.specs.declared.direction.Direction.{Direction}
 use Rattle.edge_defs.specs.Datagrams.{entering_fate}
 use Rattle.edge_defs.specs.Steps as steps
 use Rattle.world_defs.specs.Acts.{Act, Tick, Timers, Move, Lose, Notice, Restart, At, Enter, Land, Drop, Tell, Acted, datagram_at, enters_at, entering, act}
-use Rattle.world_defs.specs.Counts.{all_nodes, directions, link_ways, is_between, is_up as is_end}
+use Rattle.world_defs.specs.Counts.{all_nodes, directions, link_ways, is_up as is_end}
 use Rattle.world_defs.specs.Events.{Happened, Done, row, each, times, raise_acts, is_session_of, raises, turn, healed, settled, landings, drain_round, sent, at_edge, with_message, done}
 use Rattle.world_defs.specs.Nodes.{NodeState, Edge, CoreNode, place_of}
 use Rattle.mvpn_model.specs.Packets.{source_in, group_in}

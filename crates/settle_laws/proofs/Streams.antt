@@ -43,10 +43,10 @@ cut_partial front empty [] place passed e = empty
 cut_partial front empty (b ∷ bs) place (suc passed) e = cut_partial front empty bs (place + 1) passed e
 cut_partial {M} {E} front empty (b ∷ bs) place zero e = by (λ k f. cut_partial front empty bs (place + 1) k f) (front (b ∷ bs)) refl e
   where
-    by : ((k : ℕ) → (cut_at front (place + 1) k bs).fault ≡ None → front (cut_at front (place + 1) k bs).rest ≡ more) → (o : Front M E) → front (b ∷ bs) ≡ o → (elim o as (λ _. Cut M E) [ more ↦ record { messages = []; rest = b ∷ bs; fault = None } | whole n ms ↦ with_front ms (cut_at front (place + 1) (n - 1) bs) | bad offset e ↦ record { messages = []; rest = b ∷ bs; fault = Some (place + offset, e) } ]).fault ≡ None → front (elim o as (λ _. Cut M E) [ more ↦ record { messages = []; rest = b ∷ bs; fault = None } | whole n ms ↦ with_front ms (cut_at front (place + 1) (n - 1) bs) | bad offset e ↦ record { messages = []; rest = b ∷ bs; fault = Some (place + offset, e) } ]).rest ≡ more
+    by : ((k : ℕ) → (cut_at front (place + 1) k bs).fault ≡ None → front (cut_at front (place + 1) k bs).rest ≡ more) → (o : Front M E) → front (b ∷ bs) ≡ o → (elim o as (λ _. Cut M E) [ more ↦ record { messages = []; rest = b ∷ bs; fault = None } | whole n ms ↦ with_front ms (cut_at front (place + 1) (n - 1) bs) | bad ms offset e ↦ record { messages = ms; rest = b ∷ bs; fault = Some (place + offset, e) } ]).fault ≡ None → front (elim o as (λ _. Cut M E) [ more ↦ record { messages = []; rest = b ∷ bs; fault = None } | whole n ms ↦ with_front ms (cut_at front (place + 1) (n - 1) bs) | bad ms offset e ↦ record { messages = ms; rest = b ∷ bs; fault = Some (place + offset, e) } ]).rest ≡ more
     by rest more is f = is
     by rest (whole n ms) is f = rest (n - 1) f
-    by rest (bad offset fault) is f = absurd cc
+    by rest (bad ms offset fault) is f = absurd cc
 
 held_partial : {M E : Type 0} (front : List ℕ → Front M E) → front [] ≡ more → (c : Cut M E) → (c.fault ≡ None → front c.rest ≡ more) → (o : Option (ℕ × E)) → c.fault ≡ o → front (held_of o c.rest) ≡ more
 held_partial front empty c h None e = h e

@@ -76,7 +76,8 @@ is_used vrf number entry = (entry.0.vrf.0 == vrf.0) && (entry.1.number == number
 -- a new selection gets the least number from 1 on that no other one of its VRF has
 abbrev pub with_selection : ℕ → VrfId → Pattern → FinMap pattern_cmp Selected → FinMap pattern_cmp Selected
 with_selection now vrf pattern old =
-    maps.insert old (record { vrf = vrf; pattern = pattern }) (record { number = free_number (λ number. list_any (is_used vrf number) (maps.entries old)) (maps.len old) 1; since = now; run = false })
+    let number = free_number (λ number. list_any (is_used vrf number) (maps.entries old)) (maps.len old) 1 in
+    maps.insert old (record { vrf = vrf; pattern = pattern }) (record { number = number; since = now; run = false })
 
 -- ---- timers
 

@@ -4,3 +4,9 @@ pub mod FourLemmas
 pub mod SixLemmas
 pub mod PacketLemmas
 pub mod WrittenLemmas
+pub mod HopLemmas
+pub mod SlotLemmas
+pub mod FibLemmas
+pub mod NoteLemmas
+pub mod StepLemmas
+pub mod OpLemmas

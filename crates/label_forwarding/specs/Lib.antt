@@ -2,3 +2,6 @@ pub mod Spelling
 pub mod FirstFault
 pub mod Reading
 pub mod Written
+pub mod Hops
+pub mod FibData
+pub mod Slots

@@ -1,7 +1,7 @@
 -- In each run of a scenario with at most one edge each datagram leaves once at each of its receivers, and nowhere else.
 use Rattle.std.proofs.Common.{◌≡◌, ℕ, ◌+◌, ◌<◌, ◌≤◌, List, [], ◌∷◌, ◌++◌, map, take, false, Bool, cond, not, zero, suc, length, refl, sym, ap, subst, append_assoc, ◌∙◌, arith}
 use Rattle.std.specs.Prelude.{◌==◌, ◌&&◌, Option, None, Some, slice_get}
-use Rattle.std.specs.List.{list_any, flat_map, count_by, AllByRecursion}
+use Rattle.std.specs.List.{list_any, flat_map, count_by}
 use Rattle.std.specs.Option.{option_to_list}
 use Rattle.std.proofs.lemmas.Bool.{cond_both, cond-true, or_from}
 use Rattle.std.proofs.lemmas.List.{append-nil, take_at, length_push}

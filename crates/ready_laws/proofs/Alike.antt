@@ -1,6 +1,6 @@
 -- Where the sessions stand by the events and by the acts: alike at each session, also behind a raise.
 use Rattle.std.specs.Prelude.{if◌then◌else◌, find}
-use Rattle.std.proofs.Common.{◌≡◌, ◌⊎◌, ◌==◌, Bool, true, false, cond, ◌&&◌, ◌||◌, List, [], ◌∷◌, Option, Some, None, inl, inr, refl, sym, ap, ◌∙◌}
+use Rattle.std.proofs.Common.{◌≡◌, ◌==◌, Bool, true, false, cond, ◌&&◌, ◌||◌, List, [], ◌∷◌, Option, Some, None, inl, inr, refl, sym, ap, ◌∙◌}
 use Rattle.std.proofs.lemmas.Bool.{and_parts, or_parts, or_cases}
 use Rattle.mv_base.specs.declared.ids.NodeId.{NodeId}
 use Rattle.scenario_defs.specs.declared.event.Kind.{Kind}
@@ -14,7 +14,7 @@ use Rattle.scenario_defs.specs.Kinds.{same_kind}
 use Rattle.world_defs.specs.Acts.{RaiseFirst, RaiseSecond, Notice}
 use Rattle.world_defs.specs.Events.{is_session_of}
 use Rattle.mvpn_model.specs.Unready.{SessionsStand, is_that, raised}
-use Rattle.mvpn_model.proofs.SessionLemmas.{IsIn, other_order, other_way, one_kind}
+use Rattle.mvpn_model.proofs.SessionLemmas.{IsIn, other_order, one_kind}
 use Rattle.ready_laws.proofs.Ends.{new_end}
 use Rattle.ready_laws.proofs.ActsStand.{act_stand}
 

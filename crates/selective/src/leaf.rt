@@ -71,7 +71,8 @@ impl LeafTunnels {
         fec: Fec,
         now: u64,
     ) -> Result<(), NoMemory>
-        ensures learned { OnOk result (self.new ≡ record self.old { routes = insert self.old.routes (key_of peer rd pattern) (learned_now fec now) }) }
+        ensures learned { OnOk result (self.new ≡
+            record self.old { routes = insert self.old.routes (key_of peer rd pattern) (learned_now fec now) }) }
         ensures unchanged { OnErr result (self.new ≡ self.old) }
     {
         let key = RouteKey {

@@ -200,7 +200,8 @@ impl RootTunnels {
         requires few { length self.old.selections < 256 }
         requires now { now < 2 ^ 63 }
         ensures number { IfOk result (λ lsp. lsp ≡ lsp_number self.old.number (next_number self.old.selections)) }
-        ensures selected { OnOk result (self.new ≡ record self.old { selections = self.old.selections ++ selected_now pattern now self.old.selections ∷ [] }) }
+        ensures selected { OnOk result (self.new ≡
+            record self.old { selections = self.old.selections ++ selected_now pattern now self.old.selections ∷ [] }) }
         ensures unchanged { OnErr result (self.new ≡ self.old) }
     {
         let number = next_number(&self.selections);

@@ -1,5 +1,5 @@
 -- The messages of sessions over BGP and LDP, and the octets that spell them (RFC 4271 section 4.1, RFC 5036 section 3.1).
-use Rattle.std.specs.Prelude.{◌≡◌, ℕ, ◌==◌, ◌&&◌, Bool, true, false, List, map}
+use Rattle.std.specs.Prelude.{◌≡◌, ℕ, ◌==◌, ◌&&◌, Bool, List, map}
 use Rattle.mv_base.specs.Octets.{IsOctets}
 use Rattle.framing.specs.Cut.{Front}
 use Rattle.framing.specs.Cut.Front.{more, whole, bad}

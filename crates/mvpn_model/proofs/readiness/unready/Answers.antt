@@ -1,4 +1,4 @@
-use Rattle.std.proofs.Common.{◌≡◌, ◌+◌, List, map, ap, ◌∙◌}
+use Rattle.std.proofs.Common.{◌+◌, List, map, ap, ◌∙◌}
 use Rattle.mv_base.specs.declared.core_link.Link.{Link}
 use Rattle.scenario_defs.specs.declared.scenario.Node.{Node}
 use Rattle.mvpn_model.specs.Past.{past_of}

@@ -1,0 +1,71 @@
+//! The entries of a forwarding table, each with the number of labels that name its FEC.
+ghost use Rattle.std.specs.Prelude.{◌≡◌, ◌<◌, true, false, None, is_some, if◌then◌else◌};
+ghost use Rattle.std.specs.Option.{unwrap_or};
+ghost use Rattle.indexmap.specs.IndexMap.{get, spare, IsUnique};
+ghost use Rattle.mldp_fec.specs.declared.fec.Fec.{Fec};
+ghost use Rattle.label_forwarding.specs.Slots.{is_fec, fresh, is_idle, kept};
+
+use crate::branches::Branches;
+use crate::entry::Entry;
+use indexmap::IndexMap;
+use mldp_fec::Fec;
+use std::alloc::Global;
+
+/// An entry, and how many noted labels name its FEC.
+#[derive(Drop)]
+pub(crate) struct Slot {
+    pub(crate) entry: Entry,
+    pub(crate) mapped: usize,
+}
+
+/// The slots by FEC.
+pub(crate) type Slots = IndexMap<Fec, Slot>;
+
+impl Slot {
+    /// The slot in which nothing stands.
+    fn of(alloc: Global, fec: &Fec) -> Slot
+        ensures { result ≡ fresh fec.now }
+    {
+        Slot {
+            entry: Entry {
+                fec: *fec,
+                leaf: false,
+                branches: Branches::new(alloc),
+            },
+            mapped: 0,
+        }
+    }
+
+    /// Whether nothing needs it.
+    fn is_idle(&self) -> bool
+        ensures { result ≡ is_idle self.now }
+    {
+        self.mapped == 0 && !self.entry.leaf && self.entry.branches.is_empty()
+    }
+}
+
+/// Takes the slot of the FEC, and leaves an idle one in its place. There is one, or room for one.
+pub(crate) fn take(slots: &mut Slots, alloc: Global, fec: &Fec) -> Slot
+    requires { get is_fec slots.old fec.now ≡ None → 0 < spare slots.old }
+    ensures value { result ≡ unwrap_or (get is_fec slots.old fec.now) (fresh fec.now) }
+    ensures others { (other : Fec) → is_fec fec.now other ≡ false → get is_fec slots.new other ≡ get is_fec slots.old other }
+    ensures there { is_some (get is_fec slots.new fec.now) ≡ true }
+    ensures unique { IsUnique is_fec slots.new }
+{
+    let idle = Slot::of(alloc, fec);
+    let own = slots.insert(*fec, idle).unwrap();
+    own.unwrap_or(Slot::of(alloc, fec))
+}
+
+/// Puts the slot of the FEC back in its place, or drops it where nothing needs it.
+pub(crate) fn give_back(slots: &mut Slots, fec: &Fec, slot: Slot)
+    requires { is_some (get is_fec slots.old fec.now) ≡ true }
+    ensures each { (other : Fec) → get is_fec slots.new other ≡ (if is_fec fec.now other then kept slot else get is_fec slots.old other) }
+    ensures unique { IsUnique is_fec slots.new }
+{
+    if slot.is_idle() {
+        slots.swap_remove(fec);
+    } else {
+        slots.insert(*fec, slot).unwrap();
+    }
+}

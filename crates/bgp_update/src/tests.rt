@@ -76,9 +76,9 @@ fn announces(message: Option<Message>) -> bool {
 
 #[test]
 fn in_pieces(rt: HostRuntime) -> Result<(), Fail> {
-    for size in [1, 7, 84] {
+    for size in [1, 7, 84].iter() {
         let mut stream = Stream::of(rt.alloc());
-        for piece in ADVERT.as_slice().chunks(size) {
+        for piece in ADVERT.chunks(*size) {
             assert_eq!(rt; stream.feed(piece), Ok(()));
         }
         assert!(rt; announces(stream.next()));

@@ -67,18 +67,18 @@ use Rattle.once_laws.proofs.Rests.{Rests, unfed_rests}
 use Rattle.once_laws.proofs.Stands.{Alike, Told, kept_of, Stands, MayStand, remaining_twice, counts_by, alike_later, alike_after, edge_control, one_stands, step}
 use Rattle.ready_laws.proofs.Ends.{holds_then}
 
-abbrev Any : List ReportLine → Type 0
+abbrev pub Any : List ReportLine → Type 0
 Any all = ⊤
 
-abbrev AllRest : OctetNetwork Nodes → Type 0
+abbrev pub AllRest : OctetNetwork Nodes → Type 0
 AllRest network = (over : Direction) → Rests over.kind (network.stream over)
 
 -- ---- sessions need nothing here
 
-abbrev Free : Kind → NodeId → NodeId → Type 0
+abbrev pub Free : Kind → NodeId → NodeId → Type 0
 Free kind a b = ⊤
 
-all_fit : (list : List Session) → AllByRecursion (AreFit Free) list
+pub all_fit : (list : List Session) → AllByRecursion (AreFit Free) list
 all_fit [] = tt
 all_fit (session ∷ more) = ((tt, tt), all_fit more)
 
@@ -112,7 +112,7 @@ any_may (events.Select vrf pattern) = λ n. tt
 any_may (events.Unselect vrf pattern) = λ n. tt
 any_may other = tt
 
-rests_hold : (world : World) (event : Event) → AllRest world.network → Leads Any (λ new. AllRest new.network) (done world event)
+pub rests_hold : (world : World) (event : Event) → AllRest world.network → Leads Any (λ new. AllRest new.network) (done world event)
 rests_hold world event r =
     leads_as Any _ (λ new. AllRest new.network) (λ new c. c.rests) (done world event)
     (event_holds AnyNodes Free (λ nodes f. all_fit (sessions nodes.scenario)) AnyCall (λ n call h. tt) (λ nodes call w f. any_holds (nodes_called call nodes)) world event (any_may event) (record { nodes = tt; rests = r }))
@@ -142,7 +142,7 @@ no_ticks scenario c told other world event h l = leads_as Any (Kept scenario c t
 -- ---- messages
 
 -- the edge of an interface is an edge
-iface_edge : (scenario : Scenario) → Rules scenario → (iface : IfaceId) (n : NodeId) → edge_of scenario iface ≡ Some n → is_edge scenario n ≡ true
+pub iface_edge : (scenario : Scenario) → Rules scenario → (iface : IfaceId) (n : NodeId) → edge_of scenario iface ≡ Some n → is_edge scenario n ≡ true
 iface_edge scenario rules iface n h = by (slice_get scenario.ifaces iface.0) h
   where
     of_vrf : (v : ℕ) (o : Option Vrf) → slice_get scenario.vrfs v ≡ o → option_map (λ (vrf : Vrf). vrf.edge) o ≡ Some n → is_edge scenario n ≡ true
@@ -156,7 +156,7 @@ iface_edge scenario rules iface n h = by (slice_get scenario.ifaces iface.0) h
     by (Some found) t = of_vrf found.vrf.0 (slice_get scenario.vrfs found.vrf.0) refl t
 
 -- a call at a node
-call_gives : (P : Nodes → Type 0) (world : World) (m : NodeId) (o : Option (Stepped Nodes)) → Holds (λ (new : Stepped Nodes). P new.state) o
+pub call_gives : (P : Nodes → Type 0) (world : World) (m : NodeId) (o : Option (Stepped Nodes)) → Holds (λ (new : Stepped Nodes). P new.state) o
     → Gives Any (λ new. P new.network.state) (with_network world [] (with_step world.network o >>? λ next. with_earlier next.puts (Some (record { network = next.network; puts = [] }))) m)
 call_gives P world m None h = tt
 call_gives P world m (Some new) h = (tt, h)

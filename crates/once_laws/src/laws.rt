@@ -22,7 +22,7 @@ ghost use Rattle.delivery_laws.specs.Choice.{CalmChoice, sends_on};
 ghost use Rattle.delivery_laws.specs.Labels.{CalmLabels};
 ghost use Rattle.delivery_laws.specs.Once.{past_of, receives_datagram};
 ghost use Rattle.once_laws.specs.Run.{IsQuietEvent, QuietRun, CalmRun};
-ghost use Rattle.once_laws.specs.Told.{AsksAreTold, JoinsAreTold, EntriesAreTold};
+ghost use Rattle.once_laws.specs.Told.{AsksAreTold, NotesAreTold, JoinsAreTold, EntriesAreTold};
 ghost use Rattle.once_laws.specs.Zeros.{Zeros};
 
 /// Where `state` tells of zeros alone, no octet is in transit, no timer is due, and each session is ready.
@@ -52,6 +52,14 @@ pub fn entries_are_told()
     ensures { (core : Core) (script : Script) (events : List Timed) (trace : List Traced) (world : World) →
         Rules script.scenario → Rises 0 events → Run core script events trace world →
         EntriesAreTold (past_of script.scenario events trace) world }
+{}
+
+/// Behind every run a source is noted at an interface by the events exactly where the interface's edge has noted it there: by each
+/// `active` that was accepted, up to an `idle` of the same flow there or a restart of the edge.
+pub fn notes_are_told()
+    ensures { (core : Core) (script : Script) (events : List Timed) (trace : List Traced) (world : World) →
+        Rules script.scenario → Rises 0 events → Run core script events trace world →
+        NotesAreTold (past_of script.scenario events trace) world }
 {}
 
 /// Behind every run an interface asks for a flow by its events exactly where it asks by the entries of its edge, given whether the

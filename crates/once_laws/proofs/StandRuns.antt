@@ -1,7 +1,7 @@
 -- What interfaces ask for by the events is what the edges keep, behind every run.
 use Rattle.std.specs.Prelude.{⊤}
 use Rattle.std.proofs.Common.{◌≡◌, ℕ, ◌+◌, ◌==◌, ◌||◌, ◌&&◌, not, Bool, true, false, cond, List, [], ◌∷◌, slice_get, option_map, Option, Some, None, refl, sym, ap, subst, ◌∙◌, arith}
-use Rattle.std.specs.List.{AllByRecursion, fold, list_any}
+use Rattle.std.specs.List.{AllByRecursion, fold}
 use Rattle.std.specs.FinMap as maps
 use Rattle.std.proofs.lemmas.Bool.{cond_both, true≢false, eqb-true, eq-eqb}
 use Rattle.std.proofs.lemmas.Option.{none-some, same_Some}
@@ -9,7 +9,7 @@ use Rattle.mv_base.specs.Number.{◌>>?◌}
 use Rattle.mv_base.specs.declared.ids.IfaceId.{IfaceId}
 use Rattle.mv_base.specs.declared.ids.NodeId.{NodeId}
 use Rattle.mvpn_model.specs.Messages.{message_of}
-use Rattle.mvpn_model.specs.Past.{Past, is_accepted, ticks_of, is_of_edge, expiry_given, expiry_by, stands_after, standing, noted_by, noted_after, is_noted, is_active, is_active_at}
+use Rattle.mvpn_model.specs.Past.{Past, is_accepted, ticks_of, is_of_edge, expiry_given, expiry_by, stands_after, standing, is_active_at}
 use Rattle.mvpn_model.specs.Report.{refused_lines}
 use Rattle.mvpn_model.specs.declared.message.Given.{Given}
 use Rattle.mvpn_model.specs.declared.standing.Standing.{Standing}
@@ -59,10 +59,8 @@ use Rattle.ready_laws.proofs.Ends.{Holds}
 use Rattle.delivery_laws.proofs.Outcomes.{Leads, Gives, then_leads, one_leads, leads_as}
 use Rattle.delivery_laws.proofs.Silent.{any_lines}
 use Rattle.rule_laws.proofs.Rows.{IsEdgeNode}
-use Rattle.once_laws.specs.Run.{IsQuietEvent}
-use Rattle.once_laws.specs.Told.{kept_at_edge, AsksAreTold, JoinsAreTold, EntriesAreTold}
+use Rattle.once_laws.specs.Told.{kept_at_edge, AsksAreTold, EntriesAreTold}
 use Rattle.once_laws.proofs.Carry.{IsOfSession, AreFit, EventMay, event_holds}
-use Rattle.once_laws.proofs.CalmFlows.{only_joined}
 use Rattle.once_laws.proofs.Rests.{Rests, unfed_rests}
 use Rattle.once_laws.proofs.Stands.{Alike, Told, kept_of, Stands, MayStand, remaining_twice, counts_by, alike_later, alike_after, edge_control, one_stands, step}
 use Rattle.ready_laws.proofs.Ends.{holds_then}
@@ -404,38 +402,3 @@ asks_told core scenario all trace world rules rises run =
     let pruned : JoinEntry = join_entries.Rpt source group in
     ap (λ (c : ℕ). asks_by c active (told joined) (told shared) (told pruned)) (e.clock iface joined)
     ∙ asks_by_counts now active (told joined) (told shared) (told pruned) (kept joined) (kept shared) (kept pruned) (e.counted iface n joined at) (e.counted iface n shared at) (e.counted iface n pruned at)
-
--- events none of which is `active` note no source
-never_noted : (scenario : Scenario) (refused : List ℕ) (iface : IfaceId) (source group : Addr) (all : List Timed) → AllByRecursion (λ (timed : Timed). IsQuietEvent timed.event) all → fold (noted_after scenario refused iface source group) false all ≡ false
-never_noted scenario refused iface source group [] h = refl
-never_noted scenario refused iface source group (timed ∷ more) h =
-    ap (λ (b : Bool). fold (noted_after scenario refused iface source group) b more) (if_accepted (is_accepted refused timed)) ∙ never_noted scenario refused iface source group more h.1
-  where
-    still : (event : Event) → IsQuietEvent event → noted_by scenario iface source group event false ≡ false
-    still (events.Active own own_source own_group) q = absurd q
-    still other q = refl
-
-    if_accepted : (b : Bool) → cond b (noted_by scenario iface source group timed.event false) false ≡ false
-    if_accepted true = still timed.event h.0
-    if_accepted false = refl
-
-none_of : {A : Type 0} (test : A → Bool) (xs : List A) → ((x : A) → test x ≡ false) → list_any test xs ≡ false
-none_of test [] h = refl
-none_of test (x ∷ xs) h = λ i. h x i || none_of test xs h i
-
--- so no source is known to send
-never_active : (past : Past) → AllByRecursion (λ (timed : Timed). IsQuietEvent timed.event) past.events → (iface : IfaceId) (source group : Addr) → is_active_at past iface source group ≡ false
-never_active past quiet iface source group = by (slice_get past.scenario.ifaces iface.0)
-  where
-    by : (o : Option Iface) → elim o as (λ _. Bool) [ None ↦ false | Some own ↦ is_active past own.vrf source group ] ≡ false
-    by None = refl
-    by (Some own) = none_of (λ iface. is_noted past iface source group) _ (λ iface. never_noted past.scenario past.refused iface source group past.events quiet)
-
--- Where no event is `active`, interfaces ask for what is joined at their edges.
-pub joins_told : (core : Core) (scenario : Scenario) (all : List Timed) (trace : List Traced) (world : World) → Rules scenario → Rises 0 all → AllByRecursion (λ (timed : Timed). IsQuietEvent timed.event) all → Runs (start scenario core) 0 all trace world
-    → JoinsAreTold (record { scenario = scenario; events = all; refused = refused_lines (report_of trace) }) world
-joins_told core scenario all trace world rules rises quiet run iface n source group at =
-    let past : Past = record { scenario = scenario; events = all; refused = refused_lines (report_of trace) } in
-    let kept : JoinEntry → Option Expiry = λ entry. kept_at_edge world n iface entry in
-    asks_told core scenario all trace world rules rises run iface n source group at
-    ∙ only_joined (clock_of world) (is_active_at past iface source group) (kept (join_entries.Source source group)) (kept (join_entries.Star group)) (kept (join_entries.Rpt source group)) (never_active past quiet iface source group)

@@ -28,12 +28,6 @@ AsksAreTold past world =
     asks_by (clock_of world) (is_active_at past iface source group) (kept_at_edge world n iface (entries.Source source group))
     (kept_at_edge world n iface (entries.Star group)) (kept_at_edge world n iface (entries.Rpt source group))
 
--- An interface asks for a flow by the events exactly where its edge has a join of it that has not ended.
-abbrev pub JoinsAreTold : Past → World → Type 0
-JoinsAreTold past world =
-    (iface : IfaceId) (n : NodeId) (source group : Addr) → edge_of (scenario_of world) iface ≡ Some n →
-    asks past iface source group ≡ counts (clock_of world) (kept_at_edge world n iface (entries.Source source group))
-
 -- A source is noted at an interface by the events exactly where its edge has that note.
 abbrev pub NotesAreTold : Past → World → Type 0
 NotesAreTold past world =

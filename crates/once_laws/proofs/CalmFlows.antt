@@ -1,5 +1,5 @@
 -- What an interface asks for at a line of zeros is a flow of its edge.
-use Rattle.std.proofs.Common.{◌≡◌, ◌≢◌, ◌⊎◌, ℕ, zero, suc, ◌+◌, ◌≤◌, ◌&&◌, ◌||◌, Bool, true, false, not, cond, List, [], ◌∷◌, map, slice_get, inl, inr, Option, Some, None, is_some, refl, sym, ap, subst, ◌∙◌, arith}
+use Rattle.std.proofs.Common.{◌≡◌, ◌≢◌, ◌⊎◌, ℕ, zero, suc, ◌+◌, ◌≤◌, ◌&&◌, ◌||◌, Bool, true, false, not, cond, List, [], ◌∷◌, slice_get, inl, inr, Option, Some, None, is_some, refl, sym, ap, subst, ◌∙◌, arith}
 use Rattle.std.specs.List.{filter, flat_map}
 use Rattle.std.specs.FinMap as maps
 use Rattle.std.proofs.lemmas.Bool.{true≢false, and_parts, lt-ltb, ltb-true}

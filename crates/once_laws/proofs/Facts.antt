@@ -1,6 +1,6 @@
 -- What holds of the nodes of every run in which no source is noted.
 use Rattle.std.specs.Prelude.{⊤}
-use Rattle.std.proofs.Common.{◌≡◌, ◌≢◌, ◌⊎◌, inl, inr, cond, map, length, slice_get, is_some, length-append, ℕ, ◌+◌, ◌≤◌, ◌++◌, Bool, true, false, not, ◌==◌, List, [], ◌∷◌, Option, Some, None, refl, sym, ap, subst, ◌∙◌, arith}
+use Rattle.std.proofs.Common.{◌≡◌, ◌≢◌, ◌⊎◌, inl, inr, cond, map, length, slice_get, is_some, length-append, ℕ, ◌+◌, ◌≤◌, ◌++◌, Bool, true, false, ◌==◌, List, [], ◌∷◌, Option, Some, None, refl, sym, ap, subst, ◌∙◌, arith}
 use Rattle.std.specs.List.{AllByRecursion, fold}
 use Rattle.std.specs.FinMap as maps
 use Rattle.std.specs.FinMap.{find}
@@ -8,7 +8,7 @@ use Rattle.std.specs.Cmp.{Equal-is}
 use Rattle.std.proofs.lemmas.List.{append_assoc}
 use Rattle.std.specs.FinSet as sets
 use Rattle.std.specs.Ordering.{eq_by_cmp}
-use Rattle.std.proofs.lemmas.Bool.{cases_Bool, cond_both, and_parts, true≢false, false_from_ne_true}
+use Rattle.std.proofs.lemmas.Bool.{cases_Bool, cond_both, true≢false}
 use Rattle.mv_base.specs.declared.ids.NodeId.{NodeId}
 use Rattle.mldp_fec.specs.declared.fec.Fec.{Fec}
 use Rattle.bgp_attributes.specs.declared.update.Message.{Message}
@@ -38,7 +38,6 @@ use Rattle.edge_defs.specs.Steps as steps
 use Rattle.edge_defs.specs.Steps.{EdgeStepped, LabelStep, edge_step, own_label_call, changed_leaves, one_call, control_step, label_row, part_after}
 use Rattle.bgp_update.specs.Table.{changes_of}
 use Rattle.edge_defs.specs.Tunnels.{leaves}
-use Rattle.edge_defs.proofs.KeyLemmas.{note_total}
 use Rattle.edge_defs.proofs.LeafSteps.{fresh_leaves, leaves_follow}
 use Rattle.calm_laws.proofs.Flows.{fresh_stands, later_stands, step_stands}
 use Rattle.world_defs.specs.Nodes.{NodeState, Edge, CoreNode, Nodes, is_edge, fresh_node, with_node, place_of}

@@ -1,8 +1,8 @@
 -- The sources that the events note are those that the edges have noted, behind every run.
 use Rattle.std.specs.Prelude.{⊤}
-use Rattle.std.proofs.Common.{not, ◌&&◌, ◌||◌, ◌≡◌, ℕ, ◌+◌, ◌==◌, ◌++◌, Bool, true, false, cond, List, [], ◌∷◌, Option, Some, None, refl, sym, ap, subst, ◌∙◌}
+use Rattle.std.proofs.Common.{not, ◌&&◌, ◌||◌, ◌≡◌, ℕ, ◌+◌, ◌==◌, Bool, true, false, cond, List, [], ◌∷◌, Option, Some, None, refl, sym, ap, subst, ◌∙◌}
 use Rattle.std.specs.Cmp.{both_ways, Equal-is}
-use Rattle.std.specs.List.{AllByRecursion, fold}
+use Rattle.std.specs.List.{fold}
 use Rattle.std.specs.FinMap as maps
 use Rattle.std.specs.FinSet as sets
 use Rattle.std.specs.Ordering.{eq_by_cmp}
@@ -14,7 +14,7 @@ use Rattle.mv_base.specs.declared.ids.IfaceId.{IfaceId}
 use Rattle.mv_base.specs.declared.ids.NodeId.{NodeId}
 use Rattle.bgp_attributes.specs.declared.update.Message.{Message}
 use Rattle.bgp_update.specs.Table.{changes_of}
-use Rattle.mvpn_model.specs.Past.{Past, is_accepted, is_of_edge, is_flow_at, noted_by, noted_after}
+use Rattle.mvpn_model.specs.Past.{is_accepted, is_of_edge, is_flow_at, noted_by, noted_after}
 use Rattle.mvpn_model.specs.Report.{refused_lines}
 use Rattle.mvpn_model.specs.Sessions.{sessions}
 use Rattle.scenario_defs.specs.Rules.{Rules, Rises}
@@ -223,7 +223,7 @@ module _ (scenario : Scenario) (rules : Rules scenario) (noted : Noted) (iface :
           (one_leads Any any_lines (Kept scenario new_noted) world (At m call) (call_gives (NotesStand scenario new_noted) world m (node_called world.network.state m (world.network.state.node m) call) (node_stands world.network.state m e s)))
           (λ next v. (tt, v))
 
--- or, one way round and the other
+-- truth values
 or_off : (b : Bool) → (b || false) ≡ b
 or_off true = refl
 or_off false = refl

@@ -16,12 +16,11 @@ use Rattle.mldp_fec.specs.declared.fec.Fec.{Fec}
 use Rattle.mvpn_model.specs.Past as pasts
 use Rattle.mvpn_model.specs.Past.{Past}
 use Rattle.mvpn_model.proofs.ListLemmas.{passes-from_find, none-from_find}
-use Rattle.route_targets.specs.Targets.{same}
 use Rattle.pim_defs.specs.Asking.{asks_by}
 use Rattle.pim_defs.specs.declared.expiry.Expiry.{Expiry}
 use Rattle.scenario_defs.specs.Home.{home, home_by, routes_from}
 use Rattle.scenario_defs.specs.Rules.{Rules}
-use Rattle.scenario_defs.specs.Vpn.{is_of_site, is_of_vrf, is_attached_at, same_vpn, targets_of, vrf_of_site, ifaces_where, entered_from, entered}
+use Rattle.scenario_defs.specs.Vpn.{is_of_site, is_of_vrf, is_attached_at, same_vpn, targets_of, vrf_of_site, entered_from, entered}
 use Rattle.scenario_defs.specs.declared.event.JoinEntry.{JoinEntry}
 use Rattle.scenario_defs.specs.declared.event.JoinEntry.TheVariants as join_entries
 use Rattle.scenario_defs.specs.declared.scenario.Iface.{Iface}

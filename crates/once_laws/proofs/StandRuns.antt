@@ -13,7 +13,6 @@ use Rattle.mvpn_model.specs.Past.{Past, is_accepted, ticks_of, is_of_edge, expir
 use Rattle.mvpn_model.specs.Report.{refused_lines}
 use Rattle.mvpn_model.specs.declared.message.Given.{Given}
 use Rattle.mvpn_model.specs.declared.standing.Standing.{Standing}
-use Rattle.mv_base.specs.declared.addr.Addr.{Addr}
 use Rattle.pim_defs.specs.Asking.{asks_by}
 use Rattle.pim_defs.specs.Entries.{entry_cmp}
 use Rattle.pim_defs.specs.Expiry.{counts, remaining}

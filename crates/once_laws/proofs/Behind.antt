@@ -49,15 +49,15 @@ pub record Known (scenario : Scenario) (core : Core) (world : World) : Type 0 wh
 
 pub known_of : (core : Core) (script : Script) (events : List Timed) (trace : List Traced) (world : World) → CalmRun core script events trace world → Known script.scenario core world
 known_of core script events trace world c =
-    let f = run_facts script.scenario core events trace world c.run.quiet c.run.sound.run in
+    let f = run_facts script.scenario core events trace world c.sound.run in
     record {
-      rules = subst Rules (sym f.0.same) c.run.sound.scenario.rules;
-      octets = subst HasOctets (sym f.0.same) c.run.sound.scenario.octets;
-      is_core = subst (λ (x : Core). IsCoreOf (scenario_of world) x) (sym f.0.same_core) (subst (λ (s : Scenario). IsCoreOf s core) (sym f.0.same) c.run.sound.of_scenario);
-      step = run_in_step script.scenario core events trace world c.run.sound.scenario c.run.sound.sound_events c.run.sound.run;
+      rules = subst Rules (sym f.0.same) c.sound.scenario.rules;
+      octets = subst HasOctets (sym f.0.same) c.sound.scenario.octets;
+      is_core = subst (λ (x : Core). IsCoreOf (scenario_of world) x) (sym f.0.same_core) (subst (λ (s : Scenario). IsCoreOf s core) (sym f.0.same) c.sound.of_scenario);
+      step = run_in_step script.scenario core events trace world c.sound.scenario c.sound.sound_events c.sound.run;
       facts = f.0;
       rests = f.1;
-      links = (copies_sound core script events trace world c.run.sound.scenario.rules c.run.sound.run).0;
+      links = (copies_sound core script events trace world c.sound.scenario.rules c.sound.run).0;
       zeros = zeros_of world c.zeros;
     }
 

@@ -1,6 +1,6 @@
 -- What holds of the nodes of every run in which no source is noted.
 use Rattle.std.specs.Prelude.{⊤}
-use Rattle.std.proofs.Common.{◌≡◌, ◌≢◌, ◌⊎◌, inl, inr, cond, map, length, slice_get, is_some, length-append, ℕ, ◌+◌, ◌≤◌, ◌++◌, Bool, true, false, not, ◌==◌, List, [], ◌∷◌, Option, Some, None, refl, sym, ap, subst, ◌∙◌, arith}
+use Rattle.std.proofs.Common.{◌≡◌, ◌≢◌, ◌⊎◌, inl, inr, cond, map, length, slice_get, is_some, length-append, ℕ, ◌+◌, ◌≤◌, ◌++◌, Bool, true, false, ◌==◌, List, [], ◌∷◌, Option, Some, None, refl, sym, ap, subst, ◌∙◌, arith}
 use Rattle.std.specs.List.{AllByRecursion, fold}
 use Rattle.std.specs.FinMap as maps
 use Rattle.std.specs.FinMap.{find}
@@ -8,7 +8,7 @@ use Rattle.std.specs.Cmp.{Equal-is}
 use Rattle.std.proofs.lemmas.List.{append_assoc}
 use Rattle.std.specs.FinSet as sets
 use Rattle.std.specs.Ordering.{eq_by_cmp}
-use Rattle.std.proofs.lemmas.Bool.{cases_Bool, cond_both, and_parts, true≢false, false_from_ne_true}
+use Rattle.std.proofs.lemmas.Bool.{cases_Bool, cond_both, true≢false}
 use Rattle.mv_base.specs.declared.ids.NodeId.{NodeId}
 use Rattle.mldp_fec.specs.declared.fec.Fec.{Fec}
 use Rattle.bgp_attributes.specs.declared.update.Message.{Message}
@@ -38,7 +38,6 @@ use Rattle.edge_defs.specs.Steps as steps
 use Rattle.edge_defs.specs.Steps.{EdgeStepped, LabelStep, edge_step, own_label_call, changed_leaves, one_call, control_step, label_row, part_after}
 use Rattle.bgp_update.specs.Table.{changes_of}
 use Rattle.edge_defs.specs.Tunnels.{leaves}
-use Rattle.edge_defs.proofs.KeyLemmas.{note_total}
 use Rattle.edge_defs.proofs.LeafSteps.{fresh_leaves, leaves_follow}
 use Rattle.calm_laws.proofs.Flows.{fresh_stands, later_stands, step_stands}
 use Rattle.world_defs.specs.Nodes.{NodeState, Edge, CoreNode, Nodes, is_edge, fresh_node, with_node, place_of}
@@ -51,7 +50,6 @@ use Rattle.scenario_defs.specs.declared.scenario.Node.{Node}
 use Rattle.label_defs.specs.Keys.{node_cmp}
 use Rattle.label_defs.proofs.KeyLemmas.{node_cmp_total, node_cmp_exact, node_equal}
 use Rattle.ready_laws.proofs.Ends.{Holds}
-use Rattle.once_laws.specs.Run.{IsQuietEvent}
 use Rattle.once_laws.specs.Facts.{EdgeFact, NodeFact, NodesFact, FitEnd}
 use Rattle.world_laws.proofs.Lists.{each_map, each_weaker, each_append}
 use Rattle.once_laws.proofs.Carry.{IsOfSession, AreFit, EventMay, runs_hold}
@@ -60,49 +58,18 @@ use Rattle.ready_laws.proofs.Ends.{holds_from, holds_then}
 
 -- ---- calls
 
--- no source is noted, and ends come up between edges alone
+-- ends come up between edges alone
 abbrev pub MayBe : Scenario → NodeCall → Type 0
-MayBe scenario (Own n (steps.Active iface source group)) = ⊥
 MayBe scenario (Own n (steps.Raised kind peer)) = FitEnd scenario kind n peer
 MayBe scenario other = ⊤
 
 free : (scenario : Scenario) (n : NodeId) (call : steps.Call) → IsOfSession (FitEnd scenario) n call → MayBe scenario (Own n call)
-free scenario n (steps.Active iface source group) h = absurd h
 free scenario n (steps.Raised kind peer) h = h
 free scenario n other h = tt
 
 holds_both : {A : Type 0} (P Q : A → Type 0) (o : Option A) → Holds P o → Holds Q o → Holds (λ x. P x × Q x) o
 holds_both P Q None p q = tt
 holds_both P Q (Some x) p q = (p, q)
-
--- ---- notes
-
-abbrev NoNotes : Control → Type 0
-NoNotes control = (note : Note) → sets.contains control.notes note ≡ false
-
-update_notes : (now : ℕ) (peer : NodeId) (message : Message) (old : Control) → (steps.with_update now peer message old).notes ≡ old.notes
-update_notes now peer message old = by (maps.get old.peers peer)
-  where
-    by : (o : Option Taken) → (elim o as (λ _. Control) [ None ↦ old | Some taken ↦ record old { peers = maps.insert old.peers peer (fold (steps.taken_change now) taken (changes_of message)) } ]).notes ≡ old.notes
-    by None = refl
-    by (Some taken) = refl
-
-step_notes : (place : EdgePlace) (now : ℕ) (n : NodeId) (old : Control) (call : steps.Call) → MayBe place.scenario (Own n call) → NoNotes old → NoNotes (control_step place now old call)
-step_notes place now n old (steps.Update peer message) w h = λ note. ap (λ (s : sets.FinSet note_cmp). sets.contains s note) (update_notes now peer message old) ∙ h note
-step_notes place now n old (steps.Label neighbour message) w h = h
-step_notes place now n old (steps.Pim iface message) w h = h
-step_notes place now n old (steps.Active iface source group) w h = absurd w
-step_notes place now n old (steps.Idle iface source group) w h = λ note.
-    let gone : Note = record { iface = iface; source = source; group = group } in
-    false_from_ne_true (sets.contains (sets.remove old.notes gone) note)
-    (λ t. true≢false (sym (and_parts (not (eq_by_cmp note_cmp note gone)) (sets.contains old.notes note) (sym (sets.contains-remove note_total old.notes gone note) ∙ t)).1 ∙ h note))
-step_notes place now n old (steps.Select vrf pattern) w h = h
-step_notes place now n old (steps.Unselect vrf pattern) w h = h
-step_notes place now n old (steps.Raised kinds.Bgp peer) w h = h
-step_notes place now n old (steps.Raised kinds.Ldp peer) w h = h
-step_notes place now n old (steps.Noticed kinds.Bgp peer) w h = h
-step_notes place now n old (steps.Noticed kinds.Ldp peer) w h = h
-step_notes place now n old steps.Timers w h = h
 
 -- ---- peers
 
@@ -181,7 +148,6 @@ edge_fact nodes n edge call w h =
       leaves = f.1;
       flows = subst (λ (c : Control). (moment : ℕ) × (moment ≤ nodes.clock) × (c.flows ≡ flows_at (place_of nodes n) moment c)) (sym f.0) (step_stands (place_of nodes n) nodes.clock edge.control call h.flows);
       peers = subst (PeersFit (place_of nodes n)) (sym f.0) (step_peers (place_of nodes n) nodes.clock edge.control call w h.peers);
-      notes = subst NoNotes (sym f.0) (step_notes (place_of nodes n) nodes.clock n edge.control call w h.notes);
     }
 
 -- ---- a core node
@@ -241,12 +207,12 @@ called_fact scenario core nodes n call w f = by (nodes.node n) (f.node n)
     by (CoreNode part) h = core_fact scenario core nodes n part call f h
 
 later_fact : (place : EdgePlace) (now later : ℕ) (state : NodeState) → now ≤ later → NodeFact place now state → NodeFact place later state
-later_fact place now later (Edge edge) le h = record { leaves = h.leaves; flows = later_stands place now later edge.control le h.flows; peers = h.peers; notes = h.notes }
+later_fact place now later (Edge edge) le h = record { leaves = h.leaves; flows = later_stands place now later edge.control le h.flows; peers = h.peers }
 later_fact place now later (CoreNode part) le h = h
 
 fresh_fact : (place : EdgePlace) (now : ℕ) (scenario : Scenario) (n : NodeId) → NodeFact place now (fresh_node scenario n)
 fresh_fact place now scenario n = cond_both (is_edge scenario n) (Edge (edges.fresh scenario.labels)) (CoreNode (labels.fresh scenario.labels)) (NodeFact place now)
-    (λ t. record { leaves = fresh_leaves place scenario.labels; flows = fresh_stands place now; peers = λ peer up. absurd (true≢false (sym (ap (λ (o : Option Taken). is_some o) (sym (maps.get-empty node_cmp peer)) ∙ up))); notes = λ note. sets.contains-empty note_cmp note })
+    (λ t. record { leaves = fresh_leaves place scenario.labels; flows = fresh_stands place now; peers = λ peer up. absurd (true≢false (sym (ap (λ (o : Option Taken). is_some o) (sym (maps.get-empty node_cmp peer)) ∙ up))) })
     (λ t fec. sets.contains-empty fec_cmp fec)
 
 step : (scenario : Scenario) (core : Core) (nodes : Nodes) (call : NodeCall) → MayBe scenario call → NodesFact scenario core nodes → Holds (λ (new : Stepped Nodes). NodesFact scenario core new.state) (nodes_called call nodes)
@@ -310,27 +276,27 @@ fit scenario core nodes f = subst (λ (s : Scenario). AllByRecursion (AreFit (Fi
 abbrev Facts : Scenario → Core → Nodes → Type 0
 Facts scenario core = NodesFact scenario core
 
-event_may : (scenario : Scenario) (core : Core) (event : Event) → IsQuietEvent event → EventMay (Facts scenario core) (FitEnd scenario) (fit scenario core) (MayBe scenario) (free scenario) (step scenario core) event
-event_may scenario core (events.Active iface source group) q = absurd q
-event_may scenario core (events.Tick count) q = tt
-event_may scenario core (events.Timers node) q = tt
-event_may scenario core events.Settle q = λ n. tt
-event_may scenario core (events.Restart node) q = tt
-event_may scenario core (events.Join iface entry) q = λ n at message. tt
-event_may scenario core (events.Prune iface entry) q = λ n at message. tt
-event_may scenario core (events.Pim iface bytes) q = λ n at message. tt
-event_may scenario core (events.Idle iface source group) q = λ n. tt
-event_may scenario core (events.Select vrf pattern) q = λ n. tt
-event_may scenario core (events.Unselect vrf pattern) q = λ n. tt
-event_may scenario core other q = tt
+event_may : (scenario : Scenario) (core : Core) (event : Event) → EventMay (Facts scenario core) (FitEnd scenario) (fit scenario core) (MayBe scenario) (free scenario) (step scenario core) event
+event_may scenario core (events.Tick count) = tt
+event_may scenario core (events.Timers node) = tt
+event_may scenario core events.Settle = λ n. tt
+event_may scenario core (events.Restart node) = tt
+event_may scenario core (events.Join iface entry) = λ n at message. tt
+event_may scenario core (events.Prune iface entry) = λ n at message. tt
+event_may scenario core (events.Pim iface bytes) = λ n at message. tt
+event_may scenario core (events.Active iface source group) = λ n. tt
+event_may scenario core (events.Idle iface source group) = λ n. tt
+event_may scenario core (events.Select vrf pattern) = λ n. tt
+event_may scenario core (events.Unselect vrf pattern) = λ n. tt
+event_may scenario core other = tt
 
-events_may : (scenario : Scenario) (core : Core) (all : List Timed) → AllByRecursion (λ (timed : Timed). IsQuietEvent timed.event) all → AllByRecursion (λ (timed : Timed). EventMay (Facts scenario core) (FitEnd scenario) (fit scenario core) (MayBe scenario) (free scenario) (step scenario core) timed.event) all
-events_may scenario core [] q = tt
-events_may scenario core (timed ∷ more) q = (event_may scenario core timed.event q.0, events_may scenario core more q.1)
+events_may : (scenario : Scenario) (core : Core) (all : List Timed) → AllByRecursion (λ (timed : Timed). EventMay (Facts scenario core) (FitEnd scenario) (fit scenario core) (MayBe scenario) (free scenario) (step scenario core) timed.event) all
+events_may scenario core [] = tt
+events_may scenario core (timed ∷ more) = (event_may scenario core timed.event, events_may scenario core more)
 
-pub run_facts : (scenario : Scenario) (core : Core) (all : List Timed) (trace : List Traced) (new : World) → AllByRecursion (λ (timed : Timed). IsQuietEvent timed.event) all → Runs (start scenario core) 0 all trace new
+pub run_facts : (scenario : Scenario) (core : Core) (all : List Timed) (trace : List Traced) (new : World) → Runs (start scenario core) 0 all trace new
     → NodesFact scenario core new.network.state × ((over : Direction) → Rests over.kind (new.network.stream over))
-run_facts scenario core all trace new q run =
-    let c = runs_hold (Facts scenario core) (FitEnd scenario) (fit scenario core) (MayBe scenario) (free scenario) (step scenario core) all (events_may scenario core all q) (start scenario core) 0 trace new
+run_facts scenario core all trace new run =
+    let c = runs_hold (Facts scenario core) (FitEnd scenario) (fit scenario core) (MayBe scenario) (free scenario) (step scenario core) all (events_may scenario core all) (start scenario core) 0 trace new
     (record { nodes = record { same = refl; same_core = refl; node = λ n. fresh_fact (record { scenario = scenario; core = core; me = n }) 0 scenario n }; rests = λ over. unfed_rests over.kind }) run in
     (c.nodes, c.rests)

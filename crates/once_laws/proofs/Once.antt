@@ -31,16 +31,18 @@ use Rattle.scenario_defs.specs.Rules.{Rises}
 use Rattle.world_laws.specs.Honest.{IsSoundEvent}
 use Rattle.world_defs.specs.Run.{Traced, Run, report_of}
 use Rattle.world_defs.specs.World.{World, Datagram, scenario_of}
-use Rattle.once_laws.specs.Run.{QuietRun, CalmRun, IsQuietEvent}
-use Rattle.once_laws.specs.Told.{JoinsAreTold}
+use Rattle.world_laws.specs.SoundRun.{SoundRun}
+use Rattle.once_laws.specs.Run.{CalmRun}
+use Rattle.once_laws.specs.Told.{AsksAreTold, NotesAreTold}
 use Rattle.once_laws.proofs.Behind.{Known, known_of, trees_calm}
-use Rattle.once_laws.proofs.CalmFlows.{among_where}
+use Rattle.once_laws.proofs.CalmFlows.{among_where, where_among}
 use Rattle.once_laws.proofs.Receivers as receivers
-use Rattle.once_laws.proofs.Receivers.{Receives, served_receives, receives_served, home_vpn, count_none, count_one, where_among}
-use Rattle.once_laws.proofs.StandRuns.{joins_told}
+use Rattle.once_laws.proofs.Receivers.{Receives, served_receives, receives_served, home_vpn, count_none, count_one}
+use Rattle.once_laws.proofs.Notes.{notes_told}
+use Rattle.once_laws.proofs.StandRuns.{asks_told}
 use Rattle.once_laws.proofs.Serves.{Here, here_of, served_by, one_serves}
 
-module _ (scenario : Scenario) (core : Core) (world : World) (k : Known scenario core world) (datagram : Datagram) (past : Past) (of_past : past.scenario ≡ scenario_of world) (told : JoinsAreTold past world) (iface : IfaceId) where
+module _ (scenario : Scenario) (core : Core) (world : World) (k : Known scenario core world) (datagram : Datagram) (past : Past) (of_past : past.scenario ≡ scenario_of world) (told : AsksAreTold past world × NotesAreTold past world) (iface : IfaceId) where
   abbrev sc : Scenario
   sc = scenario_of world
 
@@ -149,7 +151,7 @@ module _ (scenario : Scenario) (core : Core) (world : World) (k : Known scenario
           ∙ ap (λ (b : Bool). cond {A = ℕ} b 1 0) (sym (false_from_ne_true (receives_by past datagram.site datagram.source datagram.group iface) (λ t. (let l = listed (vrf_of_site sc datagram.site) refl (sym received ∙ t) in none-some l.3.0 (sym e ∙ l.3.1)))))
 
 -- Behind such a run choices are calm, where what interfaces ask for is what the events tell.
-pub choice_calm : (core : Core) (script : Script) (events : List Timed) (trace : List Traced) (world : World) → CalmRun core script events trace world → (past : Past) → past.scenario ≡ script.scenario → JoinsAreTold past world
+pub choice_calm : (core : Core) (script : Script) (events : List Timed) (trace : List Traced) (world : World) → CalmRun core script events trace world → (past : Past) → past.scenario ≡ script.scenario → AsksAreTold past world × NotesAreTold past world
     → (datagram : Datagram) → CalmChoice world.network (receives_by past datagram.site datagram.source datagram.group) datagram
 choice_calm core script events trace world c past of_past told datagram =
     let k = known_of core script events trace world c in
@@ -165,27 +167,25 @@ rises_taken number zero events h = tt
 rises_taken number (suc count) [] h = tt
 rises_taken number (suc count) (timed ∷ more) h = (h.0, rises_taken timed.line count more h.1)
 
--- the first events of a run are sound, and note no source, as all of them are
-first_events : (core : Core) (script : Script) (events : List Timed) (trace : List Traced) (new : World) → QuietRun core script events trace new
-    → (count : ℕ) (early : List Traced) (world : World) → Run core script (take count events) early world → QuietRun core script (take count events) early world
+-- the first events of a run are sound, as all of them are
+first_events : (core : Core) (script : Script) (events : List Timed) (trace : List Traced) (new : World) → SoundRun core script events trace new
+    → (count : ℕ) (early : List Traced) (world : World) → Run core script (take count events) early world → SoundRun core script (take count events) early world
 first_events core script events trace new s count early world run = record {
-  sound = record {
-    scenario = s.sound.scenario;
-    of_scenario = s.sound.of_scenario;
-    sound_events = all_take (λ (timed : Timed). IsSoundEvent script.scenario timed.event) count events s.sound.sound_events;
-    run = run;
-  };
-  quiet = all_take (λ (timed : Timed). IsQuietEvent timed.event) count events s.quiet;
-  rises = rises_taken 0 count events s.rises;
+  scenario = s.scenario;
+  of_scenario = s.of_scenario;
+  sound_events = all_take (λ (timed : Timed). IsSoundEvent script.scenario timed.event) count events s.sound_events;
+  run = run;
 }
 
 pub choices_calm : (core : Core) (script : Script) (events : List Timed) (trace : List Traced) (world : World) → CalmRun core script events trace world
     → (datagram : Datagram) → CalmChoice world.network (receives_by (past_of script.scenario events trace) datagram.site datagram.source datagram.group) datagram
 choices_calm core script events trace world c =
-    choice_calm core script events trace world c (past_of script.scenario events trace) refl (joins_told core script.scenario events trace world c.run.sound.scenario.rules c.run.rises c.run.quiet c.run.sound.run)
+    let rules = c.sound.scenario.rules in
+    choice_calm core script events trace world c (past_of script.scenario events trace) refl
+    (asks_told core script.scenario events trace world rules c.rises c.sound.run, notes_told core script.scenario events trace world rules c.rises c.sound.run)
 
-pub deliver_once : (core : Core) (script : Script) (events : List Timed) (trace : List Traced) (new : World) → QuietRun core script events trace new → Once script.scenario events (refused_lines (report_of trace)) (report_of trace)
-deliver_once core script events trace new s =
-    calm_choices_once core script events trace new s.sound.scenario.rules s.rises
-    (λ count early world run zeros. choices_calm core script (take count events) early world (record { run = first_events core script events trace new s count early world run; zeros = zeros }))
-    s.sound.run
+pub deliver_once : (core : Core) (script : Script) (events : List Timed) (trace : List Traced) (new : World) → SoundRun core script events trace new → Rises 0 events → Once script.scenario events (refused_lines (report_of trace)) (report_of trace)
+deliver_once core script events trace new s rises =
+    calm_choices_once core script events trace new s.scenario.rules rises
+    (λ count early world run zeros. choices_calm core script (take count events) early world (record { sound = first_events core script events trace new s count early world run; rises = rises_taken 0 count events rises; zeros = zeros }))
+    s.run

@@ -16,10 +16,13 @@ use Rattle.mldp_fec.specs.declared.fec.Fec.{Fec}
 use Rattle.mvpn_model.specs.Past as pasts
 use Rattle.mvpn_model.specs.Past.{Past}
 use Rattle.mvpn_model.proofs.ListLemmas.{passes-from_find, none-from_find}
-use Rattle.route_targets.specs.Targets.{same}
+use Rattle.pim_defs.specs.Asking.{asks_by}
+use Rattle.pim_defs.specs.declared.expiry.Expiry.{Expiry}
 use Rattle.scenario_defs.specs.Home.{home, home_by, routes_from}
 use Rattle.scenario_defs.specs.Rules.{Rules}
-use Rattle.scenario_defs.specs.Vpn.{is_of_site, is_of_vrf, is_attached_at, same_vpn, targets_of, vrf_of_site, ifaces_where, entered_from, entered}
+use Rattle.scenario_defs.specs.Vpn.{is_of_site, is_of_vrf, is_attached_at, same_vpn, targets_of, vrf_of_site, entered_from, entered}
+use Rattle.scenario_defs.specs.declared.event.JoinEntry.{JoinEntry}
+use Rattle.scenario_defs.specs.declared.event.JoinEntry.TheVariants as join_entries
 use Rattle.scenario_defs.specs.declared.scenario.Iface.{Iface}
 use Rattle.scenario_defs.specs.declared.scenario.Scenario.{Scenario}
 use Rattle.scenario_defs.specs.declared.scenario.Vrf.{Vrf}
@@ -46,9 +49,10 @@ use Rattle.delivery_laws.specs.Choice.{serves_near, sends_on, serves_far, serves
 use Rattle.delivery_laws.specs.Leaving.{is_iface_of_vrf, asks_at, takes_from}
 use Rattle.world_defs.specs.Nodes.{is_edge, part_of}
 use Rattle.world_defs.specs.World.{World, Datagram, scenario_of}
-use Rattle.once_laws.specs.Told.{JoinsAreTold}
+use Rattle.once_laws.specs.Told.{kept_at_edge, AsksAreTold, NotesAreTold}
+use Rattle.once_laws.proofs.Actives.{active_at_told}
 use Rattle.once_laws.proofs.Behind.{Known}
-use Rattle.once_laws.proofs.CalmFlows.{peer_is, asked_flow, asks_is}
+use Rattle.once_laws.proofs.CalmFlows.{peer_is, asked_flow}
 use Rattle.once_laws.proofs.Choices.{own_among, vpn_ids, UpstreamIs, IsNone, IsNear, IsFar, FromPeer, upstream_is}
 use Rattle.once_laws.proofs.Edges as edges
 use Rattle.once_laws.proofs.Edges.{net, rule, flows_stand, calm_session, none_due}
@@ -165,22 +169,9 @@ count_one scenario site p one number (own ∷ more) = by (is_attached_at scenari
     by false h = h
     by true h = at (p (record { 0 = number })) refl h
 
-pub where_among : (test : IfaceId → Iface → Bool) (number : ℕ) (ifaces : List Iface) (x : IfaceId) → Among x (ifaces_where test number ifaces) → (place : ℕ) × (found : Iface) × (slice_get ifaces place ≡ Some found) × (x.0 ≡ number + place) × (test x found ≡ true)
-where_among test number [] x a = absurd a
-where_among test number (own ∷ more) x a = by (test (record { 0 = number }) own) refl (λ b. where_among test (number + 1) more x b) a
-  where
-    further : ((place : ℕ) × (found : Iface) × (slice_get more place ≡ Some found) × (x.0 ≡ number + 1 + place) × (test x found ≡ true)) → (place : ℕ) × (found : Iface) × (slice_get (own ∷ more) place ≡ Some found) × (x.0 ≡ number + place) × (test x found ≡ true)
-    further r = (suc r.0, r.1, r.2, (let e = r.3 in omega (arith, e)), r.4)
-
-    by : (t : Bool) → test (record { 0 = number }) own ≡ t → (Among x (ifaces_where test (number + 1) more) → (place : ℕ) × (found : Iface) × (slice_get more place ≡ Some found) × (x.0 ≡ number + 1 + place) × (test x found ≡ true))
-        → Among x (cond t (record { 0 = number } ∷ ifaces_where test (number + 1) more) (ifaces_where test (number + 1) more)) → (place : ℕ) × (found : Iface) × (slice_get (own ∷ more) place ≡ Some found) × (x.0 ≡ number + place) × (test x found ≡ true)
-    by true e rest (inl same) = (0, own, refl, ap (λ (v : IfaceId). v.0) same ∙ omega arith, ap (λ (v : IfaceId). test v own) same ∙ e)
-    by true e rest (inr b) = further (rest b)
-    by false e rest b = further (rest b)
-
 -- ---- receivers
 
-module _ (scenario : Scenario) (core : Core) (world : World) (k : Known scenario core world) (datagram : Datagram) (iface : IfaceId) (past : Past) (of_past : past.scenario ≡ scenario_of world) (told : JoinsAreTold past world) where
+module _ (scenario : Scenario) (core : Core) (world : World) (k : Known scenario core world) (datagram : Datagram) (iface : IfaceId) (past : Past) (of_past : past.scenario ≡ scenario_of world) (told : AsksAreTold past world × NotesAreTold past world) where
   abbrev sc : Scenario
   sc = scenario_of world
 
@@ -209,7 +200,11 @@ module _ (scenario : Scenario) (core : Core) (world : World) (k : Known scenario
       pub asking : asks ≡ true
 
     pub asks_told : pasts.asks past iface datagram.source datagram.group ≡ asks
-    asks_told = told iface n datagram.source datagram.group here.of_edge ∙ sym (asks_is scenario core world k n here.edge w.clock own datagram.source datagram.group iface)
+    asks_told =
+        let kept : JoinEntry → Option Expiry = λ entry. kept_at_edge world n iface entry in
+        told.0 iface n datagram.source datagram.group here.of_edge
+        ∙ ap (λ (b : Bool). asks_by w.clock b (kept (join_entries.Source datagram.source datagram.group)) (kept (join_entries.Star datagram.group)) (kept (join_entries.Rpt datagram.source datagram.group)))
+        (active_at_told scenario core world k past of_past told.1 iface here datagram.source datagram.group)
 
     outside_is : is_outside sc datagram.site iface ≡ not (is_of_site datagram.site here.found)
     outside_is = ap (λ (o : Option Iface). elim o as (λ _. Bool) [ None ↦ false | Some found ↦ not (is_of_site datagram.site found) ]) here.at

@@ -1,7 +1,7 @@
 -- What interfaces ask for by the events is what the edges keep, behind every run.
 use Rattle.std.specs.Prelude.{⊤}
 use Rattle.std.proofs.Common.{◌≡◌, ℕ, ◌+◌, ◌==◌, ◌||◌, ◌&&◌, not, Bool, true, false, cond, List, [], ◌∷◌, slice_get, option_map, Option, Some, None, refl, sym, ap, subst, ◌∙◌, arith}
-use Rattle.std.specs.List.{AllByRecursion, fold, list_any}
+use Rattle.std.specs.List.{AllByRecursion, fold}
 use Rattle.std.specs.FinMap as maps
 use Rattle.std.proofs.lemmas.Bool.{cond_both, true≢false, eqb-true, eq-eqb}
 use Rattle.std.proofs.lemmas.Option.{none-some, same_Some}
@@ -9,11 +9,10 @@ use Rattle.mv_base.specs.Number.{◌>>?◌}
 use Rattle.mv_base.specs.declared.ids.IfaceId.{IfaceId}
 use Rattle.mv_base.specs.declared.ids.NodeId.{NodeId}
 use Rattle.mvpn_model.specs.Messages.{message_of}
-use Rattle.mvpn_model.specs.Past.{Past, is_accepted, ticks_of, is_of_edge, expiry_given, expiry_by, stands_after, standing, noted_by, noted_after, is_noted, is_active, is_active_at}
+use Rattle.mvpn_model.specs.Past.{Past, is_accepted, ticks_of, is_of_edge, expiry_given, expiry_by, stands_after, standing, is_active_at}
 use Rattle.mvpn_model.specs.Report.{refused_lines}
 use Rattle.mvpn_model.specs.declared.message.Given.{Given}
 use Rattle.mvpn_model.specs.declared.standing.Standing.{Standing}
-use Rattle.mv_base.specs.declared.addr.Addr.{Addr}
 use Rattle.pim_defs.specs.Asking.{asks_by}
 use Rattle.pim_defs.specs.Entries.{entry_cmp}
 use Rattle.pim_defs.specs.Expiry.{counts, remaining}
@@ -59,26 +58,24 @@ use Rattle.ready_laws.proofs.Ends.{Holds}
 use Rattle.delivery_laws.proofs.Outcomes.{Leads, Gives, then_leads, one_leads, leads_as}
 use Rattle.delivery_laws.proofs.Silent.{any_lines}
 use Rattle.rule_laws.proofs.Rows.{IsEdgeNode}
-use Rattle.once_laws.specs.Run.{IsQuietEvent}
-use Rattle.once_laws.specs.Told.{kept_at_edge, AsksAreTold, JoinsAreTold, EntriesAreTold}
+use Rattle.once_laws.specs.Told.{kept_at_edge, AsksAreTold, EntriesAreTold}
 use Rattle.once_laws.proofs.Carry.{IsOfSession, AreFit, EventMay, event_holds}
-use Rattle.once_laws.proofs.CalmFlows.{only_joined}
 use Rattle.once_laws.proofs.Rests.{Rests, unfed_rests}
 use Rattle.once_laws.proofs.Stands.{Alike, Told, kept_of, Stands, MayStand, remaining_twice, counts_by, alike_later, alike_after, edge_control, one_stands, step}
 use Rattle.ready_laws.proofs.Ends.{holds_then}
 
-abbrev Any : List ReportLine → Type 0
+abbrev pub Any : List ReportLine → Type 0
 Any all = ⊤
 
-abbrev AllRest : OctetNetwork Nodes → Type 0
+abbrev pub AllRest : OctetNetwork Nodes → Type 0
 AllRest network = (over : Direction) → Rests over.kind (network.stream over)
 
 -- ---- sessions need nothing here
 
-abbrev Free : Kind → NodeId → NodeId → Type 0
+abbrev pub Free : Kind → NodeId → NodeId → Type 0
 Free kind a b = ⊤
 
-all_fit : (list : List Session) → AllByRecursion (AreFit Free) list
+pub all_fit : (list : List Session) → AllByRecursion (AreFit Free) list
 all_fit [] = tt
 all_fit (session ∷ more) = ((tt, tt), all_fit more)
 
@@ -112,7 +109,7 @@ any_may (events.Select vrf pattern) = λ n. tt
 any_may (events.Unselect vrf pattern) = λ n. tt
 any_may other = tt
 
-rests_hold : (world : World) (event : Event) → AllRest world.network → Leads Any (λ new. AllRest new.network) (done world event)
+pub rests_hold : (world : World) (event : Event) → AllRest world.network → Leads Any (λ new. AllRest new.network) (done world event)
 rests_hold world event r =
     leads_as Any _ (λ new. AllRest new.network) (λ new c. c.rests) (done world event)
     (event_holds AnyNodes Free (λ nodes f. all_fit (sessions nodes.scenario)) AnyCall (λ n call h. tt) (λ nodes call w f. any_holds (nodes_called call nodes)) world event (any_may event) (record { nodes = tt; rests = r }))
@@ -142,7 +139,7 @@ no_ticks scenario c told other world event h l = leads_as Any (Kept scenario c t
 -- ---- messages
 
 -- the edge of an interface is an edge
-iface_edge : (scenario : Scenario) → Rules scenario → (iface : IfaceId) (n : NodeId) → edge_of scenario iface ≡ Some n → is_edge scenario n ≡ true
+pub iface_edge : (scenario : Scenario) → Rules scenario → (iface : IfaceId) (n : NodeId) → edge_of scenario iface ≡ Some n → is_edge scenario n ≡ true
 iface_edge scenario rules iface n h = by (slice_get scenario.ifaces iface.0) h
   where
     of_vrf : (v : ℕ) (o : Option Vrf) → slice_get scenario.vrfs v ≡ o → option_map (λ (vrf : Vrf). vrf.edge) o ≡ Some n → is_edge scenario n ≡ true
@@ -156,7 +153,7 @@ iface_edge scenario rules iface n h = by (slice_get scenario.ifaces iface.0) h
     by (Some found) t = of_vrf found.vrf.0 (slice_get scenario.vrfs found.vrf.0) refl t
 
 -- a call at a node
-call_gives : (P : Nodes → Type 0) (world : World) (m : NodeId) (o : Option (Stepped Nodes)) → Holds (λ (new : Stepped Nodes). P new.state) o
+pub call_gives : (P : Nodes → Type 0) (world : World) (m : NodeId) (o : Option (Stepped Nodes)) → Holds (λ (new : Stepped Nodes). P new.state) o
     → Gives Any (λ new. P new.network.state) (with_network world [] (with_step world.network o >>? λ next. with_earlier next.puts (Some (record { network = next.network; puts = [] }))) m)
 call_gives P world m None h = tt
 call_gives P world m (Some new) h = (tt, h)
@@ -404,38 +401,3 @@ asks_told core scenario all trace world rules rises run =
     let pruned : JoinEntry = join_entries.Rpt source group in
     ap (λ (c : ℕ). asks_by c active (told joined) (told shared) (told pruned)) (e.clock iface joined)
     ∙ asks_by_counts now active (told joined) (told shared) (told pruned) (kept joined) (kept shared) (kept pruned) (e.counted iface n joined at) (e.counted iface n shared at) (e.counted iface n pruned at)
-
--- events none of which is `active` note no source
-never_noted : (scenario : Scenario) (refused : List ℕ) (iface : IfaceId) (source group : Addr) (all : List Timed) → AllByRecursion (λ (timed : Timed). IsQuietEvent timed.event) all → fold (noted_after scenario refused iface source group) false all ≡ false
-never_noted scenario refused iface source group [] h = refl
-never_noted scenario refused iface source group (timed ∷ more) h =
-    ap (λ (b : Bool). fold (noted_after scenario refused iface source group) b more) (if_accepted (is_accepted refused timed)) ∙ never_noted scenario refused iface source group more h.1
-  where
-    still : (event : Event) → IsQuietEvent event → noted_by scenario iface source group event false ≡ false
-    still (events.Active own own_source own_group) q = absurd q
-    still other q = refl
-
-    if_accepted : (b : Bool) → cond b (noted_by scenario iface source group timed.event false) false ≡ false
-    if_accepted true = still timed.event h.0
-    if_accepted false = refl
-
-none_of : {A : Type 0} (test : A → Bool) (xs : List A) → ((x : A) → test x ≡ false) → list_any test xs ≡ false
-none_of test [] h = refl
-none_of test (x ∷ xs) h = λ i. h x i || none_of test xs h i
-
--- so no source is known to send
-never_active : (past : Past) → AllByRecursion (λ (timed : Timed). IsQuietEvent timed.event) past.events → (iface : IfaceId) (source group : Addr) → is_active_at past iface source group ≡ false
-never_active past quiet iface source group = by (slice_get past.scenario.ifaces iface.0)
-  where
-    by : (o : Option Iface) → elim o as (λ _. Bool) [ None ↦ false | Some own ↦ is_active past own.vrf source group ] ≡ false
-    by None = refl
-    by (Some own) = none_of (λ iface. is_noted past iface source group) _ (λ iface. never_noted past.scenario past.refused iface source group past.events quiet)
-
--- Where no event is `active`, interfaces ask for what is joined at their edges.
-pub joins_told : (core : Core) (scenario : Scenario) (all : List Timed) (trace : List Traced) (world : World) → Rules scenario → Rises 0 all → AllByRecursion (λ (timed : Timed). IsQuietEvent timed.event) all → Runs (start scenario core) 0 all trace world
-    → JoinsAreTold (record { scenario = scenario; events = all; refused = refused_lines (report_of trace) }) world
-joins_told core scenario all trace world rules rises quiet run iface n source group at =
-    let past : Past = record { scenario = scenario; events = all; refused = refused_lines (report_of trace) } in
-    let kept : JoinEntry → Option Expiry = λ entry. kept_at_edge world n iface entry in
-    asks_told core scenario all trace world rules rises run iface n source group at
-    ∙ only_joined (clock_of world) (is_active_at past iface source group) (kept (join_entries.Source source group)) (kept (join_entries.Star group)) (kept (join_entries.Rpt source group)) (never_active past quiet iface source group)

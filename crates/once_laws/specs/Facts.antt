@@ -1,4 +1,4 @@
--- What holds of the nodes of every run in which no source is noted.
+-- What holds of the nodes of every run.
 use Rattle.std.specs.Prelude.{◌≡◌, ℕ, ◌≢◌, ◌≤◌, true, false, is_some}
 use Rattle.std.specs.FinMap as maps
 use Rattle.std.specs.FinSet as sets
@@ -7,19 +7,18 @@ use Rattle.mldp_fec.specs.declared.fec.Fec.{Fec}
 use Rattle.scenario_defs.specs.declared.event.Kind.{Kind}
 use Rattle.scenario_defs.specs.declared.event.Kind.TheVariants as kinds
 use Rattle.scenario_defs.specs.declared.scenario.Scenario.{Scenario}
-use Rattle.edge_defs.specs.Edge.{Note, EdgeData}
+use Rattle.edge_defs.specs.Edge.{EdgeData}
 use Rattle.edge_defs.specs.Flows.{flows_at}
 use Rattle.edge_defs.specs.Place.{Core, EdgePlace}
 use Rattle.edge_defs.specs.Tunnels.{leaves}
 use Rattle.world_defs.specs.Nodes.{NodeState, Edge, CoreNode, Nodes, is_edge, place_of}
 
 -- An edge is a leaf of the trees that it wants; its flows are those that were asked for at some clock; the peers whose sessions are up
--- are other edges; it has no note.
+-- are other edges.
 pub record EdgeFact (place : EdgePlace) (now : ℕ) (edge : EdgeData) : Type 0 where
   pub leaves : edge.part.leaves ≡ leaves place edge.control
   pub flows : (moment : ℕ) × (moment ≤ now) × (edge.control.flows ≡ flows_at place moment edge.control)
   pub peers : (peer : NodeId) → is_some (maps.get edge.control.peers peer) ≡ true → (is_edge place.scenario peer ≡ true) × (place.me ≢ peer)
-  pub notes : (note : Note) → sets.contains edge.control.notes note ≡ false
 
 -- a core node is a leaf of no tree
 abbrev pub NodeFact : EdgePlace → ℕ → NodeState → Type 0

@@ -1,9 +1,10 @@
 -- What interfaces ask for, by the events and by the network.
 use Rattle.std.specs.Prelude.{◌≡◌, Option, Some}
+use Rattle.std.specs.FinSet as sets
 use Rattle.mv_base.specs.declared.addr.Addr.{Addr}
 use Rattle.mv_base.specs.declared.ids.IfaceId.{IfaceId}
 use Rattle.mv_base.specs.declared.ids.NodeId.{NodeId}
-use Rattle.mvpn_model.specs.Past.{Past, asks, is_active_at, standing}
+use Rattle.mvpn_model.specs.Past.{Past, asks, is_noted, is_active_at, standing}
 use Rattle.pim_defs.specs.Asking.{asks_by}
 use Rattle.pim_defs.specs.Entries.{expiry_at}
 use Rattle.pim_defs.specs.Expiry.{counts}
@@ -27,11 +28,12 @@ AsksAreTold past world =
     asks_by (clock_of world) (is_active_at past iface source group) (kept_at_edge world n iface (entries.Source source group))
     (kept_at_edge world n iface (entries.Star group)) (kept_at_edge world n iface (entries.Rpt source group))
 
--- An interface asks for a flow by the events exactly where its edge has a join of it that has not ended.
-abbrev pub JoinsAreTold : Past → World → Type 0
-JoinsAreTold past world =
+-- A source is noted at an interface by the events exactly where its edge has that note.
+abbrev pub NotesAreTold : Past → World → Type 0
+NotesAreTold past world =
     (iface : IfaceId) (n : NodeId) (source group : Addr) → edge_of (scenario_of world) iface ≡ Some n →
-    asks past iface source group ≡ counts (clock_of world) (kept_at_edge world n iface (entries.Source source group))
+    is_noted past iface source group ≡
+    sets.contains (control_of (world.network.state.node n)).notes (record { iface = iface; source = source; group = group })
 
 -- The clock is that of the events; and an entry of an interface counts by the events exactly where it counts at its edge.
 pub record EntriesAreTold (past : Past) (world : World) : Type 0 where

@@ -1,6 +1,5 @@
 //! Laws of a network of which `state` tells of zeros alone, of the datagrams that are sent then, and of what leaves in any run.
 ghost use Rattle.std.specs.Prelude.{◌≡◌, ◌<◌, List, length, Some, slice_get};
-ghost use Rattle.std.specs.List.{AllByRecursion};
 ghost use Rattle.mv_base.specs.declared.ids.NodeId.{NodeId};
 ghost use Rattle.mv_base.specs.declared.ids.VrfId.{VrfId};
 ghost use Rattle.mldp_fec.specs.declared.fec.Fec.{Fec};
@@ -21,8 +20,8 @@ ghost use Rattle.delivery_laws.specs.Calm.{CalmTree};
 ghost use Rattle.delivery_laws.specs.Choice.{CalmChoice, sends_on};
 ghost use Rattle.delivery_laws.specs.Labels.{CalmLabels};
 ghost use Rattle.delivery_laws.specs.Once.{past_of, receives_datagram};
-ghost use Rattle.once_laws.specs.Run.{IsQuietEvent, QuietRun, CalmRun};
-ghost use Rattle.once_laws.specs.Told.{AsksAreTold, JoinsAreTold, EntriesAreTold};
+ghost use Rattle.once_laws.specs.Run.{CalmRun};
+ghost use Rattle.once_laws.specs.Told.{AsksAreTold, NotesAreTold, EntriesAreTold};
 ghost use Rattle.once_laws.specs.Zeros.{Zeros};
 
 /// Where `state` tells of zeros alone, no octet is in transit, no timer is due, and each session is ready.
@@ -30,8 +29,8 @@ pub fn zeros_are_calm()
     ensures { (world : World) → state_line world ≡ lines.State 0 0 0 0 0 → Zeros world }
 {}
 
-/// Behind a run of a sound scenario, by its core and by sound events of which none is `active`, and where `state` tells of zeros alone:
-/// the labels of each tree that has a node of the scenario as its root are calm.
+/// Behind a run of a sound scenario, by its core and by sound events, and where `state` tells of zeros alone: the labels of each tree
+/// that has a node of the scenario as its root are calm.
 pub fn labels_are_calm()
     ensures { (core : Core) (script : Script) (events : List Timed) (trace : List Traced) (world : World) →
         CalmRun core script events trace world → (root : NodeId) → root.0 < length (scenario_of world).nodes →
@@ -54,15 +53,20 @@ pub fn entries_are_told()
         EntriesAreTold (past_of script.scenario events trace) world }
 {}
 
+/// Behind every run a source is noted at an interface by the events exactly where the interface's edge has noted it there: by each
+/// `active` that was accepted, up to an `idle` of the same flow there or a restart of the edge.
+pub fn notes_are_told()
+    ensures { (core : Core) (script : Script) (events : List Timed) (trace : List Traced) (world : World) →
+        Rules script.scenario → Rises 0 events → Run core script events trace world →
+        NotesAreTold (past_of script.scenario events trace) world }
+{}
+
 /// Behind every run an interface asks for a flow by its events exactly where it asks by the entries of its edge, given whether the
-/// events note the source in its VPN. Where no event is `active`, that is where its edge has a join of it that has not ended.
+/// events note the source in its VPN.
 pub fn asks_are_told()
-    ensures by_entries { (core : Core) (script : Script) (events : List Timed) (trace : List Traced) (world : World) →
+    ensures { (core : Core) (script : Script) (events : List Timed) (trace : List Traced) (world : World) →
         Rules script.scenario → Rises 0 events → Run core script events trace world →
         AsksAreTold (past_of script.scenario events trace) world }
-    ensures by_joins { (core : Core) (script : Script) (events : List Timed) (trace : List Traced) (world : World) →
-        Rules script.scenario → Rises 0 events → AllByRecursion (λ (timed : Timed). IsQuietEvent timed.event) events →
-        Run core script events trace world → JoinsAreTold (past_of script.scenario events trace) world }
 {}
 
 /// Behind a run as that of `labels_are_calm` each receiver of a datagram is served by one of the VRFs at which it enters, each other
@@ -73,11 +77,11 @@ pub fn choices_are_calm()
         CalmChoice world.network (receives_datagram (past_of script.scenario events trace) datagram) datagram }
 {}
 
-/// In every run of a sound scenario, by its core and by sound events of which none is `active`: each datagram that is accepted in a
-/// window leaves once at each interface that receives it, and nowhere else, over the whole report.
+/// In every run of a sound scenario, by its core and by sound events: each datagram that is accepted in a window leaves once at each
+/// interface that receives it, and nowhere else, over the whole report.
 pub fn runs_deliver_once()
     ensures { (core : Core) (script : Script) (events : List Timed) (trace : List Traced) (new : World) →
-        QuietRun core script events trace new →
+        SoundRun core script events trace new → Rises 0 events →
         Once script.scenario events (refused_lines (report_of trace)) (report_of trace) }
 {}
 

@@ -6,9 +6,5 @@ mod laws;
 
 pub use laws::{
     asks_are_told, choices_are_calm, each_run_is_safe, entries_are_told, labels_are_calm,
-<<<<<<< HEAD
-    runs_deliver_once, tunnels_are_trees, zeros_are_calm,
-=======
     notes_are_told, runs_deliver_once, tunnels_are_trees, zeros_are_calm,
->>>>>>> refs/remotes/h/active
 };

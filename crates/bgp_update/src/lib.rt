@@ -11,6 +11,3 @@ pub use bgp_attributes::{Advert, Adverts, Change, Comms, Key, Keys, Message, Str
 pub use laws::{any_cut, one_spelling, reads_back};
 pub use stream::{FeedFault, Stream};
 pub use writing::{EncodeFault, encode};
-
-#[cfg(test)]
-mod tests;

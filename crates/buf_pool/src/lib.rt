@@ -9,6 +9,3 @@ mod table;
 
 pub use laws::each_buffer;
 pub use pool::{Buf, Pool};
-
-#[cfg(test)]
-mod tests;

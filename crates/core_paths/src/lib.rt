@@ -9,6 +9,3 @@ mod steps;
 mod tables;
 
 pub use paths::{Core, CoreFault};
-
-#[cfg(test)]
-mod tests;

@@ -4,6 +4,3 @@
 mod connection;
 
 pub use connection::is_connected;
-
-#[cfg(test)]
-mod tests;

@@ -19,6 +19,3 @@ pub use fault::{PacketFault, PacketReason};
 pub use fib::Fib;
 pub use laws::{one_flow, written_is_read};
 pub use reading::read_packet;
-
-#[cfg(test)]
-mod tests;

@@ -18,6 +18,3 @@ pub use laws::{any_cut, one_spelling, reads_back};
 pub use message::LabelMessage;
 pub use stream::Stream;
 pub use writing::encode;
-
-#[cfg(test)]
-mod tests;

@@ -15,6 +15,3 @@ pub use sink::{Sink, SinkFailed, write_all};
 pub use source::{Source, SourceFailed};
 pub use standard::{StdSink, StdSource};
 pub use sure::{SureSink, SureSource};
-
-#[cfg(test)]
-mod tests;

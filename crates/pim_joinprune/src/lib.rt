@@ -16,6 +16,3 @@ pub use message::JoinPrune;
 pub use reading::{decode, spellings};
 pub use source::{JpSource, JpSources, SourceKind};
 pub use writing::{encode, round_trip};
-
-#[cfg(test)]
-mod tests;

@@ -6,6 +6,3 @@ mod changes;
 mod downstream;
 
 pub use downstream::{Downstream, TakeFault};
-
-#[cfg(test)]
-mod tests;

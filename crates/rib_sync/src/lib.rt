@@ -10,6 +10,3 @@ mod pending;
 pub use inbox::{Entries, Inbox};
 pub use outbox::Outbox;
 pub use pending::Pending;
-
-#[cfg(test)]
-mod tests;

@@ -12,6 +12,3 @@ pub use laws::{routes_in_order, tests_are};
 pub use leaf::{Fecs, LeafTunnels};
 pub use root::RootTunnels;
 pub use route_key::{Learned, Place, RouteKey};
-
-#[cfg(test)]
-mod tests;

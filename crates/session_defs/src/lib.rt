@@ -7,6 +7,3 @@ mod laws;
 
 pub use direction::Direction;
 pub use laws::{a_message_cut_in_two, moves_deliver, octets_carry_messages};
-
-#[cfg(test)]
-mod tests;

@@ -8,6 +8,3 @@ mod pending;
 
 pub use changes::{each_key, first_changes, new_table, one_change, one_list};
 pub use pending::pending_changes;
-
-#[cfg(test)]
-mod tests;

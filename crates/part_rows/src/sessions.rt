@@ -1,6 +1,6 @@
 //! The laws at numbers as states and calls.
 
-use crate::{a_message_cut_in_two, moves_deliver, octets_carry_messages};
+use session_defs::{a_message_cut_in_two, moves_deliver, octets_carry_messages};
 
 #[test]
 fn numbers() {

@@ -1,5 +1,5 @@
 //! A table that is kept in step with a peer.
-use super::*;
+use rib_sync::{Inbox, Outbox};
 use std::test::*;
 use table_defs::Change;
 

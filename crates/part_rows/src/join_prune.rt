@@ -1,6 +1,6 @@
 //! Calls that take memory, where there is some.
-use super::*;
 use mv_base::Addr;
+use pim_joinprune::{JpSource, SourceKind, decode, encode};
 use std::test::*;
 
 /// (10.1.0.9, 232.1.1.1) is joined, at neighbour 10.2.0.1, for a second.

@@ -1,5 +1,5 @@
 //! A small core.
-use super::*;
+use core_paths::Core;
 use mv_base::{Link, NodeId};
 use std::test::*;
 

@@ -1,5 +1,5 @@
 //! A small core.
-use super::is_connected;
+use core_walks::is_connected;
 use mv_base::{Link, NodeId};
 use std::test::*;
 

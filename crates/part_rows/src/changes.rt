@@ -1,6 +1,6 @@
 //! The laws at numbers as keys and values: their premises can be met.
 
-use crate::{each_key, first_changes, new_table, one_change, one_list, pending_changes};
+use table_laws::{each_key, first_changes, new_table, one_change, one_list, pending_changes};
 
 #[test]
 fn numbers() {

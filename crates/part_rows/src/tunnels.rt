@@ -1,7 +1,7 @@
 //! Worked roots and egresses.
-use crate::{LeafTunnels, RootTunnels};
 use mldp_fec::{Fec, FecKind, Opaque};
 use mv_base::{Addr, NodeId, Pattern, Rd};
+use selective::{LeafTunnels, RootTunnels};
 use std::test::Fail;
 
 const SOURCE: Addr = Addr::V4([10, 0, 0, 1]);
@@ -72,6 +72,6 @@ fn fec(number: u8) -> Option<Fec> {
 
 #[test]
 fn laws_are_called() {
-    crate::routes_in_order();
-    crate::tests_are();
+    selective::routes_in_order();
+    selective::tests_are();
 }

@@ -1,7 +1,7 @@
 //! Calls that take memory, where there is some, and what an interface asks for.
-use super::*;
 use mv_base::{Addr, IfaceId};
 use pim_defs::join_of;
+use pim_state::Downstream;
 use scenario_defs::JoinEntry;
 use std::test::*;
 

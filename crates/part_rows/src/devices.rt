@@ -1,9 +1,9 @@
 //! Tests over memory that is really taken.
-use crate::{
+use mv_base::{Bytes, NoMemory};
+use mv_io::{
     CallNumbers, MemSink, MemSource, Sink, SinkFailed, Source, SourceFailed, SureSink, SureSource,
     write_all,
 };
-use mv_base::{Bytes, NoMemory};
 use std::alloc::Global;
 
 fn bytes(alloc: Global, octets: &[u8]) -> Result<Bytes, NoMemory> {

@@ -1,5 +1,5 @@
 //! Packets that were spelled by hand.
-use super::*;
+use label_forwarding::{Branch, Fib, read_packet};
 use mldp_fec::{Fec, FecKind, Opaque};
 use mv_base::{Addr, NodeId};
 use std::test::*;

@@ -3,7 +3,7 @@ ghost use Rattle.std.specs.Prelude.{IfOk};
 ghost use Rattle.bgp_attributes.specs.Spelling.{AreComms};
 ghost use Rattle.bgp_update.specs.Written.{IsWritable, IsWritableKey};
 
-use super::*;
+use bgp_update::{Advert, Change, Comms, EncodeFault, Key, Message, Stream, encode};
 use mv_base::{Addr, Rd, Seq};
 use mvpn_nlri::{Afi, Route};
 use route_targets::ExtComm;

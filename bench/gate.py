@@ -2,8 +2,8 @@
 """Measures what the gate costs: processor seconds of proof, tests and must-fail edits, crate by crate.
 
     python3 bench/gate.py                  runs `rt ci --anew` here, writes bench/gate.json and the table in docs/PROVING.md
-    python3 bench/gate.py COMMAND WORD..   the same with another command, as `rt ci NAME`; what it proves replaces the rows
-                                           of these crates, and the rows of all others stay
+    python3 bench/gate.py COMMAND WORD..   the same with another command, as `rt ci NAME`; what it proves and tries replaces
+                                           the numbers of these crates, and all others stay
     python3 bench/gate.py --table          writes the table alone, from bench/gate.json
 
 The kit proves each crate in processes of its own. Every fifth of a second this reads from /proc what each process below the
@@ -14,6 +14,7 @@ of `rt ci` nothing, so only `--anew`, or a machine that has proved nothing, give
 import json
 import os
 import re
+import signal
 import subprocess
 import sys
 import time
@@ -60,23 +61,33 @@ def words_of(number):
         return []
 
 
-def row_of(words):
-    """The crate that a process of the prover works at, and at which part; or none."""
+def folder_of(number):
+    try:
+        return os.readlink(f'/proc/{number}/cwd')
+    except OSError:
+        return ''
+
+
+def row_of(number):
+    """The crate that a process of the prover works at, and at which part; or none. An edit is tried on a copy of the crate."""
+    words = words_of(number)
     if not words or os.path.basename(words[0]) != 'rattle' or '--crate-name' not in words:
         return None
     crate = words[words.index('--crate-name') + 1]
-    return crate, 'edits' if words[1] == 'check' else 'tests' if '--test' in words else 'proof'
+    is_edit = os.path.basename(folder_of(number)).startswith('rt-edit')
+    return crate, 'edits' if is_edit else 'tests' if '--test' in words else 'proof'
 
 
 def measure(command):
     """Runs the command; its status and the processor seconds of each crate and part."""
     run = subprocess.Popen(command, cwd=HERE)
+    signal.signal(signal.SIGTERM, lambda *_: run.terminate())
     rows, used = {}, {}
     while run.poll() is None:
         found = processes()
         for key in below(run.pid, found):
             if rows.get(key) is None:
-                rows[key] = row_of(words_of(key[0]))
+                rows[key] = row_of(key[0])
             used[key] = found[key][1]
         time.sleep(0.2)
     costs = {}
@@ -106,6 +117,25 @@ def lines_of(crate, part):
 def number_of_edits(crate):
     folder = os.path.join(HERE, 'crates', crate, 'must-fail')
     return len(os.listdir(folder)) if os.path.isdir(folder) else 0
+
+
+def has_tests(crate):
+    for at, _, names in os.walk(os.path.join(HERE, 'crates', crate, 'src')):
+        for name in names:
+            with open(os.path.join(at, name)) as file:
+                if '#[test]' in file.read():
+                    return True
+    return False
+
+
+def merged(crate, old, new):
+    """The costs of a crate: of each part as it was measured last, and nothing of a part that it has no more."""
+    costs = {part: new.get(part) or old.get(part, 0) for part in PARTS}
+    if not has_tests(crate):
+        costs['tests'] = 0
+    if not number_of_edits(crate):
+        costs['edits'] = 0
+    return costs
 
 
 def table(costs):
@@ -140,8 +170,7 @@ def main():
     status = 0
     if sys.argv[1:] != ['--table']:
         status, measured = measure(sys.argv[1:] or ['rt', 'ci', '--anew'])
-        costs = {crate: measured.get(crate) or costs.get(crate) for crate in crate_names()}
-        costs = {crate: parts for crate, parts in costs.items() if parts}
+        costs = {crate: merged(crate, costs.get(crate, {}), measured.get(crate, {})) for crate in crate_names()}
         with open(COSTS, 'w') as file:
             json.dump(costs, file, indent=1)
             file.write('\n')

@@ -1,4 +1,4 @@
--- What holds of the nodes of every run in which no source is noted.
+-- What holds of the nodes of every run.
 use Rattle.std.specs.Prelude.{⊤}
 use Rattle.std.proofs.Common.{◌≡◌, ◌≢◌, ◌⊎◌, inl, inr, cond, map, length, slice_get, is_some, length-append, ℕ, ◌+◌, ◌≤◌, ◌++◌, Bool, true, false, ◌==◌, List, [], ◌∷◌, Option, Some, None, refl, sym, ap, subst, ◌∙◌, arith}
 use Rattle.std.specs.List.{AllByRecursion, fold}

@@ -1,17 +1,15 @@
 -- What is left of the labels once the bindings of all places are ended, the last place first.
-use Rattle.std.proofs.Common.{inl, inr, ◌≡◌, ◌≢◌, ℕ, ◌<◌, ◌≤◌, Bool, true, false, cond, nat_eq, List, [], ◌∷◌, ◌++◌, length, slice_get, slice_set, Option, None, Some, IfSome, refl, sym, ap, subst, ◌∙◌, arith}
-use Rattle.std.proofs.lemmas.Bool.{cases_Bool, cases_eq, eq-eqb}
+use Rattle.std.proofs.Common.{inl, inr, ◌≡◌, ◌≢◌, ℕ, Bool, true, false, cond, nat_eq, List, [], ◌∷◌, ◌++◌, length, slice_get, Option, None, Some, IfSome, refl, sym, ap, ◌∙◌, arith}
+use Rattle.std.proofs.lemmas.Bool.{cases_eq}
 use Rattle.std.proofs.lemmas.List.{length-set}
 use Rattle.std.proofs.lemmas.Option.{slice_get_past}
-use Rattle.std.specs.FinMap as maps
 use Rattle.tunnel_bindings.specs.declared.name.BindingName.{BindingName}
-use Rattle.tunnel_bindings.specs.declared.any_binding.AnyBinding.{AnyBinding}
 use Rattle.tunnel_bindings.specs.declared.places.Place.{Place}
 use Rattle.tunnel_bindings.specs.declared.state.LabelState.TheVariants.{Free, Owned}
-use Rattle.tunnel_bindings.specs.Labels.{Space, state_of, IsOwned, set_label}
+use Rattle.tunnel_bindings.specs.Labels.{Space, state_of, IsOwned}
 use Rattle.tunnel_bindings.specs.States.{label_in, with_free}
-use Rattle.tunnel_bindings.specs.Bindings.{Named, Carries, AreApart}
-use Rattle.tunnel_bindings.specs.Places.{name_at, kept_in, kept_at, kept_from, named, label_held, label_at, AreReady, AreEnded}
+use Rattle.tunnel_bindings.specs.Bindings.{Carries, AreApart}
+use Rattle.tunnel_bindings.specs.Places.{name_at, kept_in, named, label_held, label_at, AreReady, AreEnded}
 use Rattle.tunnel_bindings.proofs.LabelLemmas.{set-label, set-others, owned_still}
 use Rattle.tunnel_bindings.proofs.PlaceLemmas.{more-same, more-other, kept_same, tells}
 
@@ -49,14 +47,14 @@ ready_with places place space None e h = record {
 }
 ready_with places place space (Some own) e h = record {
   owned = λ i label at.
-    owned_still space label own Owned Free (h.owned i label (first-label places place i label at)) (h.owned (length places) own (last-label places place ∙ e)) (not_last places place space label own i e h at);
+      owned_still space label own Owned Free (h.owned i label (first-label places place i label at)) (h.owned (length places) own (last-label places place ∙ e)) (not_last places place space label own i e h at);
   apart = λ i j label at other. h.apart i j label (first-label places place i label at) (first-label places place j label other);
 }
 
 pub ready_step : (places : List Place) (place : Place) (space : Space) → AreReady (places ++ place ∷ []) space → AreReady places (with_free space (label_in place.binding))
 ready_step places place space h = ready_with places place space (label_in place.binding) refl h
 
-some-same : (a b : ℕ) → Some a ≡ Some b → a ≡ b
+pub some-same : (a b : ℕ) → Some a ≡ Some b → a ≡ b
 some-same a b e = cc
 
 ended_with : (places : List Place) (place : Place) (space last : Space) (o : Option ℕ) → label_in place.binding ≡ o → AreReady (places ++ place ∷ []) space → AreEnded places (with_free space o) last
@@ -80,8 +78,8 @@ ended_with places place space last (Some own) e h ended =
         | inr d ↦ ended.freed i label (sym (ap label_held (more-other places place i d)) ∙ at)
       ];
       others = λ label none.
-        ended.others label (λ i at. none i (first-label places place i label at))
-        ∙ set-others space own label Owned Free owned (λ same. none (length places) (last-label places place ∙ (e ∙ ap (λ (l : ℕ). Some l) (sym same))));
+          ended.others label (λ i at. none i (first-label places place i label at))
+          ∙ set-others space own label Owned Free owned (λ same. none (length places) (last-label places place ∙ (e ∙ ap (λ (l : ℕ). Some l) (sym same))));
       life = ended.life;
       count = ended.count ∙ length-set space.states _ _;
     }
@@ -126,7 +124,7 @@ pub ready_named : (places : List Place) (space : Space) → ((name : BindingName
 ready_named places space owned apart = record {
   owned = λ i label at. let under = under_name places i label at in owned (name_at i under.0) label under.1;
   apart = λ i j label at other.
-    let under = under_name places i label at in
-    let beside = under_name places j label other in
-    ap (λ (name : BindingName). name.index) (apart (name_at i under.0) (name_at j beside.0) label under.1 beside.1);
+      let under = under_name places i label at in
+      let beside = under_name places j label other in
+      ap (λ (name : BindingName). name.index) (apart (name_at i under.0) (name_at j beside.0) label under.1 beside.1);
 }

@@ -1,5 +1,5 @@
 -- The list of the free places, beside the places.
-use Rattle.std.proofs.Common.{inl, inr, zero, suc, ◌≡◌, ◌≢◌, ℕ, ◌+◌, ◌-◌, ◌<◌, ◌≤◌, ◌^◌, Bool, true, false, cond, nat_eq, nat_lt, List, [], ◌∷◌, ◌++◌, length, count_by, slice_get, slice_set, Option, None, Some, refl, sym, ap, subst, ◌∙◌, arith, length-append}
+use Rattle.std.proofs.Common.{inl, inr, zero, suc, ◌≡◌, ℕ, ◌+◌, ◌-◌, ◌<◌, ◌≤◌, ◌^◌, Bool, true, false, cond, nat_eq, nat_lt, List, [], ◌∷◌, ◌++◌, length, count_by, slice_get, slice_set, Some, refl, sym, ap, subst, ◌∙◌, arith, length-append}
 use Rattle.std.proofs.lemmas.Bool.{cases_Bool, cases_eq, eq-eqb, ne_eqb, ltb-true}
 use Rattle.std.proofs.lemmas.List.{length-set}
 use Rattle.std.proofs.lemmas.Option.{slice_get_within}
@@ -72,9 +72,9 @@ free-popped places free rest i capacity is h = elim (cases_Bool (is_free (slice_
   | inl e ↦ e
   | inr e ↦
       let none = tally-none (nat_eq i) 0 places (λ k m at free. ne_eqb i m (λ same.
-        let here : k ≡ i = omega (arith, at, same) in
-        let both : true ≡ false = sym free ∙ (ap (λ (j : ℕ). is_free (slice_get places j)) here ∙ e) in
-        absurd cc)) in
+      let here : k ≡ i = omega (arith, at, same) in
+      let both : true ≡ false = sym free ∙ (ap (λ (j : ℕ). is_free (slice_get places j)) here ∙ e) in
+      absurd cc)) in
       let some = count-push (nat_eq i) rest i in
       let same : nat_eq i i ≡ true = eq-eqb i i refl in
       let weigh : Bool → ℕ = λ b. cond b 1 0 in
@@ -96,10 +96,10 @@ well-filled places free rest i g capacity b is at h =
     let less : g < 2 ^ 64 - 1 = ltb-true g (2 ^ 64 - 1) usable in
     record {
       listed = λ p.
-        let set = tally-set p 0 i i places (emptied g) (holding g b) (omega arith) at in
-        let here : weight p i (emptied g) ≡ cond (p i) 1 0 = ap (λ (t : Bool). cond t (cond (p i) 1 0) 0) usable in
-        let all : count_by p rest + cond (p i) 1 0 ≡ tally p 0 places = sym (count-push p rest i) ∙ (sym (ap (count_by p) is) ∙ h.listed p) in
-        omega (arith, set, here, all);
+          let set = tally-set p 0 i i places (emptied g) (holding g b) (omega arith) at in
+          let here : weight p i (emptied g) ≡ cond (p i) 1 0 = ap (λ (t : Bool). cond t (cond (p i) 1 0) 0) usable in
+          let all : count_by p rest + cond (p i) 1 0 ≡ tally p 0 places = sym (count-push p rest i) ∙ (sym (ap (count_by p) is) ∙ h.listed p) in
+          omega (arith, set, here, all);
       room = omega (arith, h.room, length-set places i (holding g b));
       young = young-set places i (holding g b) (slice_get_within places i (emptied g) at) less h.young;
     }

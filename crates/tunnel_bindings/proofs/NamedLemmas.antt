@@ -1,18 +1,22 @@
 -- The calls that change one place, as changes of the bindings by name.
-use Rattle.std.proofs.Common.{inl, inr, ◌≡◌, ◌≢◌, ℕ, ◌+◌, ◌↔◌, ◌⊎◌, true, List, [], ◌∷◌, ◌++◌, length, map, slice_get, slice_set, Option, None, Some, IfSome, IfNone, IfOk, is_some, refl, sym, ap, subst, ◌∙◌, arith}
+use Rattle.std.proofs.Common.{inl, inr, ◌≡◌, ℕ, ◌+◌, Bool, true, cond, List, [], ◌∷◌, ◌++◌, length, map, slice_get, slice_set, Option, None, Some, IfSome, IfNone, IfOk, is_some, refl, sym, ap, subst, ◌∙◌, arith}
 use Rattle.std.specs.declared.result.Result.{Result}
 use Rattle.std.specs.declared.result.Result.TheVariants.{Ok, Err}
 use Rattle.std.specs.FinMap as maps
-use Rattle.std.proofs.lemmas.Bool.{cases_eq}
+use Rattle.std.specs.FinMap.{FinMap}
+use Rattle.std.specs.Ordering.{eq_by_cmp}
+use Rattle.std.specs.Cmp.{Equal-is}
+use Rattle.std.proofs.lemmas.Bool.{cases_Bool, cases_eq}
 use Rattle.std.proofs.lemmas.Option.{slice_get_within, slice_get_past}
 use Rattle.tunnel_bindings.specs.declared.name.BindingName.{BindingName}
 use Rattle.tunnel_bindings.specs.declared.any_binding.AnyBinding.{AnyBinding}
 use Rattle.tunnel_bindings.specs.declared.places.Place.{Place}
 use Rattle.tunnel_bindings.specs.declared.places.Places.{Places}
-use Rattle.tunnel_bindings.specs.Bindings.{Named, WasGiven}
+use Rattle.tunnel_bindings.specs.States.{label_of, label_in}
+use Rattle.tunnel_bindings.specs.Bindings.{name_cmp, Named}
 use Rattle.tunnel_bindings.specs.Places.{holding, emptied, name_at, kept_from, given_of, named, kept_in, kept_at}
 use Rattle.tunnel_bindings.proofs.NumbersLemmas.{get-set_same, get-set_other}
-use Rattle.tunnel_bindings.proofs.PlaceLemmas.{more-same, more-other, kept_same, kept_other, kept_empty, tells, Changes, put, removed, none_removed, given_in, Gives, map-set}
+use Rattle.tunnel_bindings.proofs.PlaceLemmas.{name_cmp_total, name_cmp_exact, more-same, more-other, kept_same, kept_other, kept_empty, tells, Changes, put, removed, none_removed, given_in, Gives, map-set}
 
 -- ---- a free place is filled
 
@@ -79,6 +83,7 @@ found places name h = by (slice_get places name.index) refl h
     held : (place : Place) (o : Option AnyBinding) → place.binding ≡ o → place.generation ≡ name.generation → is_some o ≡ true → (b : AnyBinding) × (Some place ≡ Some (holding name.generation b))
     held place None e g some = absurd cc
     held place (Some b) e g some = (b, λ i. Some (record { generation = g i; binding = e i }))
+
     by : (o : Option Place) → slice_get places name.index ≡ o → is_some (kept_in name.generation o) ≡ true → (b : AnyBinding) × (slice_get places name.index ≡ Some (holding name.generation b))
     by None e some = absurd cc
     by (Some place) e some = elim (cases_eq place.generation name.generation) [
@@ -111,3 +116,34 @@ taken old new name m (Some b) view is some same =
     let kept = removed old.places.items new.places.items name (changes_emptied old.places.items new.places.items name place.0 place.1 some) ∙ ap (λ (n : Named). maps.remove n.kept name) view in
     let given = ap (map given_of) some ∙ (map-set given_of old.places.items name.index (holding name.generation place.0) (emptied (name.generation + 1)) place.1 refl ∙ ap (λ (n : Named). n.given) view) in
     λ i. record { kept = kept i; given = given i }
+
+-- ---- a binding alone
+
+none_left : (name : BindingName) (b : AnyBinding) (q : BindingName) → maps.get (maps.remove (maps.insert (maps.empty {R = name_cmp}) name b) name) q ≡ None
+none_left name b q =
+    maps.get-remove name_cmp_total (maps.insert maps.empty name b) name q
+    ∙ elim (cases_Bool (eq_by_cmp name_cmp q name)) [
+      | inl e ↦ ap (λ (t : Bool). cond t None (maps.get (maps.insert (maps.empty {R = name_cmp}) name b) q)) e
+      | inr e ↦
+          ap (λ (t : Bool). cond t None (maps.get (maps.insert (maps.empty {R = name_cmp}) name b) q)) e
+          ∙ (maps.get-insert name_cmp_total maps.empty name b q ∙ (ap (λ (t : Bool). cond t (Some b) (maps.get (maps.empty {R = name_cmp}) q)) e ∙ maps.get-empty name_cmp q))
+    ]
+
+one_kept : (before : FinMap name_cmp AnyBinding) (name : BindingName) (b : AnyBinding) → ((q : BindingName) → maps.get before q ≡ None)
+    → (q : BindingName) (label : ℕ) → label_in (maps.get (maps.insert before name b) q) ≡ Some label → (q ≡ name) × (label_of b ≡ Some label)
+one_kept before name b none q label h =
+    let is : label_in (cond (eq_by_cmp name_cmp q name) (Some b) (maps.get before q)) ≡ Some label = sym (ap label_in (maps.get-insert name_cmp_total before name b q)) ∙ h in
+    elim (cases_Bool (eq_by_cmp name_cmp q name)) [
+      | inl e ↦ (name_cmp_exact q name ((Equal-is (name_cmp q name)).0 e), sym (ap (λ (t : Bool). label_in (cond t (Some b) (maps.get before q))) e) ∙ is)
+      | inr e ↦ let nothing : None ≡ Some label = sym (ap label_in (none q)) ∙ (sym (ap (λ (t : Bool). label_in (cond t (Some b) (maps.get before q))) e) ∙ is) in absurd cc
+    ]
+
+-- a binding that is kept where another one was kept and taken
+pub one_behind : (none first after second : Named) (name again : BindingName) (w b : AnyBinding) → none ≡ record { kept = maps.empty; given = [] } → first.kept ≡ maps.insert none.kept name w
+    → after ≡ record first { kept = maps.remove first.kept name } → second.kept ≡ maps.insert after.kept again b
+    → (q : BindingName) (label : ℕ) → label_in (maps.get second.kept q) ≡ Some label → (q ≡ again) × (label_of b ≡ Some label)
+one_behind none first after second name again w b nothing kept taken_so more q label h =
+    let left : after.kept ≡ maps.remove (maps.insert maps.empty name w) name =
+    ap (λ (n : Named). n.kept) taken_so ∙ ap (λ (m : FinMap name_cmp AnyBinding). maps.remove m name) (kept ∙ ap (λ (n : Named). maps.insert n.kept name w) nothing) in
+    one_kept after.kept again b (λ p. ap (λ (m : FinMap name_cmp AnyBinding). maps.get m p) left ∙ none_left name w p) q label
+    (subst (λ (m : FinMap name_cmp AnyBinding). label_in (maps.get m q) ≡ Some label) more h)

@@ -1,21 +1,17 @@
 -- What a change of one place does to the bindings by name, to the names given and to the free places.
-use Rattle.std.proofs.Common.{inl, inr, zero, suc, ◌≡◌, ◌≢◌, ℕ, ◌+◌, ◌-◌, ◌<◌, ◌≤◌, ◌^◌, ◌↔◌, ◌⊎◌, Bool, true, false, cond, nat_eq, nat_lt, List, [], ◌∷◌, ◌++◌, length, map, count_by, slice_get, slice_set, slice_index, Option, None, Some, IfSome, is_some, refl, sym, ap, subst, ◌∙◌, arith, length-append}
+use Rattle.std.proofs.Common.{inl, inr, zero, suc, ◌≡◌, ◌≢◌, ℕ, ◌+◌, ◌<◌, ◌↔◌, ◌⊎◌, Bool, true, false, cond, nat_eq, List, [], ◌∷◌, ◌++◌, length, map, slice_get, slice_set, slice_index, Option, None, Some, refl, sym, ap, ◌∙◌, arith}
 use Rattle.std.specs.Ordering.{is_eq, eq_by_cmp}
 use Rattle.std.specs.Cmp.{IsTotalOrder, tied_itself, Equal-is}
 use Rattle.std.specs.Cmp.Lexicographic.{nat_list_cmp_total}
 use Rattle.std.specs.FinMap as maps
 use Rattle.std.specs.FinMap.{FinMap, IsAntisymmetric, nat_cmp-IsAntisymmetric, slice_cmp-IsAntisymmetric}
 use Rattle.std.proofs.lemmas.Cmp.{on_total}
-use Rattle.std.proofs.lemmas.Bool.{cases_Bool, cases_eq, eq-eqb, ne_eqb, eqb-true, lt-ltb, ltb-true}
-use Rattle.std.proofs.lemmas.List.{length-set}
-use Rattle.std.proofs.lemmas.Option.{slice_get_within, slice_get_past}
-use Rattle.std.proofs.lemmas.List.Sums.{sum_by-cons, sum_by_push}
+use Rattle.std.proofs.lemmas.Bool.{cases_Bool, cases_eq, eq-eqb, ne_eqb}
 use Rattle.tunnel_bindings.specs.declared.name.BindingName.{BindingName}
 use Rattle.tunnel_bindings.specs.declared.any_binding.AnyBinding.{AnyBinding}
 use Rattle.tunnel_bindings.specs.declared.places.Place.{Place}
-use Rattle.tunnel_bindings.specs.Bindings.{name_key, name_cmp, Named, WasGiven}
-use Rattle.tunnel_bindings.specs.Places.{holding, emptied, name_at, with_binding, kept_from, given_by, given_of, named, kept_in, kept_at, is_open, is_free, released, weight, tally, IsYoung, IsWell}
-use Rattle.tunnel_bindings.proofs.NumbersLemmas.{get-set_same, get-set_other}
+use Rattle.tunnel_bindings.specs.Bindings.{name_key, name_cmp, WasGiven}
+use Rattle.tunnel_bindings.specs.Places.{emptied, name_at, with_binding, kept_from, given_of, named, kept_in, kept_at}
 
 -- ---- names
 
@@ -116,12 +112,12 @@ each_name : (old new : List Place) (name : BindingName) (value : Option AnyBindi
     → (q : BindingName) → kept_at new q ≡ cond (eq_by_cmp name_cmp q name) value (maps.get (kept_from 0 old) q)
 each_name old new name value h q = elim (cases_eq q.index name.index) [
   | inl i ↦ elim (cases_eq q.generation name.generation) [
-      | inl g ↦ ap (kept_at new) (same_name q name i g) ∙ (h.here ∙ sym (ap (λ (t : Bool). cond t value (maps.get (kept_from 0 old) q)) (tied q name (same_name q name i g))))
-      | inr d ↦
-          ap (λ (k : ℕ). kept_in q.generation (slice_get new k)) i ∙ (h.now q.generation d
-          ∙ sym (ap (λ (t : Bool). cond t value (maps.get (kept_from 0 old) q)) (untied q name (λ e. d (ap (λ (n : BindingName). n.generation) e)))
-          ∙ (tells old q ∙ (ap (λ (k : ℕ). kept_in q.generation (slice_get old k)) i ∙ h.was q.generation d))))
-    ]
+    | inl g ↦ ap (kept_at new) (same_name q name i g) ∙ (h.here ∙ sym (ap (λ (t : Bool). cond t value (maps.get (kept_from 0 old) q)) (tied q name (same_name q name i g))))
+    | inr d ↦
+        ap (λ (k : ℕ). kept_in q.generation (slice_get new k)) i ∙ (h.now q.generation d
+        ∙ sym (ap (λ (t : Bool). cond t value (maps.get (kept_from 0 old) q)) (untied q name (λ e. d (ap (λ (n : BindingName). n.generation) e)))
+        ∙ (tells old q ∙ (ap (λ (k : ℕ). kept_in q.generation (slice_get old k)) i ∙ h.was q.generation d))))
+  ]
   | inr d ↦
       ap (kept_in q.generation) (h.others q.index d)
       ∙ sym (ap (λ (t : Bool). cond t value (maps.get (kept_from 0 old) q)) (untied q name (λ e. d (ap (λ (n : BindingName). n.index) e))) ∙ tells old q)
@@ -175,6 +171,7 @@ one_given old new name h other = (there, back)
           let same : slice_index (map given_of new) other.index ≡ slice_index (map given_of old) other.index = given-get new other.index ∙ (ap given_in (h.others other.index d) ∙ sym (given-get old other.index)) in
           inr (omega (arith, given, same))
     ]
+
     back : (other ≡ name) ⊎ WasGiven (named old) other → WasGiven (named new) other
     back (inl e) =
         let is : slice_index (map given_of new) other.index ≡ name.generation + 1 = ap (λ (n : BindingName). slice_index (map given_of new) n.index) e ∙ (given-get new name.index ∙ h.now) in

@@ -18,8 +18,8 @@ loop-place-preserved c =
     record {
       ready = rw c.end_place.ensures (ready_step rest c.in-Some.place space ready);
       behind = λ last ended. c.loop-place.invariant.behind last
-        (subst (λ (places : List Place). AreEnded places space last) (sym c.in-Some.ensures.items)
-        (ended_step rest c.in-Some.place space last ready (subst (λ (now : Space). AreEnded rest now last) c.end_place.ensures ended)));
+          (subst (λ (places : List Place). AreEnded places space last) (sym c.in-Some.ensures.items)
+          (ended_step rest c.in-Some.place space last ready (subst (λ (now : Space). AreEnded rest now last) c.end_place.ensures ended)));
     }
 
 pub returns : goal.returns

@@ -1,4 +1,4 @@
-use Rattle.std.proofs.Common.{◌+◌, ap, sym, ◌∙◌, arith}
+use Rattle.std.proofs.Common.{ap, sym, ◌∙◌, arith}
 use Rattle.std.specs.Vec.{vec_capacity}
 use Rattle.tunnel_bindings.proofs.FreeLemmas.{room-left, well-emptied}
 use Rattle.tunnel_bindings.proofs.NamedLemmas.{found}

@@ -24,7 +24,8 @@ pub record Named : Type 0 where
   pub given : List ℕ
 
 abbrev name_code : Coded BindingName
-name_code = code_by (ℕ × ℕ) (coded× coded_ℕ coded_ℕ) (λ name. (name.index, name.generation)) (λ p. record { index = p.0; generation = p.1 }) (λ _. refl)
+name_code =
+    code_by (ℕ × ℕ) (coded× coded_ℕ coded_ℕ) (λ name. (name.index, name.generation)) (λ p. record { index = p.0; generation = p.1 }) (λ _. refl)
 
 abbrev pub named_code : Coded Named
 named_code =

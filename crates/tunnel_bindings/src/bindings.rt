@@ -80,7 +80,8 @@ impl Bindings {
         requires owned { (name : BindingName) (label : ℕ) → Carries self name label → IsOwned space.old label }
         requires apart { AreApart self }
         ensures freed { (name : BindingName) (label : ℕ) → Carries self name label → state_of space.new label ≡ Some LabelState.Free }
-        ensures others { (label : ℕ) → ((name : BindingName) → ¬ (Carries self name label)) → state_of space.new label ≡ state_of space.old label }
+        ensures others { (label : ℕ) → ((name : BindingName) → ¬ (Carries self name label)) →
+            state_of space.new label ≡ state_of space.old label }
         ensures life { space.new.life ≡ space.old.life }
         ensures count { length space.new.states ≡ length space.old.states }
     {

@@ -136,7 +136,8 @@ impl Places {
     pub(crate) fn take(&mut self, name: BindingName) -> Option<AnyBinding>
         requires { IsWell self.old.places.items self.old.free.items (vec_capacity self.old.free) }
         ensures binding { result ≡ kept_at self.old.places.items name }
-        ensures taken { IfSome result (λ _. self.new.places.items ≡ slice_set self.old.places.items name.index (emptied (name.generation + 1))) }
+        ensures taken { IfSome result (λ _.
+            self.new.places.items ≡ slice_set self.old.places.items name.index (emptied (name.generation + 1))) }
         ensures unchanged { IfNone result (self.new ≡ self.old) }
         ensures well { IsWell self.new.places.items self.new.free.items (vec_capacity self.new.free) }
     {

@@ -3,8 +3,8 @@
 
 The compiler refuses such a program before any proof, so it is no edit that the prover has to refuse. Here functions are
 appended to a copy of the crates. One spends the binding that it is handed, and there is no error. The others, one for
-each state of a binding, let it go, and the error has to be `linear-value-let-go`, once, in that function. Nothing is
-proved: `rt try` tells such errors.
+each state of a binding and one for a binding in any state, let it go, and the error has to be `linear-value-let-go`,
+once, in that function. Nothing is proved: `rt try` tells such errors.
 
 Prints what differs, and then 'N passed, M failed'.
 """
@@ -22,6 +22,8 @@ CRATES = ['mv_base', 'framing', 'mldp_fec', 'tunnel_bindings']
 SPENDS = 'pub fn spends(binding: Binding<Mapped>) -> Binding<Leaving> {\n    binding.leave()\n}\n'
 
 LETS_GO = 'pub fn lets_go(binding: Binding<%s>) -> mv_base::NodeId {\n    binding.upstream()\n}\n'
+
+LETS_ANY_GO = 'pub fn lets_go(binding: AnyBinding) -> BindingState {\n    binding.state()\n}\n'
 
 STATES = ['Wanted', 'Mapped', 'Leaving']
 
@@ -64,6 +66,8 @@ def main():
         for state in STATES:
             told, errors = try_with(root, source, LETS_GO % state)
             results.append(('Binding<%s> that is let go' % state, told, is_let_go(errors, source)))
+        told, errors = try_with(root, source, LETS_ANY_GO)
+        results.append(('AnyBinding that is let go', told, is_let_go(errors, source)))
     failed = 0
     for name, told, as_wanted in results:
         if not as_wanted:

@@ -1,7 +1,9 @@
 //! Labels that are taken, released and lost.
-ghost use Rattle.std.specs.Prelude.{◌≡◌};
+ghost use Rattle.std.specs.Prelude.{◌≡◌, IfSome};
+ghost use Rattle.std.specs.FinMap as maps;
 ghost use Rattle.tunnel_bindings.specs.declared.state.LabelState.TheVariants as LabelState;
-ghost use Rattle.tunnel_bindings.specs.Labels.{IsLeastFree, set_label};
+ghost use Rattle.tunnel_bindings.specs.Labels.{IsLeastFree, IsOwned, set_label};
+ghost use Rattle.tunnel_bindings.specs.States.{label_of};
 
 use super::*;
 use mldp_fec::{Fec, FecKind};
@@ -84,5 +86,53 @@ fn none_free(rt: HostRuntime) -> Result<(), Fail> {
             only.leave().lost(&mut space);
         }
     }
+    Ok(())
+}
+
+/// Keeps the binding. There is memory.
+fn keep(
+    rt: &impl Abort,
+    bindings: &mut Bindings,
+    space: &mut LabelSpace,
+    binding: AnyBinding,
+) -> BindingName
+    requires { IfSome (label_of binding) (λ label. IsOwned space.old label) }
+    ensures kept { bindings.new.kept ≡ maps.insert bindings.old.kept result binding }
+    ensures space { space.new ≡ space.old }
+{
+    match bindings.keep(binding) {
+        Ok(name) => name,
+        Err(back) => {
+            back.end(space);
+            panic!(rt; "there is no memory")
+        }
+    }
+}
+
+/// A name that was given up answers nothing, also where its place is used again. A close frees the label.
+#[test]
+fn names_are_given_once(rt: HostRuntime) -> Result<(), Fail> {
+    let mut space = LabelSpace::of(rt.alloc(), 1, 5).ok().ok_or("memory")?;
+    let mut bindings = Bindings::of(rt.alloc());
+    let first = keep(
+        &rt,
+        &mut bindings,
+        &mut space,
+        AnyBinding::Wanted(wanted(1)),
+    );
+    match bindings.take(first) {
+        Some(AnyBinding::Wanted(wanted)) => wanted.cancel(),
+        _ => panic!(rt; "the name is kept"),
+    }
+    let own = mapped(&rt, &mut space);
+    let second = keep(&rt, &mut bindings, &mut space, AnyBinding::Mapped(own));
+    let states = (bindings.state(first), bindings.state(second));
+    bindings.close(&mut space);
+    assert_eq!(rt; states.0, None);
+    assert_eq!(rt; states.1, Some(BindingState::Mapped(16)));
+    assert_eq!(rt; second.index, first.index);
+    let again = mapped(&rt, &mut space);
+    assert_eq!(rt; again.label(), 16);
+    again.lost(&mut space).cancel();
     Ok(())
 }

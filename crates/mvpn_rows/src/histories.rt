@@ -12,7 +12,6 @@ const SOURCE: Addr = Addr::V4([10, 1, 0, 9]);
 const GROUP: Addr = Addr::V4([232, 1, 1, 1]);
 
 #[test]
-#[tactic(auto, using(mvpn_model::proofs::TicksLemmas::clock_small))]
 fn a_history_tells_homes_and_receivers(rt: HostRuntime) -> Result<(), Fail> {
     let script = read(rt.alloc(), TEXT)?;
     let refused = Seq::new(rt.alloc());

@@ -1,0 +1,3 @@
+pub mod SoundEvents
+pub mod Halting
+pub mod Plain

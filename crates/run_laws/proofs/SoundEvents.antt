@@ -1,0 +1,114 @@
+-- Events that a scenario allows are of sound values.
+use Rattle.std.specs.Prelude.{IfSome}
+use Rattle.std.proofs.Common.{ℕ, ◌<◌, List, [], ◌∷◌, ◌++◌, take, drop, length, Option, None, Some, subst}
+use Rattle.std.specs.List.{AllByRecursion}
+use Rattle.std.proofs.lemmas.Option.{slice_get_within}
+use Rattle.mv_base.specs.Address.{addr_octets}
+use Rattle.mv_base.specs.Octets.{IsOctets}
+use Rattle.mv_base.specs.declared.addr.Addr.{Addr}
+use Rattle.mv_base.specs.declared.addr.Addr.TheVariants.{V4, V6}
+use Rattle.mv_base.specs.declared.ids.NodeId.{NodeId}
+use Rattle.core_walks.specs.Topology.{IsTopology}
+use Rattle.core_walks.proofs.WalkLemmas.{good}
+use Rattle.mvpn_nlri.specs.Spelling.{IsAnyOr}
+use Rattle.scenario_defs.specs.Rules.{Rules, ScriptRules, IsUnicast, IsGroup, IsEntry, HaveSession, IsEventOf}
+use Rattle.scenario_defs.specs.declared.event.Event.{Event}
+use Rattle.scenario_defs.specs.declared.event.Event.TheVariants as events
+use Rattle.scenario_defs.specs.declared.event.JoinEntry.{JoinEntry}
+use Rattle.scenario_defs.specs.declared.event.JoinEntry.TheVariants as entries
+use Rattle.scenario_defs.specs.declared.event.Kind.{Kind}
+use Rattle.scenario_defs.specs.declared.event.Kind.TheVariants as kinds
+use Rattle.scenario_defs.specs.declared.event.Script.{Script}
+use Rattle.scenario_defs.specs.declared.event.Timed.{Timed}
+use Rattle.scenario_defs.specs.declared.scenario.Scenario.{Scenario}
+use Rattle.edge_defs.specs.Place.{Core, IsCoreOf}
+use Rattle.world_defs.specs.Run.{Traced, Run}
+use Rattle.world_defs.specs.World.{World}
+use Rattle.world_laws.specs.Honest.{IsSoundEvent}
+use Rattle.world_laws.specs.Sound.{IsHost, IsGroupAddr, SoundEntry}
+use Rattle.world_laws.specs.SoundRun.{SoundRun}
+use Rattle.world_laws.proofs.Lists.{each_front}
+use Rattle.delivery_laws.proofs.Splits.{cut_in_two}
+use Rattle.run_laws.specs.Octets.{entry_octets, word_octets, EventHasOctets, ScriptHasOctets}
+
+-- ---- addresses
+
+host : (addr : Addr) → IsUnicast addr → IsOctets (addr_octets addr) → IsHost addr
+host (V4 octets) unicast is = (unicast.0, is)
+host (V6 octets) unicast is = absurd unicast
+
+group_addr : (addr : Addr) → IsGroup addr → IsOctets (addr_octets addr) → IsGroupAddr addr
+group_addr (V4 octets) (four, low, high, apart) is = ((four, is), (low, high))
+group_addr (V6 octets) group is = absurd group
+
+entry_sound : (entry : JoinEntry) → IsEntry entry → AllByRecursion IsOctets (entry_octets entry) → SoundEntry entry
+entry_sound (entries.Star group) is octets = group_addr group is octets.0
+entry_sound (entries.Source source group) is octets = (host source is.0 octets.0, group_addr group is.1 octets.1.0)
+entry_sound (entries.Rpt source group) is octets = (host source is.0 octets.0, group_addr group is.1 octets.1.0)
+
+any_host : (word : Option Addr) → IfSome word IsUnicast → AllByRecursion IsOctets (word_octets word) → IsAnyOr IsHost word
+any_host None is octets = tt
+any_host (Some addr) is octets = host addr is octets.0
+
+any_group : (word : Option Addr) → IfSome word IsGroup → AllByRecursion IsOctets (word_octets word) → IsAnyOr IsGroupAddr word
+any_group None is octets = tt
+any_group (Some addr) is octets = group_addr addr is octets.0
+
+words_sound : (source group : Option Addr) → IfSome source IsUnicast → IfSome group IsGroup → AllByRecursion IsOctets (word_octets source ++ word_octets group) → IsAnyOr IsHost source × IsAnyOr IsGroupAddr group
+words_sound None group is given octets = (tt, any_group group given octets)
+words_sound (Some addr) group is given octets = (host addr is octets.0, any_group group given octets.1)
+
+-- ---- events
+
+within_by : (scenario : Scenario) → IsTopology (length scenario.nodes) scenario.links → (kind : Kind) (a b : NodeId) → HaveSession scenario kind a b → a.0 < length scenario.nodes
+within_by scenario topology kinds.Bgp a b (edge, other, apart) = slice_get_within scenario.nodes a.0 edge.node edge.at
+within_by scenario topology kinds.Ldp a b (cost, linked) = (good (length scenario.nodes) scenario.links a.0 b.0 cost topology linked).a_within
+
+sound_by : (scenario : Scenario) → IsTopology (length scenario.nodes) scenario.links → (event : Event) → IsEventOf scenario event → EventHasOctets event → IsSoundEvent scenario event
+sound_by scenario topology (events.Tick count) is octets = tt
+sound_by scenario topology (events.Timers node) is octets = is
+sound_by scenario topology (events.Restart node) is octets = tt
+sound_by scenario topology (events.Move kind from to count) is octets = tt
+sound_by scenario topology (events.Lose kind a b) is octets = tt
+sound_by scenario topology (events.Notice kind a b) is octets = within_by scenario topology kind a b is
+sound_by scenario topology (events.Raise kind a b) is octets = tt
+sound_by scenario topology (events.Join iface entry) is octets = (is.0, entry_sound entry is.1 octets)
+sound_by scenario topology (events.Prune iface entry) is octets = (is.0, entry_sound entry is.1 octets)
+sound_by scenario topology (events.Pim iface bytes) is octets = octets.0
+sound_by scenario topology (events.Active iface source group) is octets = (host source is.1 octets.0, group_addr group is.2 octets.1.0)
+sound_by scenario topology (events.Idle iface source group) is octets = tt
+sound_by scenario topology (events.Send site source group payload) is octets = tt
+sound_by scenario topology (events.Packet site bytes) is octets = tt
+sound_by scenario topology (events.Select vrf pattern) is octets = words_sound pattern.source pattern.group is.1.0 is.1.1 octets
+sound_by scenario topology (events.Unselect vrf pattern) is octets = tt
+sound_by scenario topology (events.Hop from to place) ((cost, linked), counted, few) octets = record { cost = cost; linked = linked; counted = counted }
+sound_by scenario topology (events.DropCopy from to place) ((cost, linked), counted, few) octets = record { cost = cost; linked = linked; counted = counted }
+sound_by scenario topology events.Heal is octets = tt
+sound_by scenario topology events.Settle is octets = tt
+sound_by scenario topology events.Drain is octets = tt
+sound_by scenario topology events.State is octets = tt
+
+pub sound_event : (scenario : Scenario) (event : Event) → Rules scenario → IsEventOf scenario event → EventHasOctets event → IsSoundEvent scenario event
+sound_event scenario event rules is octets = sound_by scenario rules.core.topology event is octets
+
+-- ---- scripts
+
+all_sound : (scenario : Scenario) → Rules scenario → (row : List Timed) → AllByRecursion (λ (timed : Timed). IsEventOf scenario timed.event) row → AllByRecursion (λ (timed : Timed). EventHasOctets timed.event) row
+    → AllByRecursion (λ (timed : Timed). IsSoundEvent scenario timed.event) row
+all_sound scenario rules [] is octets = tt
+all_sound scenario rules (timed ∷ more) is octets = (sound_event scenario timed.event rules is.0 octets.0, all_sound scenario rules more is.1 octets.1)
+
+pub sound_first : (script : Script) (count : ℕ) → ScriptRules script → ScriptHasOctets script → AllByRecursion (λ (timed : Timed). IsSoundEvent script.scenario timed.event) (take count script.events)
+sound_first script count rules octets =
+    let all : AllByRecursion (λ (timed : Timed). IsSoundEvent script.scenario timed.event) script.events = all_sound script.scenario rules.scenario script.events rules.events octets.events in
+    each_front (λ (timed : Timed). IsSoundEvent script.scenario timed.event) (take count script.events) (drop count script.events)
+    (subst (AllByRecursion (λ (timed : Timed). IsSoundEvent script.scenario timed.event)) (cut_in_two count script.events) all)
+
+pub sound_run : (core : Core) (script : Script) (count : ℕ) (trace : List Traced) (new : World) → ScriptRules script → ScriptHasOctets script → IsCoreOf script.scenario core → Run core script (take count script.events) trace new
+    → SoundRun core script (take count script.events) trace new
+sound_run core script count trace new rules octets of_scenario run = record {
+  scenario = record { rules = rules.scenario; octets = octets.scenario };
+  of_scenario = of_scenario;
+  sound_events = sound_first script count rules octets;
+  run = run;
+}

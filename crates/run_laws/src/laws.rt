@@ -1,0 +1,69 @@
+//! Laws of runs of whole scripts.
+ghost use Rattle.std.specs.Prelude.{◌≡◌, ◌↔◌, ℕ, Bool, true, List, ◌++◌, take, filter};
+ghost use Rattle.std.specs.List.{AllByRecursion};
+ghost use Rattle.mv_base.specs.declared.ids.NodeId.{NodeId};
+ghost use Rattle.scenario_defs.specs.Rules.{Rules, ScriptRules, IsEventOf};
+ghost use Rattle.scenario_defs.specs.declared.event.Event.{Event};
+ghost use Rattle.scenario_defs.specs.declared.event.Script.{Script};
+ghost use Rattle.scenario_defs.specs.declared.event.Timed.{Timed};
+ghost use Rattle.scenario_defs.specs.declared.report.ReportLine.{ReportLine};
+ghost use Rattle.scenario_defs.specs.declared.scenario.Scenario.{Scenario};
+ghost use Rattle.mvpn_model.specs.Once.{Once};
+ghost use Rattle.mvpn_model.specs.Report.{Entry, lines_of, refused_lines};
+ghost use Rattle.mvpn_model.specs.Safe.{Safe};
+ghost use Rattle.edge_defs.specs.Place.{Core, IsCoreOf};
+ghost use Rattle.world_defs.specs.Run.{Traced, Run, Halts};
+ghost use Rattle.world_defs.specs.World.{World};
+ghost use Rattle.world_laws.specs.Honest.{IsSoundEvent};
+ghost use Rattle.world_laws.specs.SoundRun.{SoundRun};
+ghost use Rattle.run_laws.specs.Octets.{EventHasOctets, ScriptHasOctets};
+ghost use Rattle.run_laws.specs.Plain.{is_plain, plain};
+ghost use Rattle.run_laws.specs.Runs.{of_events, RunsOrHalts, RunsInTwo, ReportBegins};
+
+/// An event that a scenario allows is of sound values. So where a script meets its rules, each run of first events of it is one of
+/// sound events in a sound scenario, of which the laws of runs speak.
+pub fn readable_events_are_sound()
+    ensures event { (scenario : Scenario) (event : Event) → Rules scenario → IsEventOf scenario event → EventHasOctets event →
+        IsSoundEvent scenario event }
+    ensures events { (script : Script) (count : ℕ) → ScriptRules script → ScriptHasOctets script →
+        AllByRecursion (λ (timed : Timed). IsSoundEvent script.scenario timed.event) (take count script.events) }
+    ensures run { (core : Core) (script : Script) (count : ℕ) (trace : List Traced) (new : World) →
+        ScriptRules script → ScriptHasOctets script → IsCoreOf script.scenario core →
+        Run core script (take count script.events) trace new → SoundRun core script (take count script.events) trace new }
+{}
+
+/// By the core of the script's scenario any events either run, or halt at one of them and at one node; never both. What happens in the
+/// run is one, and so are the halt and its report.
+pub fn one_run_or_one_halt()
+    ensures either { (core : Core) (script : Script) (events : List Timed) → IsCoreOf script.scenario core →
+        RunsOrHalts core (of_events script events) }
+    ensures never_both { (core : Core) (script : Script) (events : List Timed) (trace : List Traced) (new : World) (report : List Entry) (node : NodeId) →
+        Run core script events trace new → Halts core (of_events script events) report node → ⊥ }
+    ensures one_run { (core : Core) (script : Script) (events : List Timed) (trace other : List Traced) (new last : World) →
+        Run core script events trace new → Run core script events other last → (trace ≡ other) × (new ≡ last) }
+    ensures one_halt { (core : Core) (script : Script) (report other : List Entry) (node last : NodeId) →
+        (halt : Halts core script report node) → (again : Halts core script other last) →
+        (halt.before ≡ again.before) × (halt.timed ≡ again.timed) × (node ≡ last) × (report ≡ other) }
+{}
+
+/// Where events run, the first of them do, and what happens in these is the front of what happens. So it is with the events before a
+/// halt: the report of the halt begins with what happens in them.
+pub fn first_events_of_a_run_run()
+    ensures run { (core : Core) (script : Script) (first more : List Timed) (trace : List Traced) (new : World) →
+        Run core script (first ++ more) trace new → RunsInTwo core script first more trace new }
+    ensures halt { (core : Core) (script : Script) (report : List Entry) (node : NodeId) (halt : Halts core script report node) (first more : List Timed) →
+        halt.before ≡ first ++ more → ReportBegins core script first report }
+{}
+
+/// A plain report has the lines of its report, in their order, but for those of the links. It refuses the same events, and is safe or
+/// delivers once exactly where the report does.
+pub fn a_plain_report_says_as_much()
+    ensures lines { (report : List Entry) → lines_of (plain report) ≡ filter is_plain (lines_of report) }
+    ensures kept { (test : ReportLine → Bool) → ((line : ReportLine) → test line ≡ true → is_plain line ≡ true) →
+        (report : List Entry) → filter test (lines_of (plain report)) ≡ filter test (lines_of report) }
+    ensures refused { (report : List Entry) → refused_lines (plain report) ≡ refused_lines report }
+    ensures safe { (scenario : Scenario) (events : List Timed) (refused : List ℕ) (report : List Entry) →
+        Safe scenario events refused (plain report) ↔ Safe scenario events refused report }
+    ensures once { (scenario : Scenario) (events : List Timed) (refused : List ℕ) (report : List Entry) →
+        Once scenario events refused (plain report) ↔ Once scenario events refused report }
+{}

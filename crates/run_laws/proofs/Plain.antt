@@ -1,6 +1,6 @@
 -- A plain report says of datagrams, refusals and states what its report says.
-use Rattle.std.specs.Prelude.{◌↔◌, Contains, count_by}
-use Rattle.std.proofs.Common.{◌≡◌, ℕ, zero, suc, ◌+◌, ◌<◌, Bool, true, false, cond, inl, inr, List, [], ◌∷◌, ◌++◌, map, filter, flat_map, take, length, refl, sym, ap, subst, ◌∙◌, arith}
+use Rattle.std.specs.Prelude.{◌↔◌, Contains}
+use Rattle.std.proofs.Common.{◌≡◌, ℕ, zero, suc, ◌+◌, Bool, true, false, cond, inl, inr, List, [], ◌∷◌, ◌++◌, map, filter, flat_map, take, length, refl, sym, ap, subst, ◌∙◌, arith}
 use Rattle.std.specs.List.{AllByRecursion}
 use Rattle.std.proofs.lemmas.Bool.{true≢false}
 use Rattle.std.proofs.lemmas.List.Elements.{filter-append}
@@ -10,9 +10,9 @@ use Rattle.scenario_defs.specs.declared.event.Timed.{Timed}
 use Rattle.scenario_defs.specs.declared.report.ReportLine.{ReportLine}
 use Rattle.scenario_defs.specs.declared.report.ReportLine.TheVariants as lines
 use Rattle.scenario_defs.specs.declared.scenario.Scenario.{Scenario}
-use Rattle.mvpn_model.specs.Once.{TellsState, EndsWindow, IsWindow, IsDeliveredOnce, Once}
-use Rattle.mvpn_model.specs.Report.{Entry, Datagram, lines_of, refused_line, refused_lines, is_out_at, outs_at}
-use Rattle.mvpn_model.specs.Safe.{IsSafeLine, IsSafeEntry, Safe}
+use Rattle.mvpn_model.specs.Once.{TellsState, EndsWindow, IsWindow, Once}
+use Rattle.mvpn_model.specs.Report.{Entry, lines_of, refused_line, refused_lines, is_out_at, outs_at}
+use Rattle.mvpn_model.specs.Safe.{IsSafeLine, Safe}
 use Rattle.world_laws.proofs.Lists.{each_filter}
 use Rattle.run_laws.specs.Plain.{is_plain, plain_entry, plain}
 

@@ -17,8 +17,8 @@ pub data RunsOrHalts (core : Core) (script : Script) : Type 0 where
   AllRun : (trace : List Traced) → (new : World) → Run core script script.events trace new → RunsOrHalts core script
   OneHalts : (report : List Entry) → (node : NodeId) → Halts core script report node → RunsOrHalts core script
 
--- A run of two rows of events, one behind the other: the first ones run, then the others from there, and what happens in the first ones
--- is the front of what happens.
+-- A run of two rows of events: the first ones run, then the others from there, and what happens in the first ones is the front of all
+-- that happens.
 pub record RunsInTwo (core : Core) (script : Script) (first more : List Timed) (trace : List Traced) (new : World) : Type 0 where
   pub early : List Traced
   pub late : List Traced

@@ -37,12 +37,12 @@ pub fn readable_events_are_sound()
 pub fn one_run_or_one_halt()
     ensures either { (core : Core) (script : Script) (events : List Timed) → IsCoreOf script.scenario core →
         RunsOrHalts core (of_events script events) }
-    ensures never_both { (core : Core) (script : Script) (events : List Timed) (trace : List Traced) (new : World) (report : List Entry) (node : NodeId) →
-        Run core script events trace new → Halts core (of_events script events) report node → ⊥ }
+    ensures never_both { (core : Core) (script : Script) (events : List Timed) (trace : List Traced) (new : World)
+        (report : List Entry) (node : NodeId) → Run core script events trace new → Halts core (of_events script events) report node → ⊥ }
     ensures one_run { (core : Core) (script : Script) (events : List Timed) (trace other : List Traced) (new last : World) →
         Run core script events trace new → Run core script events other last → (trace ≡ other) × (new ≡ last) }
-    ensures one_halt { (core : Core) (script : Script) (report other : List Entry) (node last : NodeId) →
-        (halt : Halts core script report node) → (again : Halts core script other last) →
+    ensures one_halt { (core : Core) (script : Script) (report other : List Entry) (node last : NodeId)
+        (halt : Halts core script report node) (again : Halts core script other last) →
         (halt.before ≡ again.before) × (halt.timed ≡ again.timed) × (node ≡ last) × (report ≡ other) }
 {}
 
@@ -51,11 +51,12 @@ pub fn one_run_or_one_halt()
 pub fn first_events_of_a_run_run()
     ensures run { (core : Core) (script : Script) (first more : List Timed) (trace : List Traced) (new : World) →
         Run core script (first ++ more) trace new → RunsInTwo core script first more trace new }
-    ensures halt { (core : Core) (script : Script) (report : List Entry) (node : NodeId) (halt : Halts core script report node) (first more : List Timed) →
-        halt.before ≡ first ++ more → ReportBegins core script first report }
+    ensures halt { (core : Core) (script : Script) (report : List Entry) (node : NodeId)
+        (halt : Halts core script report node) (first more : List Timed) → halt.before ≡ first ++ more →
+        ReportBegins core script first report }
 {}
 
-/// A plain report has the lines of its report, in their order, but for those of the links. It refuses the same events, and is safe or
+/// A plain report has the lines of its report, in their order, but for those of the wire. It refuses the same events, and is safe or
 /// delivers once exactly where the report does.
 pub fn a_plain_report_says_as_much()
     ensures lines { (report : List Entry) → lines_of (plain report) ≡ filter is_plain (lines_of report) }

@@ -1,4 +1,4 @@
-//! Laws of runs of whole scripts: which events may run, how a run ends, and what its report says without the lines of the links.
+//! Laws of runs of whole scripts: which events may run, how a run ends, and what its report says without the lines of the wire.
 #![tactic(auto)]
 
 mod laws;

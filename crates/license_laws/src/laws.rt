@@ -1,12 +1,15 @@
 //! Laws of what nodes put and took in a run.
-ghost use Rattle.std.specs.Prelude.{List};
+ghost use Rattle.std.specs.Prelude.{List, length, ◌++◌};
+ghost use Rattle.mv_base.specs.declared.ids.NodeId.{NodeId};
 ghost use Rattle.scenario_defs.specs.declared.event.Script.{Script};
 ghost use Rattle.scenario_defs.specs.declared.event.Timed.{Timed};
+ghost use Rattle.mvpn_model.specs.Report.{Entry};
 ghost use Rattle.edge_defs.specs.Place.{Core};
 ghost use Rattle.world_defs.specs.Local.{TakesWhatWasPut, Local};
-ghost use Rattle.world_defs.specs.Run.{Traced};
+ghost use Rattle.world_defs.specs.Run.{Traced, traced};
 ghost use Rattle.world_defs.specs.World.{World};
 ghost use Rattle.world_laws.specs.SoundRun.{SoundRun};
+ghost use Rattle.rule_laws.specs.SoundHalt.{SoundHalt};
 ghost use Rattle.license_laws.specs.Enters.{EntersMay};
 ghost use Rattle.license_laws.specs.Hops.{HopsMay};
 ghost use Rattle.license_laws.specs.Lands.{LandsMay};
@@ -44,4 +47,12 @@ pub fn landings_are_learned()
 pub fn runs_are_local()
     ensures { (core : Core) (script : Script) (events : List Timed) (trace : List Traced) (new : World) →
         SoundRun core script events trace new → Local new trace }
+{}
+
+/// In a run of a sound scenario, by its core and by sound events, that halts for want of a label, the same holds up to the halt: of
+/// the events before, and of the acts of the event that lacks a label, as far as they went.
+pub fn halting_runs_are_local()
+    ensures { (core : Core) (script : Script) (report : List Entry) (node : NodeId) →
+        (run : SoundHalt core script report node) →
+        Local run.halt.world (run.halt.trace ++ traced (length run.halt.before) run.halt.acts) }
 {}

@@ -23,15 +23,12 @@ use Rattle.world_laws.specs.Sound.{SoundScenario}
 use Rattle.world_laws.specs.SoundRun.{SoundRun}
 use Rattle.world_laws.proofs.Lists.{each_front, each_weaker}
 use Rattle.rule_laws.specs.Outs.{IsAdmittedOut, IsAdmittedLine}
+use Rattle.rule_laws.proofs.Halting.{each_behind}
 use Rattle.rule_laws.proofs.Start.{run_says}
 use Rattle.delivery_laws.specs.Once.{in_network}
 use Rattle.delivery_laws.proofs.Accepted.{TellsAccepted, tells_accepted}
 use Rattle.delivery_laws.proofs.Sendings.{in_networks, runs_send, tells_first}
 use Rattle.delivery_laws.proofs.Splits.{runs_one_more}
-
-each_behind : {X : Type 0} (P : X → Type 0) (xs ys : List X) → AllByRecursion P (xs ++ ys) → AllByRecursion P ys
-each_behind P [] ys h = h
-each_behind P (x ∷ xs) ys h = each_behind P xs ys h.1
 
 -- the datagram of the report that the network has
 got_accepted : (list : List Accepted) (place : ℕ) (datagram : Datagram) (o : Option Accepted) → slice_get list place ≡ o → option_map in_network o ≡ Some datagram → (accepted : Accepted) × (slice_get list place ≡ Some accepted) × (in_network accepted ≡ datagram)

@@ -9,13 +9,14 @@ ghost use Rattle.scenario_defs.specs.declared.event.Timed.{Timed};
 ghost use Rattle.scenario_defs.specs.declared.report.ReportLine.TheVariants as lines;
 ghost use Rattle.scenario_defs.specs.declared.scenario.Vrf.{Vrf};
 ghost use Rattle.mvpn_model.specs.Once.{Once};
-ghost use Rattle.mvpn_model.specs.Report.{refused_lines};
+ghost use Rattle.mvpn_model.specs.Report.{Entry, refused_lines};
 ghost use Rattle.mvpn_model.specs.Safe.{Safe};
 ghost use Rattle.edge_defs.specs.Place.{Core, addr_of};
 ghost use Rattle.world_defs.specs.Counts.{state_line};
 ghost use Rattle.world_defs.specs.Run.{Traced, Run, report_of};
 ghost use Rattle.world_defs.specs.World.{World, Datagram, scenario_of};
 ghost use Rattle.world_laws.specs.SoundRun.{SoundRun};
+ghost use Rattle.rule_laws.specs.SoundHalt.{SoundHalt};
 ghost use Rattle.delivery_laws.specs.Calm.{CalmTree};
 ghost use Rattle.delivery_laws.specs.Choice.{CalmChoice, sends_on};
 ghost use Rattle.delivery_laws.specs.Labels.{CalmLabels};
@@ -91,4 +92,20 @@ pub fn each_run_is_safe()
     ensures { (core : Core) (script : Script) (events : List Timed) (trace : List Traced) (new : World) →
         SoundRun core script events trace new → Rises 0 events →
         Safe script.scenario events (refused_lines (report_of trace)) (report_of trace) }
+{}
+
+/// Where a run of a sound scenario, by its core and by sound events, halts for want of a label: each datagram that is accepted in a
+/// window of the events before leaves once at each interface that receives it, and nowhere else, over the report of those events.
+pub fn halting_runs_deliver_once()
+    ensures { (core : Core) (script : Script) (report : List Entry) (node : NodeId) →
+        (run : SoundHalt core script report node) → Rises 0 script.events →
+        Once script.scenario run.halt.before (refused_lines (report_of run.halt.trace)) (report_of run.halt.trace) }
+{}
+
+/// In such a report, the acts of the event that lacks a label included, each `out` line names a datagram that was accepted by then,
+/// with its octets, and an interface whose VRF admits the sender's.
+pub fn halting_runs_are_safe()
+    ensures { (core : Core) (script : Script) (report : List Entry) (node : NodeId) →
+        SoundHalt core script report node → Rises 0 script.events →
+        Safe script.scenario script.events (refused_lines report) report }
 {}

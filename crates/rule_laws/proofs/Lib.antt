@@ -22,5 +22,7 @@ pub mod Full
 pub mod Tables
 pub mod Admits
 pub mod Outs
+pub mod Plain
 pub mod Safe
 pub mod Start
+pub mod Halting

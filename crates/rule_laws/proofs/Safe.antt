@@ -51,6 +51,7 @@ use Rattle.world_laws.specs.Honest.{IsSoundEvent}
 use Rattle.rule_laws.specs.Outs.{IsAdmittedLine}
 use Rattle.rule_laws.proofs.Acts.{InStep}
 use Rattle.rule_laws.proofs.Outs.{Says, land_says, enter_says}
+use Rattle.rule_laws.proofs.Plain.{IsPlain, IsPlainLine, IsQuiet, AllDo, Does, of_plain, plain_quiet, plain_row, raises_plain, heal_does, settle_does, edge_does, message_does}
 
 -- ---- what is said of the acts of an outcome
 
@@ -58,38 +59,9 @@ abbrev pub AllSay : (ReportLine → Type 0) → List Happened → Type 0
 AllSay P acts = AllByRecursion (λ (happened : Happened). AllByRecursion P happened.lines) acts
 
 abbrev pub SaysAll : (ReportLine → Type 0) → Outcome → Type 0
-SaysAll P (Done acts world) = AllSay P acts
-SaysAll P (Halted acts node) = AllSay P acts
+SaysAll P o = AllDo (λ (happened : Happened). AllByRecursion P happened.lines) o
 
 module _ (P : ReportLine → Type 0) where
-  then_says : (first : Outcome) (next : World → Outcome) → SaysAll P first → ((world : World) → SaysAll P (next world)) → SaysAll P (and_then first next)
-  then_says (Halted acts node) next s h = s
-  then_says (Done acts world) next s h = by (next world) (h world)
-    where
-      by : (o : Outcome) → SaysAll P o → SaysAll P (elim o [ Done behind new ↦ Done (acts ++ behind) new | Halted behind node ↦ Halted (acts ++ behind) node ])
-      by (Done behind new) t = each_append (λ (happened : Happened). AllByRecursion P happened.lines) acts behind s t
-      by (Halted behind node) t = each_append (λ (happened : Happened). AllByRecursion P happened.lines) acts behind s t
-
-  one_says : (world : World) (one : Act) → Says P (act world one) → SaysAll P (one_act world one)
-  one_says world one s = by (act world one) s
-    where
-      by : (o : Result Acted NodeId) → Says P o → SaysAll P (elim o [ Ok new ↦ Done (record { act = Some one; lines = new.lines } ∷ []) new.world | Err node ↦ Halted [] node ])
-      by (Err node) t = tt
-      by (Ok new) t = (t, tt)
-
-  -- acts that say so in any world
-  row_says : (acts : List Act) → AllByRecursion (λ one. (world : World) → Says P (act world one)) acts → (world : World) → SaysAll P (row acts world)
-  row_says [] says world = tt
-  row_says (one ∷ more) says world = then_says (one_act world one) (row more) (one_says world one (says.0 world)) (λ next. row_says more says.1 next)
-
-  each_says : {A : Type 0} (turn : A → World → Outcome) → ((x : A) (world : World) → SaysAll P (turn x world)) → (all : List A) (world : World) → SaysAll P (each turn all world)
-  each_says turn says [] world = tt
-  each_says turn says (x ∷ more) world = then_says (turn x world) (each turn more) (says x world) (λ next. each_says turn says more next)
-
-  times_says : (round : World → Outcome) → ((world : World) → SaysAll P (round world)) → (count : ℕ) (world : World) → SaysAll P (times round count world)
-  times_says round says zero world = tt
-  times_says round says (suc count) world = then_says (round world) (times round count) (says world) (λ next. times_says round says count next)
-
   -- acts that say so where something is kept
   both_then : (K : World → Type 0) (first : Outcome) (next : World → Outcome) → Comes K first × SaysAll P first → ((world : World) → K world → Comes K (next world) × SaysAll P (next world)) → Comes K (and_then first next) × SaysAll P (and_then first next)
   both_then K (Halted acts node) next s h = (tt, s.1)
@@ -120,88 +92,16 @@ module _ (scenario : Scenario) (datagrams : List Datagram) where
   abbrev P : ReportLine → Type 0
   P = IsAdmittedLine scenario datagrams
 
-  put_says : (puts : List Put) (over : Direction) → AllByRecursion P (put_line puts over)
-  put_says puts over = by (octets_over over puts)
+  -- of acts in an outcome
+  abbrev Saying : Happened → Type 0
+  Saying happened = AllByRecursion P happened.lines
+
+  saying : (one : Act) → IsPlain one → (world : World) → Does Saying one (act world one)
+  saying one plain world = by (act world one) (plain_quiet one plain world)
     where
-      by : (all : List ℕ) → AllByRecursion (IsAdmittedLine scenario datagrams) (elim all [ [] ↦ [] | octet ∷ more ↦ lines.Put over.kind over.from over.to (octet ∷ more) ∷ [] ])
-      by [] = tt
-      by (octet ∷ more) = (tt, tt)
-
-  network_says : (world : World) (before : List ReportLine) (found : Option (Behind (OctetNetwork Nodes))) (node : NodeId) → AllByRecursion P before → Says P (with_network world before found node)
-  network_says world before None node b = tt
-  network_says world before (Some new) node b = each_append P before (put_lines (scenario_of world) new.puts) b (each_flat P (put_line new.puts) (directions (scenario_of world)) (each_of (λ over. AllByRecursion P (put_line new.puts over)) (put_says new.puts) (directions (scenario_of world))))
-
-  aged_says : (found : Result Acted NodeId) → Says P found → Says P (with_aged found)
-  aged_says (Err node) s = tt
-  aged_says (Ok new) s = s
-
-  -- no copy lands, and no datagram enters
-  abbrev IsPlain : Act → Type 0
-  IsPlain (Enter vrf) = ⊥
-  IsPlain (Land from to place) = ⊥
-  IsPlain other = Unit {0}
-
-  plain_says : (one : Act) → IsPlain one → (world : World) → Says P (act world one)
-  plain_says (Tick ticks) plain world = aged_says (at_node world (record { 0 = 0 }) [] (octets.Call (Elapse ticks) ∷ [])) (network_says world [] (octet_run system world.network (octets.Call (Elapse ticks) ∷ [])) (record { 0 = 0 }) tt)
-  plain_says (Timers n) plain world = network_says world [] (octet_run system world.network (octets.Call (Own n steps.Timers) ∷ [])) n tt
-  plain_says (Move kind from to count) plain world = network_says world (lines.Take kind from to (take count (world.network.transit (direction kind from to))) ∷ []) (octet_run system world.network (octets.Move (direction kind from to) count ∷ [])) to (tt, tt)
-  plain_says (Lose kind a b) plain world = network_says world [] (octet_run system world.network (octets.Lose (is_of_session kind a b) ∷ [])) a tt
-  plain_says (Notice kind a b) plain world = network_says world [] (octet_run system world.network (octets.Forget (is_from_peer kind a b) ∷ octets.Call (Own a (steps.Noticed kind b)) ∷ [])) a tt
-  plain_says (RaiseFirst kind a b) plain world = network_says world [] (octet_run system world.network (octets.Join (is_of_session kind a b) ∷ octets.Call (Own a (steps.Raised kind b)) ∷ [])) a tt
-  plain_says (RaiseSecond kind a b) plain world = network_says world [] (octet_run system world.network (octets.Call (Own b (steps.Raised kind a)) ∷ [])) b tt
-  plain_says (Restart n) plain world = network_says world [] (octet_run system world.network (octets.Lose (is_at n) ∷ octets.Forget (leads_to n) ∷ octets.Call (Reset n) ∷ [])) n tt
-  plain_says (At n call) plain world = network_says world [] (octet_run system world.network (octets.Call (Own n call) ∷ [])) n tt
-  plain_says (Enter vrf) plain world = absurd plain
-  plain_says (Land from to place) plain world = absurd plain
-  plain_says (Drop from to place) plain world = tt
-  plain_says Tell plain world = (tt, tt)
-
-  plain_row : (acts : List Act) → AllByRecursion IsPlain acts → (world : World) → SaysAll P (row acts world)
-  plain_row acts all world = row_says P acts (each_weaker IsPlain (λ one. (old : World) → Says P (act old one)) plain_says acts all) world
-
-  raises_plain : (all : List Session) (kind : Kind) (a b : NodeId) → AllByRecursion IsPlain (raises all kind a b)
-  raises_plain all kind a b = by (find (is_session_of kind a b) all)
-    where
-      by : (o : Option Session) → AllByRecursion IsPlain (elim o [ None ↦ [] | Some session ↦ raise_acts session ])
-      by None = tt
-      by (Some session) = (tt, (tt, tt))
-
-  notices_plain : (world : World) (session : Session) (n peer : NodeId) → AllByRecursion IsPlain (notices world session n peer)
-  notices_plain world session n peer = elim (is_end world session.kind n peer) as (λ t. AllByRecursion IsPlain (cond t (Notice session.kind n peer ∷ []) [])) [ true ↦ (tt, tt) | false ↦ tt ]
-
-  healed_says : (session : Session) (world : World) → SaysAll P (healed session world)
-  healed_says session world = by (is_joined world session)
-    where
-      acts : List Act
-      acts = notices world session session.a session.b ++ (notices world session session.b session.a ++ raise_acts session)
-
-      by : (t : Bool) → SaysAll (IsAdmittedLine scenario datagrams) (cond t (Done [] world) (row (notices world session session.a session.b ++ (notices world session session.b session.a ++ raise_acts session)) world))
-      by true = tt
-      by false = plain_row acts
-          (each_append IsPlain (notices world session session.a session.b) (notices world session session.b session.a ++ raise_acts session) (notices_plain world session session.a session.b)
-          (each_append IsPlain (notices world session session.b session.a) (raise_acts session) (notices_plain world session session.b session.a) (tt, (tt, tt)))) world
-
-  turn_says : (over : Direction) (world : World) → SaysAll P (turn over world)
-  turn_says over world = by (world.network.transit over)
-    where
-      by : (all : List ℕ) → SaysAll (IsAdmittedLine scenario datagrams) (elim all [ [] ↦ Done [] world | octet ∷ more ↦ row (Move over.kind over.from over.to (length (octet ∷ more)) ∷ []) world ])
-      by [] = tt
-      by (octet ∷ more) = plain_row (Move over.kind over.from over.to (length (octet ∷ more)) ∷ []) (tt, tt) world
-
-  settle_says : (world : World) → SaysAll P (settled world)
-  settle_says world =
-      let all = map (λ n. Timers n) (all_nodes (scenario_of world)) in
-      then_says P (row all world) (times (each turn (directions (scenario_of world))) (length (scenario_of world).nodes + 3))
-      (plain_row all (each_map IsPlain (λ n. Timers n) (all_nodes (scenario_of world)) (each_of (λ (n : NodeId). Unit {0}) (λ n. tt) (all_nodes (scenario_of world)))) world)
-      (λ next. times_says P (each turn (directions (scenario_of world))) (λ one. each_says P turn turn_says (directions (scenario_of world)) one) (length (scenario_of world).nodes + 3) next)
-
-  edge_says : (o : Option NodeId) (call : steps.Call) (world : World) → SaysAll P (at_edge o call world)
-  edge_says None call world = tt
-  edge_says (Some n) call world = plain_row (At n call ∷ []) (tt, tt) world
-
-  message_says : (o : Option Given) (world : World) → SaysAll P (with_message o world)
-  message_says None world = tt
-  message_says (Some given) world = edge_says (edge_of (scenario_of world) given.iface) (steps.Pim given.iface given.message) world
+      by : (o : Result Acted NodeId) → Does IsQuiet one o → Does Saying one o
+      by (Err node) q = tt
+      by (Ok new) q = each_weaker IsPlainLine P (of_plain P (λ kind from to bytes. tt) (λ kind from to bytes. tt) (λ bytes copies buffers due unready. tt)) new.lines q.lines
 
 -- ---- the datagrams
 
@@ -358,14 +258,14 @@ module _ (scenario : Scenario) where
   quiet : (world : World) (o : Outcome) → (HasThose world.datagrams world → Comes (HasThose world.datagrams) o) → SaysAll (IsAdmittedLine scenario world.datagrams) o → EventSays scenario world.datagrams o
   quiet world o those says = no_more scenario world.datagrams o (those refl) says
 
-  plain_event : (world : World) (acts : List Act) → AllByRecursion (IsPlain scenario world.datagrams) acts → EventSays scenario world.datagrams (row acts world)
-  plain_event world acts all = quiet world (row acts world) (row_those world.datagrams acts world) (plain_row scenario world.datagrams acts all world)
+  plain_event : (world : World) (acts : List Act) → AllByRecursion IsPlain acts → EventSays scenario world.datagrams (row acts world)
+  plain_event world acts all = quiet world (row acts world) (row_those world.datagrams acts world) (plain_row (Saying scenario world.datagrams) (saying scenario world.datagrams) acts all world)
 
   edge_event : (world : World) (o : Option NodeId) (call : steps.Call) → EventSays scenario world.datagrams (at_edge o call world)
-  edge_event world o call = quiet world (at_edge o call world) (edge_those world.datagrams o call world) (edge_says scenario world.datagrams o call world)
+  edge_event world o call = quiet world (at_edge o call world) (edge_those world.datagrams o call world) (edge_does (Saying scenario world.datagrams) (saying scenario world.datagrams) o call world)
 
   message_event : (world : World) (o : Option Given) → EventSays scenario world.datagrams (with_message o world)
-  message_event world o = quiet world (with_message o world) (message_those world.datagrams o world) (message_says scenario world.datagrams o world)
+  message_event world o = quiet world (with_message o world) (message_those world.datagrams o world) (message_does (Saying scenario world.datagrams) (saying scenario world.datagrams) o world)
 
   done_says : (world : World) → InStep scenario world → (event : Event) → IsSoundEvent scenario event → EventSays scenario world.datagrams (done world event)
   done_says world s (events.Tick count) sound = plain_event world (Tick count ∷ []) (tt, tt)
@@ -374,7 +274,7 @@ module _ (scenario : Scenario) where
   done_says world s (events.Move kind from to count) sound = plain_event world (Move kind from to count ∷ []) (tt, tt)
   done_says world s (events.Lose kind a b) sound = plain_event world (Lose kind a b ∷ []) (tt, tt)
   done_says world s (events.Notice kind a b) sound = plain_event world (Notice kind a b ∷ []) (tt, tt)
-  done_says world s (events.Raise kind a b) sound = plain_event world (raises (sessions (scenario_of world)) kind a b) (raises_plain scenario world.datagrams (sessions (scenario_of world)) kind a b)
+  done_says world s (events.Raise kind a b) sound = plain_event world (raises (sessions (scenario_of world)) kind a b) (raises_plain (sessions (scenario_of world)) kind a b)
   done_says world s (events.Join iface entry) sound = message_event world (message_of (scenario_of world) (events.Join iface entry))
   done_says world s (events.Prune iface entry) sound = message_event world (message_of (scenario_of world) (events.Prune iface entry))
   done_says world s (events.Pim iface bytes) sound = message_event world (message_of (scenario_of world) (events.Pim iface bytes))
@@ -389,8 +289,8 @@ module _ (scenario : Scenario) where
   done_says world s events.Heal sound =
       quiet world (each healed (sessions (scenario_of world)) world)
       (λ e. each_keeps (HasThose world.datagrams) healed (sessions (scenario_of world)) (each_of (λ session. (old : World) → HasThose world.datagrams old → Comes (HasThose world.datagrams) (healed session old)) (healed_those world.datagrams) (sessions (scenario_of world))) world e)
-      (each_says (IsAdmittedLine scenario world.datagrams) healed (healed_says scenario world.datagrams) (sessions (scenario_of world)) world)
-  done_says world s events.Settle sound = quiet world (settled world) (settle_those world.datagrams world) (settle_says scenario world.datagrams world)
+      (heal_does (Saying scenario world.datagrams) (saying scenario world.datagrams) world)
+  done_says world s events.Settle sound = quiet world (settled world) (settle_those world.datagrams world) (settle_does (Saying scenario world.datagrams) (saying scenario world.datagrams) world)
   done_says world s events.Drain sound = drain_event world s
   done_says world s events.State sound = plain_event world (Tell ∷ []) (tt, tt)
 

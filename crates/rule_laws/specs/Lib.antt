@@ -4,3 +4,4 @@ pub mod Networks
 pub mod Tables
 pub mod Honest
 pub mod Outs
+pub mod SoundHalt

@@ -1,8 +1,9 @@
 -- What is chosen.
-use Rattle.std.proofs.Common.{◌≡◌, ℕ, ◌<◌, ◌≤◌, ◌==◌, true, false, ◌↔◌, inl, inr, List, Option, Some, None, option_map, refl, sym, ap, subst, ◌∙◌, arith}
+use Rattle.std.proofs.Common.{◌≡◌, ℕ, Bool, cond, ◌<◌, ◌≤◌, ◌==◌, true, false, ◌↔◌, inl, inr, List, Option, Some, None, option_map, refl, sym, ap, subst, ◌∙◌, arith}
 use Rattle.std.proofs.lemmas.Bool.Decides.{nat_tests}
 use Rattle.std.proofs.lemmas.Option.{same_Some}
 use Rattle.std.specs.Ordering.{nat_cmp, is_lt, ordering_then}
+use Rattle.std.specs.declared.cmp.Ordering.TheVariants.{Less}
 use Rattle.mv_base.specs.Prefix.{covers, same_front}
 use Rattle.mv_base.specs.declared.addr.Addr.{Addr}
 use Rattle.mv_base.specs.declared.addr.Addr.TheVariants.{V4, V6}
@@ -124,6 +125,7 @@ module _ (cost : NodeId → ℕ) (routes : List KnownRoute) (source group : Addr
   by_hash = cost_by Hash cost routes source group
 
   named_best : (x : KnownRoute) → Best by_hash routes source x → (e : NodeId) (a : Addr) (r : Rd) → x.origin ≡ Remote e a r → IsHashed routes source group a
+  unfolding by_hash
   named_best x b e a r h = subst (IsHashed routes source group) (sym addresses) n.hashed
     where
       is : IsCandidate routes source x
@@ -150,6 +152,7 @@ module _ (cost : NodeId → ℕ) (routes : List KnownRoute) (source group : Addr
 
 named_when : (rule : Rule) (cost : NodeId → ℕ) (routes : List KnownRoute) (source group : Addr) → AreOfEdges routes → (x : KnownRoute)
     → Best (cost_by rule cost routes source group) routes source x → rule ≡ Hash → (e : NodeId) (a : Addr) (r : Rd) → x.origin ≡ Remote e a r → IsHashed routes source group a
+unfolding by_hash
 named_when Highest cost routes source group edges x b h = absurd cc
 named_when Nearest cost routes source group edges x b h = absurd cc
 named_when Hash cost routes source group edges x b h = named_best cost routes source group edges x b
@@ -263,8 +266,10 @@ module _ (routes others : List KnownRoute) (source : Addr) (same : (route : Know
   hashed_back group a h = record {
     addresses = h.addresses;
     rising = h.rising;
-    each = λ b. (λ m. (let c = (h.each b).0 m in record { route = c.route; edge = c.edge; rd = c.rd; candidate = candidate_back c.route c.candidate; of_edge = c.of_edge }),
-      λ c. (h.each b).1 (record { route = c.route; edge = c.edge; rd = c.rd; candidate = candidate_too c.route c.candidate; of_edge = c.of_edge }));
+    each = λ b. (
+      λ m. (let c = (h.each b).0 m in record { route = c.route; edge = c.edge; rd = c.rd; candidate = candidate_back c.route c.candidate; of_edge = c.of_edge }),
+      λ c. (h.each b).1 (record { route = c.route; edge = c.edge; rd = c.rd; candidate = candidate_too c.route c.candidate; of_edge = c.of_edge }),
+    );
     named = h.named;
   }
 

@@ -1,5 +1,5 @@
 -- The edge that the hash names.
-use Rattle.std.proofs.Common.{◌≡◌, ℕ, ◌<◌, ◌≤◌, ◌%◌, max, ◌==◌, ◌&&◌, Bool, true, false, ◌⊎◌, ◌↔◌, inl, inr, List, [], ◌∷◌, map, length, slice_get, Option, Some, None, option_map, refl, sym, ap, subst, ◌∙◌, cond, arith}
+use Rattle.std.proofs.Common.{◌≡◌, ℕ, zero, suc, ◌<◌, ◌≤◌, ◌%◌, max, ◌==◌, ◌&&◌, Bool, true, false, ◌⊎◌, ◌↔◌, inl, inr, List, [], ◌∷◌, map, length, slice_get, Option, Some, None, option_map, refl, sym, ap, subst, ◌∙◌, cond, arith}
 use Rattle.std.proofs.lemmas.Bool.Decides.{nat_tests}
 use Rattle.std.proofs.lemmas.Nat.{mod_below}
 use Rattle.std.specs.declared.cmp.Ordering.{Ordering}
@@ -157,14 +157,15 @@ first_of bits x xs source c e a (Remote f b rd) h rest k m = elim (put_from (f, 
 
 edge_from : (bits : ℕ) (xs : List KnownRoute) (source : Addr) (e : NodeId) (a : Addr) → Among (e, a) (edges_of bits xs source) → IsOf bits xs source e a
 edge_from bits [] source e a m = absurd m
-edge_from bits (x ∷ xs) source e a m = by (is_candidate bits source x) refl m
+edge_from bits (x ∷ xs) source e a m = by (edge_from bits xs source e a) (is_candidate bits source x) refl m
   where
     rest : List Edge
     rest = edges_of bits xs source
 
-    by : (t : Bool) → is_candidate bits source x ≡ t → Among (e, a) (cond t (put_origin x.origin rest) rest) → IsOf bits (x ∷ xs) source e a
-    by true h n = first_of bits x xs source h e a x.origin refl rest (edge_from bits xs source e a) n
-    by false h n = later bits x xs source e a (edge_from bits xs source e a n)
+    by : (Among (e, a) rest → IsOf bits xs source e a) → (t : Bool) → is_candidate bits source x ≡ t → Among (e, a) (cond t (put_origin x.origin rest) rest)
+        → IsOf bits (x ∷ xs) source e a
+    by k true h n = first_of bits x xs source h e a x.origin refl rest k n
+    by k false h n = later bits x xs source e a (k n)
 
 kept_origin : (o : Origin) (a : Addr) (rest : List Edge) → Among a (addresses rest) → Among a (addresses (put_origin o rest))
 kept_origin (Local site) a rest m = m
@@ -189,15 +190,12 @@ edge_to bits (y ∷ ys) source x e a r (inr m) c h =
 
 edges_rising : (bits : ℕ) (xs : List KnownRoute) (source : Addr) → AreRising (addresses (edges_of bits xs source))
 edges_rising bits [] source = tt
-edges_rising bits (x ∷ xs) source = by (is_candidate bits source x) x.origin
+edges_rising bits (x ∷ xs) source = by (edges_of bits xs source) (edges_rising bits xs source) (is_candidate bits source x) x.origin
   where
-    rest : List Edge
-    rest = edges_of bits xs source
-
-    by : (t : Bool) (o : Origin) → AreRising (addresses (cond t (put_origin o rest) rest))
-    by false o = edges_rising bits xs source
-    by true (Local site) = edges_rising bits xs source
-    by true (Remote f b rd) = put_rising (f, b) rest (edges_rising bits xs source)
+    by : (rest : List Edge) → AreRising (addresses rest) → (t : Bool) (o : Origin) → AreRising (addresses (cond t (put_origin o rest) rest))
+    by rest k false o = k
+    by rest k true (Local site) = k
+    by rest k true (Remote f b rd) = put_rising (f, b) rest k
 
 -- ---- the longest routes
 
@@ -245,14 +243,16 @@ passes xs source x c =
 pub edge_of_candidate : (xs : List KnownRoute) (source : Addr) (e : NodeId) (a : Addr) → Among (e, a) (candidate_edges xs source)
     → (route : KnownRoute) × (rd : Rd) × IsCandidate xs source route × (route.origin ≡ Remote e a rd)
 edge_of_candidate xs source e a m =
-    let found = edge_from (longest_bits xs source) xs source e a m in
-    (found.route, found.rd,
+    let found = edge_from (longest_bits xs source) xs source e a m in (
+      found.route,
+      found.rd,
       record {
         among = found.among;
         covering = found.covering;
         longest = λ o n c. subst (λ (z : ℕ). o.prefix.bits ≤ z) (sym found.of_bits) (bits_above xs source o n c);
       },
-      found.of_edge)
+      found.of_edge,
+    )
 
 address_of_candidate : (xs : List KnownRoute) (source a : Addr) → Among a (addresses (candidate_edges xs source)) ↔ IsEdgeOfCandidate xs source a
 address_of_candidate xs source a = (there, back)
@@ -276,12 +276,12 @@ module _ {X : Type 0} where
   -- what stands at a place of a list is one of it
   pub at_place : (xs : List X) (k : ℕ) (x : X) → slice_get xs k ≡ Some x → Among x xs
   at_place [] k x h = absurd cc
-  at_place (y ∷ ys) 0 x h = inl (let same : x ≡ y = cc in same)
+  at_place (y ∷ ys) zero x h = inl (let same : x ≡ y = cc in same)
   at_place (y ∷ ys) (suc k) x h = inr (at_place ys k x h)
 
   pub some_place : (xs : List X) (k : ℕ) → k < length xs → (x : X) × (slice_get xs k ≡ Some x)
   some_place [] k h = absurd (omega (arith, h))
-  some_place (y ∷ ys) 0 h = (y, refl)
+  some_place (y ∷ ys) zero h = (y, refl)
   some_place (y ∷ ys) (suc k) h = some_place ys k (omega (arith, h))
 
 lengths : (xs : List Edge) → length (addresses xs) ≡ length xs
@@ -290,7 +290,7 @@ lengths (x ∷ xs) = ap (λ (n : ℕ). suc n) (lengths xs)
 
 address_at : (xs : List Edge) (k : ℕ) (x : Edge) → slice_get xs k ≡ Some x → slice_get (addresses xs) k ≡ Some x.1
 address_at [] k x h = absurd cc
-address_at (y ∷ ys) 0 x h = let same : y ≡ x = cc in ap (λ (p : Edge). Some p.1) same
+address_at (y ∷ ys) zero x h = let same : y ≡ x = cc in ap (λ (p : Edge). Some p.1) same
 address_at (y ∷ ys) (suc k) x h = address_at ys k x h
 
 -- what the hash names among the edges of the candidates
@@ -312,14 +312,14 @@ names routes source group address c =
       is_named = ap (option_map (λ (p : Edge). p.0)) found.1;
       among = at_place edges (hash_of source group % length edges) found.0 found.1;
       hashed =
-        record {
-          addresses = addresses edges;
-          rising = edges_rising (longest_bits routes source) routes source;
-          each = address_of_candidate routes source;
-          named =
-            ap (λ (n : ℕ). slice_get (addresses edges) (hash_of source group % n)) (lengths edges)
-            ∙ address_at edges (hash_of source group % length edges) found.0 found.1;
-        };
+          record {
+            addresses = addresses edges;
+            rising = edges_rising (longest_bits routes source) routes source;
+            each = address_of_candidate routes source;
+            named =
+                ap (λ (n : ℕ). slice_get (addresses edges) (hash_of source group % n)) (lengths edges)
+                ∙ address_at edges (hash_of source group % length edges) found.0 found.1;
+          };
     }
   where
     edges : List Edge

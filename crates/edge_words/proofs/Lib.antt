@@ -1,0 +1,3 @@
+pub mod Members
+pub mod Flows
+pub mod Leaves

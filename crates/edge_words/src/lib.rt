@@ -4,4 +4,4 @@
 
 mod laws;
 
-pub use laws::{flows_are_asked, leaves_are_tunnels};
+pub use laws::{arriving_goes, entering_goes, flows_are_asked, leaves_are_tunnels};

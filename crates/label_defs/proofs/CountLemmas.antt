@@ -95,10 +95,10 @@ each_once : (fecs : List Fec) → ((fec : Fec) → count_by (same_fec fec) fecs 
 each_once [] once = tt
 each_once (fec ∷ more) once = (
   none_counted fec more (
-  let here : cond {A = ℕ} (same_fec fec fec) 1 0 ≡ 1 = ap (λ b. cond b 1 0) (same_fec_itself fec) in
-  let sum = count-cons (same_fec fec) fec more in
-  let most = once fec in
-  omega (arith, here, sum, most)),
+      let here : cond {A = ℕ} (same_fec fec fec) 1 0 ≡ 1 = ap (λ b. cond b 1 0) (same_fec_itself fec) in
+      let sum = count-cons (same_fec fec) fec more in
+      let most = once fec in
+      omega (arith, here, sum, most)),
   each_once more (λ x. let sum = count-cons (same_fec x) fec more in let most = once x in omega (arith, sum, most)),
 )
 

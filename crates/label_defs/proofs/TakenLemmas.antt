@@ -30,23 +30,27 @@ record Won (place : Place) (part : LabelData) (puts : List Put) (label : ℕ) : 
   toward : place.upstream fec ≡ Some to
   put : puts ≡ before ++ mapping_to to fec label ∷ behind
 
+-- a label that is mapped towards the upstream of a tree that the node is on stays so
+pub stays_mapped : (place : Place) (old : LabelData) (fec : Fec) (next : LabelData) (more : List Put) → Turn place old fec next more → (label : ℕ) (own : Fec) (to : NodeId)
+    → has_tree old own ≡ true → place.upstream own ≡ Some to → Maps old own label to → Maps next own label to
+stays_mapped place old fec next more t label own to tree toward is = elim t.how [
+  | inl q ↦ ap (λ (labels : List LabelUse). used labels label) q.labels ∙ is
+  | inr (inl m) ↦ ap (λ (labels : List LabelUse). used labels label) m.labels
+      ∙ set_there old m.label uses.Free (uses.Mapped fec m.to) label m.least.free (λ e. (let both = same_Some (uses.Mapped own to) uses.Free (sym is ∙ ap (use_of old) e ∙ m.least.free) in absurd cc)) ∙ is
+  | inr (inr w) ↦ ap (λ (labels : List LabelUse). used labels label) w.labels
+      ∙ set_there old w.label (uses.Mapped fec w.to) (uses.Leaving fec w.to) label w.was (λ e.
+      let both = one_tree own fec to w.to (same_Some (uses.Mapped own to) (uses.Mapped fec w.to) (sym is ∙ ap (use_of old) e ∙ w.was)) in
+      on_it place old own to tree toward (subst (λ (f : Fec). Off place old f to) (sym both.0) (subst (Off place old fec) (sym both.1) w.off))) ∙ is
+]
+
 won_turn : (place : Place) (old : LabelData) (puts : List Put) (fec : Fec) (next : LabelData) (more : List Put) → Turn place old fec next more → (label : ℕ) → Won place old puts label → Won place next (puts ++ more) label
 won_turn place old puts fec next more t label x =
-    let maps : Maps next x.fec label x.to = elim t.how [
-      | inl q ↦ ap (λ (labels : List LabelUse). used labels label) q.labels ∙ x.maps
-      | inr (inl m) ↦ ap (λ (labels : List LabelUse). used labels label) m.labels
-          ∙ set_there old m.label uses.Free (uses.Mapped fec m.to) label m.least.free (λ e. (let both = same_Some (uses.Mapped x.fec x.to) uses.Free (sym x.maps ∙ ap (use_of old) e ∙ m.least.free) in absurd cc)) ∙ x.maps
-      | inr (inr w) ↦ ap (λ (labels : List LabelUse). used labels label) w.labels
-          ∙ set_there old w.label (uses.Mapped fec w.to) (uses.Leaving fec w.to) label w.was (λ e.
-          let both = one_tree x.fec fec x.to w.to (same_Some (uses.Mapped x.fec x.to) (uses.Mapped fec w.to) (sym x.maps ∙ ap (use_of old) e ∙ w.was)) in
-          on_it place old x.fec x.to x.tree x.toward (subst (λ (f : Fec). Off place old f x.to) (sym both.0) (subst (Off place old fec) (sym both.1) w.off))) ∙ x.maps
-    ] in
     record {
       fec = x.fec;
       to = x.to;
       before = x.before;
       behind = x.behind ++ more;
-      maps = maps;
+      maps = stays_mapped place old fec next more t label x.fec x.to x.tree x.toward x.maps;
       tree = rest_tree old next t.rest x.fec ∙ x.tree;
       toward = x.toward;
       put = ap (λ (ps : List Put). ps ++ more) x.put ∙ append_assoc x.before (mapping_to x.to x.fec label ∷ x.behind) more;

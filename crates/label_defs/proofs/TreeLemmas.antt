@@ -170,7 +170,7 @@ withdraw_others part fec upstream label is other ne =
       tree = refl;
     }
 
-withdraw_none : (part : LabelData) (fec : Fec) (upstream : NodeId) (label : ℕ) → Maps part fec label upstream
+pub withdraw_none : (part : LabelData) (fec : Fec) (upstream : NodeId) (label : ℕ) → Maps part fec label upstream
     → ((k l : ℕ) (u v : NodeId) → Maps part fec k u → Maps part fec l v → k ≡ l)
     → (k : ℕ) (u : NodeId) → Maps (with_use part label (uses.Leaving fec upstream)) fec k u → ⊥
 withdraw_none part fec upstream label is one k u p =

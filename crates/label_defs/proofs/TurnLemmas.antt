@@ -71,7 +71,7 @@ has_label false o label r e = refl
 has_label true (Some own) label r e = refl
 has_label true None label r e = absurd cc
 
-has_hop : (t s r : Bool) → s ≡ true → (t && (not s && r)) ≡ false
+pub has_hop : (t s r : Bool) → s ≡ true → (t && (not s && r)) ≡ false
 has_hop false s r e = refl
 has_hop true true r e = refl
 has_hop true false r e = absurd cc
@@ -114,7 +114,8 @@ turn_by place part fec true (Some label) holds up ready free new h m o p q e is 
           content = has_label (has_tree part fec) (mapped_label part fec) label (is_ready_to part (place.upstream fec)) m;
           at_hop = has_hop (has_tree part fec) (same_neighbour (holder_of part fec) (place.upstream fec)) (is_ready_to part (place.upstream fec))
               (ap (λ (x : Option ℕ). same_neighbour (x >>? λ own. upstream_of (use_of part own)) (place.upstream fec)) m ∙ (λ i. same_neighbour (o i) (p i)) ∙ near);
-          labels = refl; silent = ap (put_by fec) kept;
+          labels = refl;
+          silent = ap (put_by fec) kept;
         });
       })
   | inr far ↦

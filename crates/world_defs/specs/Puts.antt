@@ -1,8 +1,6 @@
 -- What the steps of a node put, in octets (RFC 4271 section 4.3; RFC 5036 section 3.5).
-use Rattle.std.specs.Prelude.{ℕ, List, [], ◌∷◌, map, None, Some}
+use Rattle.std.specs.Prelude.{ℕ, List, [], ◌∷◌, map}
 use Rattle.std.specs.List.{flat_map}
-use Rattle.std.specs.FinMap as maps
-use Rattle.std.specs.FinMap.{FinMap}
 use Rattle.mv_base.specs.declared.addr.Addr.{Addr}
 use Rattle.mv_base.specs.declared.ids.NodeId.{NodeId}
 use Rattle.framing.specs.Units.{Spelled}
@@ -11,10 +9,8 @@ use Rattle.bgp_attributes.specs.declared.key.Key.{Key}
 use Rattle.bgp_attributes.specs.declared.update.Message.TheVariants as bgp_messages
 use Rattle.bgp_update.specs.Written.{written, update_of}
 use Rattle.table_defs.specs.declared.change.Change.{Change}
-use Rattle.label_defs.specs.Keys.{node_cmp}
 use Rattle.label_defs.specs.LabelData.{Place}
-use Rattle.label_defs.specs.Steps.{effect, next_id}
-use Rattle.label_defs.specs.declared.put.Put as labels
+use Rattle.label_defs.specs.Steps.{Numbered, step_puts}
 use Rattle.scenario_defs.specs.declared.event.Kind.TheVariants as kinds
 use Rattle.session_defs.specs.Message.{SessionMessage, Bgp, Label}
 use Rattle.session_defs.specs.System.{Put}
@@ -41,21 +37,13 @@ bgp_puts place old new = flat_map (λ peer. map (bgp_put place.me peer) (put_to 
 
 -- ---- LDP
 
--- each label message goes in a PDU of its own, with that id
-abbrev pub label_put : NodeId → Addr → ℕ → labels.Put → Put
-label_put me addr id put = record {
-  over = record { kind = kinds.Ldp; from = me; to = put.to };
-  unit = record { messages = Label put.message ∷ []; octets = pdus.written addr id put.message };
+-- each label message goes in a PDU of its own, with its id
+abbrev pub label_put : NodeId → Addr → Numbered → Put
+label_put me addr numbered = record {
+  over = record { kind = kinds.Ldp; from = me; to = numbered.put.to };
+  unit = record { messages = Label numbered.put.message ∷ []; octets = pdus.written addr numbered.id numbered.put.message };
 }
 
--- the ids of the messages to each neighbour grow by one
-abbrev pub numbered_puts : NodeId → Addr → FinMap node_cmp ℕ → List labels.Put → List Put
-numbered_puts me addr ids [] = []
-numbered_puts me addr ids (put ∷ more) = elim (maps.get ids put.to) [
-  | None ↦ numbered_puts me addr ids more
-  | Some id ↦ label_put me addr id put ∷ numbered_puts me addr (maps.insert ids put.to (next_id id)) more
-]
-
--- What a label step of a node puts. The ids are those behind the call's own effect: a session that comes up begins with 1.
+-- what a label step of a node puts
 abbrev pub label_puts : NodeId → Addr → Place → ℕ → LabelStep → List Put
-label_puts me addr place now step = numbered_puts me addr (effect place now step.old step.call).0.part.ids step.new.puts
+label_puts me addr place now step = map (label_put me addr) (step_puts place now step.old step.call step.new.puts)

@@ -17,7 +17,7 @@ pub mod LabelSound
 pub mod LabelTurns
 pub mod LabelEffects
 pub mod LabelPuts
-pub mod LabelIds
+pub mod LabelEnds
 pub mod LabelEntries
 pub mod LabelLeaves
 pub mod LabelCalls

@@ -13,7 +13,7 @@ use Rattle.scenario_defs.specs.declared.scenario.Scenario.{Scenario}
 use Rattle.session_defs.specs.System.{System}
 use Rattle.edge_defs.specs.Steps as steps
 use Rattle.world_defs.specs.Nodes.{Nodes}
-use Rattle.world_defs.specs.System.{NodeCall, Own, Elapse, Reset, system}
+use Rattle.world_defs.specs.System.{NodeCall, Own, Elapse, Reset, Price, Follow, system}
 use Rattle.world_laws.specs.Sound.{IsHost, IsGroupAddr, IsFlow, SoundEntry, SoundPattern}
 
 -- the groups of a Join/Prune message are multicast, and all its addresses are those of IPv4
@@ -25,7 +25,7 @@ pub record SoundGroup (group : Group) : Type 0 where
 abbrev pub SoundMessage : JoinPrune → Type 0
 SoundMessage message = AllByRecursion SoundGroup message.groups
 
--- A call of a node by itself: no message of a session is taken by it, and its values are sound.
+-- A call of a node by itself: no message of a session is taken by it, and no other costs; its values are sound.
 abbrev pub IsSoundCall : steps.Call → Type 0
 IsSoundCall (steps.Update peer message) = ⊥
 IsSoundCall (steps.Label neighbour message) = ⊥
@@ -37,11 +37,14 @@ IsSoundCall (steps.Unselect vrf pattern) = Unit {0}
 IsSoundCall (steps.Raised kind peer) = Unit {0}
 IsSoundCall (steps.Noticed kind peer) = Unit {0}
 IsSoundCall steps.Timers = Unit {0}
+IsSoundCall steps.Rerouted = ⊥
 
 abbrev pub IsSoundNodeCall : Scenario → NodeCall → Type 0
 IsSoundNodeCall scenario (Own n call) = (n.0 < length scenario.nodes) × IsSoundCall call
 IsSoundNodeCall scenario (Elapse ticks) = Unit {0}
 IsSoundNodeCall scenario (Reset n) = Unit {0}
+IsSoundNodeCall scenario (Price a b cost) = Unit {0}
+IsSoundNodeCall scenario (Follow n) = n.0 < length scenario.nodes
 
 -- A call with sound values, at a node of the scenario.
 pub record SoundCall (scenario : Scenario) : Type 0 where

@@ -123,12 +123,12 @@ abbrev pub SoundNode : NodeState → Type 0
 SoundNode (Edge edge) = SoundControl edge.control × SoundPart edge.part
 SoundNode (CoreNode part) = SoundPart part
 
--- a core node without ids, so that it puts nothing
+-- a core node of which no end is up, so that it puts nothing
 abbrev pub IsBare : NodeState → Type 0
 IsBare (Edge edge) = ⊥
-IsBare (CoreNode part) = part.ids ≡ maps.empty
+IsBare (CoreNode part) = part.ends ≡ maps.empty
 
--- The nodes of that scenario are sound. A node that the scenario does not have is a core node, and has no message id, so it puts
+-- The nodes of that scenario are sound. A node that the scenario does not have is a core node, and none of its ends is up, so it puts
 -- nothing.
 pub record Sound (scenario : Scenario) (nodes : Nodes) : Type 0 where
   pub same : nodes.scenario ≡ scenario

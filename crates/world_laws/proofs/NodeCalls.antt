@@ -4,6 +4,7 @@ use Rattle.std.specs.FinMap as maps
 use Rattle.std.specs.FinSet as sets
 use Rattle.std.proofs.lemmas.Bool.{eqb-true}
 use Rattle.std.proofs.lemmas.Option.{slice_get_cases}
+use Rattle.std.proofs.lemmas.List.Elements.{recursion_from_All}
 use Rattle.mv_base.specs.declared.ids.NodeId.{NodeId}
 use Rattle.scenario_defs.specs.declared.scenario.Node.{Node}
 use Rattle.scenario_defs.specs.declared.scenario.Scenario.{Scenario}
@@ -15,7 +16,9 @@ use Rattle.session_defs.specs.Message.{SessionMessage, Bgp, Label}
 use Rattle.edge_defs.specs.Edge.{Control, note_cmp, pattern_cmp, flow_cmp, no_control}
 use Rattle.edge_defs.specs.Edge as edges
 use Rattle.edge_defs.specs.Place.{EdgePlace}
-use Rattle.world_defs.specs.Costs.{Cores}
+use Rattle.core_walks.specs.Topology.{HasCost}
+use Rattle.world_defs.specs.Costs.{AreRepriced, Cores}
+use Rattle.world_defs.proofs.CostLemmas.{repriced_itself}
 use Rattle.edge_defs.specs.Steps as steps
 use Rattle.edge_defs.specs.Steps.{control_step}
 use Rattle.world_defs.specs.Nodes.{NodeState, Edge, CoreNode, Nodes, is_edge, fresh_node, start_nodes, with_node}
@@ -86,7 +89,9 @@ fresh_is_bare scenario n past = elim (slice_get_cases scenario.nodes n.0).1 [
 ]
 
 pub start_sound : (scenario : Scenario) (cores : Cores) → SoundScenario scenario → Sound scenario (start_nodes scenario cores)
-start_sound scenario cores s = record { same = λ i. scenario; lines = s; node = λ n. fresh_is_sound scenario n s; outside = λ n past. fresh_is_bare scenario n past }
+start_sound scenario cores s =
+    let itself : AreRepriced scenario.links scenario.links = repriced_itself scenario.links (recursion_from_All HasCost scenario.links s.rules.core.topology.costs) in
+    record { same = λ i. scenario; lines = s; links = itself; known = λ n. itself; node = λ n. fresh_is_sound scenario n s; outside = λ n past. fresh_is_bare scenario n past }
 
 -- ---- one node becomes another
 
@@ -98,6 +103,8 @@ pub changed_node : (scenario : Scenario) (nodes : Nodes) (n : NodeId) (new : Nod
 changed_node scenario nodes n new s sound bare = record {
   same = s.same;
   lines = s.lines;
+  links = s.links;
+  known = s.known;
   node = λ m. changed_at SoundNode (m.0 == n.0) new (nodes.node m) (λ e. sound) (s.node m);
   outside = λ m past. changed_at IsBare (m.0 == n.0) new (nodes.node m) (λ e. bare (let same = eqb-true m.0 n.0 e in subst (λ k. length scenario.nodes ≤ k) same past)) (s.outside m past);
 }

@@ -17,6 +17,8 @@ use Rattle.edge_defs.specs.Place.{EdgePlace, addr_of, label_place}
 use Rattle.edge_defs.specs.Steps as steps
 use Rattle.edge_defs.specs.Steps.{LabelStep, EdgeStepped, control_step, own_label_call, changed_leaves, one_call, label_row, part_after}
 use Rattle.edge_defs.specs.Tunnels.{leaves}
+use Rattle.world_defs.specs.Costs.{AreRepriced}
+use Rattle.world_defs.proofs.CostLemmas.{repriced_more}
 use Rattle.world_defs.specs.Nodes.{NodeState, Edge, CoreNode, Nodes, fresh_node, with_node, following, place_of, label_place_of}
 use Rattle.world_defs.specs.Puts.{bgp_puts, label_puts}
 use Rattle.world_defs.specs.System.{Own, Elapse, Reset, Price, Follow, NodeCall, nodes_called, node_called, core_called, core_stepped, edge_stepped, call_of}
@@ -141,17 +143,38 @@ module _ (scenario : Scenario) (nodes : Nodes) (s : Sound scenario nodes) where
     | inr past ↦ bare_keeps n (nodes.node n) call (s.outside n past) none (s.node n) good
   ]
 
+-- the node takes over the present costs
+followed : (scenario : Scenario) (nodes : Nodes) (n : NodeId) → Sound scenario nodes → Sound scenario (following nodes n)
+followed scenario nodes n s = record {
+  same = s.same;
+  lines = s.lines;
+  links = s.links;
+  known = λ m. elim (m.0 == n.0) as (λ t. AreRepriced scenario.links (cond t nodes.links (nodes.known m))) [ true ↦ s.links | false ↦ s.known m ];
+  node = s.node;
+  outside = s.outside;
+}
+
 pub call_keeps : (scenario : Scenario) (nodes : Nodes) → Sound scenario nodes → (call : NodeCall) → IsSoundNodeCall scenario call → Keeps (Sound scenario) (nodes_called call nodes)
 call_keeps scenario nodes s (Own n call) sound = node_keeps scenario nodes s n (nodes.node n) call sound.0 (s.node n) (own_is_good call sound.1)
-call_keeps scenario nodes s (Elapse ticks) sound = (tt, record { same = s.same; lines = s.lines; node = s.node; outside = s.outside })
+call_keeps scenario nodes s (Elapse ticks) sound = (tt, record { same = s.same; lines = s.lines; links = s.links; known = s.known; node = s.node; outside = s.outside })
 call_keeps scenario nodes s (Reset n) sound = (
   tt,
   changed_node scenario nodes n (fresh_node nodes.scenario n) s (fresh_is_sound nodes.scenario n (its_lines scenario nodes s))
       (λ past. subst (λ (own : Scenario). IsBare (fresh_node own n)) (sym s.same) (fresh_is_bare scenario n past)),
 )
-call_keeps scenario nodes s (Price a b cost) sound = (tt, record { same = s.same; lines = s.lines; node = s.node; outside = s.outside })
+call_keeps scenario nodes s (Price a b cost) sound = (
+  tt,
+  record {
+    same = s.same;
+    lines = s.lines;
+    links = repriced_more scenario.links nodes.links a b cost s.links sound;
+    known = s.known;
+    node = s.node;
+    outside = s.outside;
+  },
+)
 call_keeps scenario nodes s (Follow n) sound =
-    node_keeps scenario (following nodes n) (record { same = s.same; lines = s.lines; node = s.node; outside = s.outside }) n (nodes.node n) steps.Rerouted sound (s.node n) rerouted_is_good
+    node_keeps scenario (following nodes n) (followed scenario nodes n s) n (nodes.node n) steps.Rerouted sound (s.node n) rerouted_is_good
 
 pub honest_nodes : (scenario : Scenario) → IsHonestWhile (sound_system scenario) (Sound scenario)
 honest_nodes scenario = record {

@@ -39,11 +39,15 @@ IsSoundCall (steps.Noticed kind peer) = Unit {0}
 IsSoundCall steps.Timers = Unit {0}
 IsSoundCall steps.Rerouted = ⊥
 
+-- the cost of a link
+abbrev pub IsCost : ℕ → Type 0
+IsCost cost = (1 ≤ cost) × (cost ≤ 65535)
+
 abbrev pub IsSoundNodeCall : Scenario → NodeCall → Type 0
 IsSoundNodeCall scenario (Own n call) = (n.0 < length scenario.nodes) × IsSoundCall call
 IsSoundNodeCall scenario (Elapse ticks) = Unit {0}
 IsSoundNodeCall scenario (Reset n) = Unit {0}
-IsSoundNodeCall scenario (Price a b cost) = Unit {0}
+IsSoundNodeCall scenario (Price a b cost) = IsCost cost
 IsSoundNodeCall scenario (Follow n) = n.0 < length scenario.nodes
 
 -- A call with sound values, at a node of the scenario.
@@ -63,7 +67,7 @@ pub record IsLinkPlace (scenario : Scenario) (from to : NodeId) (place : ℕ) : 
   pub linked : IsLinked scenario.links from.0 to.0 cost
   pub counted : 1 ≤ place
 
--- An event of sound values. The node whose timers are run, or whose end notices a loss, and the interface of a join or a prune are those
+-- An event of sound values. The costs of links are 1 to 65535. The node whose timers are run, or whose end notices a loss, and the interface of a join or a prune are those
 -- of the scenario; a copy hops or is dropped on a link.
 abbrev pub IsSoundEvent : Scenario → Event → Type 0
 IsSoundEvent scenario (events.Timers node) = node.0 < length scenario.nodes
@@ -75,4 +79,5 @@ IsSoundEvent scenario (events.Active iface source group) = IsFlow source group
 IsSoundEvent scenario (events.Select vrf pattern) = SoundPattern pattern
 IsSoundEvent scenario (events.Hop from to place) = IsLinkPlace scenario from to place
 IsSoundEvent scenario (events.DropCopy from to place) = IsLinkPlace scenario from to place
+IsSoundEvent scenario (events.Cost a b cost) = IsCost cost
 IsSoundEvent scenario other = Unit {0}

@@ -28,3 +28,6 @@ pub mod RunActs
 pub mod RunMessages
 pub mod RunNodes
 pub mod RunEvents
+pub mod Costs
+pub mod SteadyEvents
+pub mod KnownCosts

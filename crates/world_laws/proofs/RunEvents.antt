@@ -186,7 +186,7 @@ event_stays scenario world s event sound =
 
 -- ---- runs
 
-turned_stays : (scenario : Scenario) (old : World) → WorldStays scenario old → (timed : Timed) → IsSoundEvent scenario timed.event → (acts : List Happened) (next : World) → outcome old timed ≡ Done acts next → WorldStays scenario next
+pub turned_stays : (scenario : Scenario) (old : World) → WorldStays scenario old → (timed : Timed) → IsSoundEvent scenario timed.event → (acts : List Happened) (next : World) → outcome old timed ≡ Done acts next → WorldStays scenario next
 turned_stays scenario old s timed sound acts next e = subst (Comes (WorldStays scenario)) e (by (refusal old timed.event))
   where
     by : (o : Option Refusal) → Comes (WorldStays scenario) (elim o [ None ↦ done old timed.event | Some reason ↦ Done (record { act = None; lines = lines.Refused timed.line reason ∷ [] } ∷ []) old ])
@@ -199,7 +199,7 @@ runs_stay scenario (timed ∷ more) sound old number trace new s run =
     runs_stay scenario more sound.1 run.1 (number + 1) run.2 new (turned_stays scenario old s timed sound.0 run.0 run.1 run.3) run.5
 
 -- nothing is in transit, and no session is joined
-start_stays : (scenario : Scenario) (cores : Cores) → SoundScenario scenario → WorldStays scenario (start scenario cores)
+pub start_stays : (scenario : Scenario) (cores : Cores) → SoundScenario scenario → WorldStays scenario (start scenario cores)
 start_stays scenario cores sound = (start_sound scenario cores sound, ((λ over. []), λ over. (refl, refl)))
 
 pub run_stays : (scenario : Scenario) (cores : Cores) (all : List Timed) (trace : List Traced) (new : World) → SoundScenario scenario → AllByRecursion (λ timed. IsSoundEvent scenario timed.event) all → Runs (start scenario cores) 0 all trace new → WorldStays scenario new

@@ -13,6 +13,8 @@ ghost use Rattle.world_defs.specs.Costs.{Cores};
 ghost use Rattle.world_defs.specs.Nodes.{Nodes, start_nodes};
 ghost use Rattle.world_defs.specs.Run.{Traced, Run};
 ghost use Rattle.world_defs.specs.World.{World};
+ghost use Rattle.world_laws.specs.Costs.{KnowCosts};
+ghost use Rattle.world_laws.specs.SoundRun.{SoundRun};
 ghost use Rattle.world_laws.specs.Sound.{SoundScenario, Sound};
 ghost use Rattle.world_laws.specs.Honest.{IsSoundEvent, SoundCall, sound_system};
 
@@ -50,4 +52,10 @@ pub fn runs_stay_sound()
     ensures { (cores : Cores) (script : Script) (events : List Timed) (trace : List Traced) (new : World) → SoundScenario script.scenario →
         AllByRecursion (λ (timed : Timed). IsSoundEvent script.scenario timed.event) events → Run cores script events trace new →
         Sound script.scenario new.network.state × ((pending : Direction → List SessionMessage) × AreLines new.network pending) }
+{}
+
+/// Behind each event of such a run every node of the scenario has acted on the present costs of the links, and knows the core by them.
+pub fn nodes_know_the_present_costs()
+    ensures { (cores : Cores) (script : Script) (events : List Timed) (trace : List Traced) (new : World) →
+        SoundRun cores script events trace new → KnowCosts script.scenario cores new.network.state }
 {}

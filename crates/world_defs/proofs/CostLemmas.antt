@@ -1,8 +1,10 @@
 -- The links at other costs.
-use Rattle.std.proofs.Common.{◌≡◌, ◌⊎◌, ◌≤◌, ◌<◌, ℕ, inl, inr, List, [], ◌∷◌, length, sym, ap, subst, ◌∙◌, arith}
+use Rattle.std.proofs.Common.{◌≡◌, ◌⊎◌, ◌≤◌, ◌<◌, ℕ, Bool, true, false, inl, inr, refl, List, [], ◌∷◌, length, sym, ap, subst, ◌∙◌, arith}
+use Rattle.std.specs.List.{AllByRecursion}
 use Rattle.std.proofs.lemmas.Bool.{cases_eq, cases_lt}
 use Rattle.mv_base.specs.declared.core_link.Link.{Link}
 use Rattle.mv_base.specs.declared.ids.NodeId.{NodeId}
+use Rattle.core_walks.specs.Costs.{joins, priced_if, with_cost}
 use Rattle.core_walks.specs.Topology.{HasCost}
 use Rattle.scenario_defs.specs.declared.scenario.Scenario.{Scenario}
 use Rattle.edge_defs.proofs.CoreLemmas.{one_core}
@@ -39,6 +41,23 @@ repriced_or_not (link ∷ more) (other ∷ others) = elim (one_end other.a link.
     ]
   ]
 ]
+
+-- ---- the same links
+
+pub repriced_itself : (links : List Link) → AllByRecursion HasCost links → AreRepriced links links
+repriced_itself [] h = tt
+repriced_itself (link ∷ more) h = (refl, refl, h.0, repriced_itself more h.1)
+
+-- one of them gets another cost
+pub repriced_more : (links others : List Link) (a b : NodeId) (cost : ℕ) → AreRepriced links others → (1 ≤ cost) × (cost ≤ 65535) → AreRepriced links (with_cost a b cost others)
+repriced_more [] [] a b cost h is = tt
+repriced_more [] (other ∷ others) a b cost h is = absurd h
+repriced_more (link ∷ more) [] a b cost h is = absurd h
+repriced_more (link ∷ more) (other ∷ others) a b cost h is = by (joins a b other) (repriced_more more others a b cost h.3 is)
+  where
+    by : (t : Bool) → AreRepriced more (with_cost a b cost others) → AreRepriced (link ∷ more) (priced_if t cost other ∷ with_cost a b cost others)
+    by true rest = (h.0, h.1, is, rest)
+    by false rest = (h.0, h.1, h.2, rest)
 
 -- ---- the cores of a scenario are one
 

@@ -167,22 +167,26 @@ def path_text():
     return attribute(0x40, 1, (0,)) + attribute(0x40, 2, ()) + attribute(0x40, 5, to_be_bytes(4, 100))
 
 
+def afi_of(addr):
+    return 1 if isinstance(addr, V4) else 2
+
+
+MAPPED_FRONT = (0,) * 10 + (0xFF,) * 2
+
+
+def mapped(addr):
+    return MAPPED_FRONT + addr.octets if isinstance(addr, V4) else addr.octets
+
+
 def pair(key):
-    """AFI and SAFI; those of a unicast route by the family of its prefix (RFC 4364 section 4.3.4, RFC 4659 section 3.2)."""
-    if isinstance(key, Mcast):
-        return to_be_bytes(2, key.afi) + (5,)
-    return (0, 1, 128) if isinstance(key.prefix.addr, V4) else (0, 2, 128)
+    return to_be_bytes(2, key.afi) + (5,) if isinstance(key, Mcast) else to_be_bytes(2, afi_of(key.prefix.addr)) + (128,)
 
 
 def hop_of(key, addr):
-    """The next hop behind its length; that of a VPN-IPv6 route is an IPv4-mapped IPv6 address (RFC 4659 section 3.2.1.2)."""
     if isinstance(key, Mcast):
-        octets = addr_octets(addr)
-    elif isinstance(key.prefix.addr, V4):
-        octets = (0,) * 8 + addr_octets(addr)
-    else:
-        octets = (0,) * 18 + (0xFF, 0xFF) + addr_octets(addr)
-    return (len(octets),) + octets
+        return (len(addr_octets(addr)),) + addr_octets(addr)
+    octets = mapped(addr) if afi_of(key.prefix.addr) == 2 else addr_octets(addr)
+    return (8 + len(octets),) + (0,) * 8 + octets
 
 
 ADVERTISED = (0x00, 0x00, 0x31)

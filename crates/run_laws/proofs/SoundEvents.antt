@@ -21,7 +21,7 @@ use Rattle.scenario_defs.specs.declared.event.Kind.TheVariants as kinds
 use Rattle.scenario_defs.specs.declared.event.Script.{Script}
 use Rattle.scenario_defs.specs.declared.event.Timed.{Timed}
 use Rattle.scenario_defs.specs.declared.scenario.Scenario.{Scenario}
-use Rattle.edge_defs.specs.Place.{Core, IsCoreOf}
+use Rattle.world_defs.specs.Costs.{Cores, AreCoresOf}
 use Rattle.world_defs.specs.Run.{Traced, Run}
 use Rattle.world_defs.specs.World.{World}
 use Rattle.world_laws.specs.Honest.{IsSoundEvent}
@@ -87,6 +87,7 @@ sound_by scenario topology events.Heal is octets = tt
 sound_by scenario topology events.Settle is octets = tt
 sound_by scenario topology events.Drain is octets = tt
 sound_by scenario topology events.State is octets = tt
+sound_by scenario topology (events.Cost a b cost) is octets = (is.1, is.2)
 
 pub sound_event : (scenario : Scenario) (event : Event) → Rules scenario → IsEventOf scenario event → EventHasOctets event → IsSoundEvent scenario event
 sound_event scenario event rules is octets = sound_by scenario rules.core.topology event is octets
@@ -104,9 +105,9 @@ sound_first script count rules octets =
     each_front (λ (timed : Timed). IsSoundEvent script.scenario timed.event) (take count script.events) (drop count script.events)
     (subst (AllByRecursion (λ (timed : Timed). IsSoundEvent script.scenario timed.event)) (cut_in_two count script.events) all)
 
-pub sound_run : (core : Core) (script : Script) (count : ℕ) (trace : List Traced) (new : World) → ScriptRules script → ScriptHasOctets script → IsCoreOf script.scenario core → Run core script (take count script.events) trace new
-    → SoundRun core script (take count script.events) trace new
-sound_run core script count trace new rules octets of_scenario run = record {
+pub sound_run : (cores : Cores) (script : Script) (count : ℕ) (trace : List Traced) (new : World) → ScriptRules script → ScriptHasOctets script → AreCoresOf script.scenario cores → Run cores script (take count script.events) trace new
+    → SoundRun cores script (take count script.events) trace new
+sound_run cores script count trace new rules octets of_scenario run = record {
   scenario = record { rules = rules.scenario; octets = octets.scenario };
   of_scenario = of_scenario;
   sound_events = sound_first script count rules octets;

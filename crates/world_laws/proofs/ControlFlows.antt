@@ -38,7 +38,7 @@ use Rattle.edge_defs.specs.Imported.{FlowRoute, JoinBy, active_of, imported_acti
 use Rattle.edge_defs.specs.Keys.{Value, key_cmp}
 use Rattle.edge_defs.specs.Originated.{is_iface_of, notes_of}
 use Rattle.edge_defs.specs.Place.{EdgePlace, OwnVrf, own_vrfs}
-use Rattle.edge_defs.specs.Upstream.{known_routes, upstream_by, upstream_for}
+use Rattle.edge_defs.specs.Upstream.{costs_of, known_routes, upstream_by, upstream_for}
 use Rattle.world_laws.specs.Sound.{IsHost, IsFlow, AreEight, SoundEntry, SoundUpstream, SoundKey, SoundValue, SoundTaken}
 use Rattle.world_laws.proofs.Lists.{each_append, each_of, each_map, each_flat, each_weaker, each_filtered, each_found, only_meets, passing}
 use Rattle.world_laws.proofs.Maps.{Each, AllEntries, all_entries, made_meets}
@@ -120,10 +120,10 @@ by_origin control prefix (origins.Remote edge address rd) sound =
     bind_meets SoundUpstream tt (join_by address taken.value) (λ by. Some (Remote edge rd by.import by.source_as))
     (λ by f. let met = join_sound address taken.value by route.1 f in (route.0, met.0, met.1, met.2)))
 
--- The upstream of a source is that of a route that was taken.
-pub upstream_sound : (place : EdgePlace) (control : Control) (own : OwnVrf) (source : Addr) → Each SoundPeer control.peers → SoundUpstream (upstream_for place control own source)
-upstream_sound place control own source sound =
-    bind_meets SoundUpstream tt (best_route (cost_by own.vrf.rule (place.core.cost place.me)) (known_routes place control own) source) (upstream_by place control)
+-- The upstream of a source and group is that of a route that was taken.
+pub upstream_sound : (place : EdgePlace) (control : Control) (own : OwnVrf) (source group : Addr) → Each SoundPeer control.peers → SoundUpstream (upstream_for place control own source group)
+upstream_sound place control own source group sound =
+    bind_meets SoundUpstream tt (best_route (costs_of place own (known_routes place control own) source group) (known_routes place control own) source) (upstream_by place control)
     (λ route e. by_origin control route.prefix route.origin sound)
 
 -- ---- flows
@@ -208,8 +208,8 @@ asked_sound place now control own flow sound likely e =
 vrf_flows_sound : (place : EdgePlace) (now : ℕ) (control : Control) (own : OwnVrf) → SoundSources control → AllEntries SoundFlow (vrf_flows place now control own)
 vrf_flows_sound place now control own sound =
     each_map (λ entry. SoundFlow entry.0 entry.1) (with_upstream place control own) (filter (is_flow place now control own) (possible_flows place control own))
-    (each_weaker (λ flow. Likely flow × (is_flow place now control own flow ≡ true)) (λ flow. IsFlow flow.source flow.group × SoundUpstream (upstream_for place control own flow.source))
-    (λ flow h. (asked_sound place now control own flow sound h.0 h.1, upstream_sound place control own flow.source sound.peers))
+    (each_weaker (λ flow. Likely flow × (is_flow place now control own flow ≡ true)) (λ flow. IsFlow flow.source flow.group × SoundUpstream (upstream_for place control own flow.source flow.group))
+    (λ flow h. (asked_sound place now control own flow sound h.0 h.1, upstream_sound place control own flow.source flow.group sound.peers))
     (filter (is_flow place now control own) (possible_flows place control own))
     (each_filtered Likely (is_flow place now control own) (possible_flows place control own) (possible_sound place control own sound)))
 

@@ -1,3 +1,4 @@
 pub mod Sound
+pub mod Costs
 pub mod Honest
 pub mod SoundRun

@@ -29,6 +29,7 @@ use Rattle.label_defs.specs.declared.label_use.LabelUse.TheVariants as uses
 use Rattle.edge_defs.specs.Edge.{Note, VrfPattern, Selected, VrfFlow, Upstream, Remote, TakenRoute, Taken, Control}
 use Rattle.edge_defs.specs.Imported.{lsp_of}
 use Rattle.edge_defs.specs.Keys.{Value}
+use Rattle.world_defs.specs.Costs.{AreRepriced}
 use Rattle.world_defs.specs.Nodes.{NodeState, Edge, CoreNode, Nodes}
 
 -- ---- addresses and the like
@@ -123,15 +124,17 @@ abbrev pub SoundNode : NodeState → Type 0
 SoundNode (Edge edge) = SoundControl edge.control × SoundPart edge.part
 SoundNode (CoreNode part) = SoundPart part
 
--- a core node without ids, so that it puts nothing
+-- a core node of which no end is up, so that it puts nothing
 abbrev pub IsBare : NodeState → Type 0
 IsBare (Edge edge) = ⊥
-IsBare (CoreNode part) = part.ids ≡ maps.empty
+IsBare (CoreNode part) = part.ends ≡ maps.empty
 
--- The nodes of that scenario are sound. A node that the scenario does not have is a core node, and has no message id, so it puts
--- nothing.
+-- The nodes of that scenario are sound, and the present costs of its links, and those that each node has acted on, are costs of links. A
+-- node that the scenario does not have is a core node, and none of its ends is up, so it puts nothing.
 pub record Sound (scenario : Scenario) (nodes : Nodes) : Type 0 where
   pub same : nodes.scenario ≡ scenario
   pub lines : SoundScenario scenario
+  pub links : AreRepriced scenario.links nodes.links
+  pub known : (n : NodeId) → AreRepriced scenario.links (nodes.known n)
   pub node : (n : NodeId) → SoundNode (nodes.node n)
   pub outside : (n : NodeId) → length scenario.nodes ≤ n.0 → IsBare (nodes.node n)

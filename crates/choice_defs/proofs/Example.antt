@@ -58,4 +58,4 @@ of_sites : AreOfSites routes
 of_sites x y s t m n prefix h k = site_of x s m h ∙ sym (site_of y t n k)
 
 pub worked : Worked
-worked = record { edges = of_edges; sites = of_sites; highest = refl; nearest = refl; alone = refl }
+worked = record { edges = of_edges; sites = of_sites; highest = refl; nearest = refl; number = refl; hashed = refl; other_number = refl; other_hashed = refl; alone = refl }

@@ -94,7 +94,8 @@ of_found : (found : Option Route) → option_map (λ (route : KnownRoute). route
 of_found None = refl
 of_found (Some a) = refl
 
-pub local_home : (rule : Rule) (cost : NodeId → ℕ) (routes : List Route) (source : Addr) → choose rule cost (map of_site routes) source ≡ option_map (λ (site : SiteId). Local site) (home_by routes source)
-local_home rule cost routes source =
-    ap (option_map (λ (route : KnownRoute). route.origin)) (best_local (cost_by rule cost) routes source)
+pub local_home : (rule : Rule) (cost : NodeId → ℕ) (routes : List Route) (source group : Addr)
+    → choose rule cost (map of_site routes) source group ≡ option_map (λ (site : SiteId). Local site) (home_by routes source)
+local_home rule cost routes source group =
+    ap (option_map (λ (route : KnownRoute). route.origin)) (best_local (cost_by rule cost (map of_site routes) source group) routes source)
     ∙ of_found (longest_after None (filter (λ (route : Route). covers route.prefix source) routes))

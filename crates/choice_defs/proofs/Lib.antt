@@ -1,5 +1,6 @@
 pub mod OrderLemmas
 pub mod BestLemmas
+pub mod HashLemmas
 pub mod ChoiceLemmas
 pub mod HomeLemmas
 pub mod Example

@@ -1,9 +1,10 @@
--- The upstream choice of a VRF for a source, over all routes that it knows (RFC 6513 section 5.1).
-use Rattle.std.specs.Prelude.{◌≡◌, ℕ, ◌<◌, ◌≤◌, ◌⊎◌, ◌↔◌, ⊤, Bool, true, false, List, [], ◌∷◌, Option, None, Some, option_map, if◌then◌else◌}
+-- The upstream choice of a VRF for a source and group, over all routes that it knows (RFC 6513 section 5.1).
+use Rattle.std.specs.Prelude.{◌≡◌, ℕ, ◌<◌, ◌≤◌, ◌%◌, max, ◌==◌, ◌&&◌, ◌⊎◌, ◌↔◌, ⊤, Bool, true, false, List, [], ◌∷◌, ◌++◌, length, fold, slice_get, bit_xor, Option, None, Some, option_map, if◌then◌else◌}
 use Rattle.std.specs.Ordering.{nat_cmp, is_lt, ordering_then}
 use Rattle.std.specs.declared.cmp.Ordering.{Ordering}
 use Rattle.std.specs.declared.cmp.Ordering.TheVariants.{Less, Equal, Greater}
 use Rattle.std.specs.Cmp.Lexicographic.{slice_cmp}
+use Rattle.mv_base.specs.Address.{addr_octets}
 use Rattle.mv_base.specs.Prefix.{covers, same_front}
 use Rattle.mv_base.specs.declared.addr.Addr.{Addr}
 use Rattle.mv_base.specs.declared.addr.Addr.TheVariants.{V4, V6}
@@ -45,14 +46,66 @@ IsLower a b = addr_cmp a b ≡ Less
 abbrev pub IsLess : Rd → Rd → Type 0
 IsLess a b = rd_cmp a b ≡ Less
 
+-- ---- the edge that the hash names
+
+-- the exclusive or of all octets of a source and a group
+abbrev pub hash_of : Addr → Addr → ℕ
+hash_of source group = fold bit_xor 0 (addr_octets source ++ addr_octets group)
+
+-- the length of the longest of the routes that cover the source
+abbrev pub longest_bits : List KnownRoute → Addr → ℕ
+longest_bits [] source = 0
+longest_bits (route ∷ more) source = max (if covers route.prefix source then route.prefix.bits else 0) (longest_bits more source)
+
+-- whether the route covers the source and has that length
+abbrev pub is_candidate : ℕ → Addr → KnownRoute → Bool
+is_candidate bits source route = covers route.prefix source && route.prefix.bits == bits
+
+-- an edge, the first one of others by rising address, how the address of the edge compares with that of the first one, and
+-- what becomes of the others behind it
+abbrev pub put_by : Ordering → NodeId × Addr → NodeId × Addr → List (NodeId × Addr) → List (NodeId × Addr) → List (NodeId × Addr)
+put_by Less edge first more put = edge ∷ first ∷ more
+put_by Equal edge first more put = first ∷ more
+put_by Greater edge first more put = first ∷ put
+
+-- edges by rising address with one more, which is left out where one of its address is among them
+abbrev pub put_edge : NodeId × Addr → List (NodeId × Addr) → List (NodeId × Addr)
+put_edge edge [] = edge ∷ []
+put_edge edge (first ∷ more) = put_by (addr_cmp edge.1 first.1) edge first more (put_edge edge more)
+
+-- with the edge of an origin
+abbrev pub put_origin : Origin → List (NodeId × Addr) → List (NodeId × Addr)
+put_origin (Local site) edges = edges
+put_origin (Remote edge address rd) edges = put_edge (edge, address) edges
+
+-- the edges, by rising address and each once, of the routes that cover the source and have that length
+abbrev pub edges_of : ℕ → List KnownRoute → Addr → List (NodeId × Addr)
+edges_of bits [] source = []
+edges_of bits (route ∷ more) source =
+    let edges = edges_of bits more source in
+    if is_candidate bits source route then put_origin route.origin edges else edges
+
+-- the edges of the candidates, which are the longest routes that cover the source
+abbrev pub candidate_edges : List KnownRoute → Addr → List (NodeId × Addr)
+candidate_edges routes source = edges_of (longest_bits routes source) routes source
+
+-- of edges that are counted from 0 on, the one whose number is the hash modulo how many they are
+abbrev pub hashed_of : ℕ → List (NodeId × Addr) → Option NodeId
+hashed_of hash edges = option_map (λ edge. edge.0) (slice_get edges (hash % length edges))
+
 -- ---- the choice
 
--- What a rule compares before addresses: the cost by Nearest, and nothing by Highest. Hash chooses as Highest: this is the
--- project's rule until the hash is built.
-abbrev pub cost_by : Rule → (NodeId → ℕ) → NodeId → ℕ
-cost_by Highest cost edge = 0
-cost_by Nearest cost edge = cost edge
-cost_by Hash cost edge = 0
+-- nothing for the edge that is named, and 1 for each other one
+abbrev pub cost_unless : Option NodeId → NodeId → ℕ
+cost_unless None edge = 1
+cost_unless (Some named) edge = if named.0 == edge.0 then 0 else 1
+
+-- What a rule compares before addresses: nothing by Highest, the cost by Nearest, and by Hash whether the edge is the one
+-- that source and group name.
+abbrev pub cost_by : Rule → (NodeId → ℕ) → List KnownRoute → Addr → Addr → NodeId → ℕ
+cost_by Highest cost routes source group edge = 0
+cost_by Nearest cost routes source group edge = cost edge
+cost_by Hash cost routes source group edge = cost_unless (hashed_of (hash_of source group) (candidate_edges routes source)) edge
 
 -- the order of two edges and route distinguishers, the better first: by the least cost, by the highest address, and by the
 -- least route distinguisher
@@ -65,7 +118,8 @@ abbrev pub origin_cmp : (NodeId → ℕ) → Origin → Origin → Ordering
 origin_cmp cost (Local site) (Local other_site) = Equal
 origin_cmp cost (Local site) (Remote other_edge other_address other_rd) = Less
 origin_cmp cost (Remote edge address rd) (Local other_site) = Greater
-origin_cmp cost (Remote edge address rd) (Remote other_edge other_address other_rd) = remote_cmp cost edge address rd other_edge other_address other_rd
+origin_cmp cost (Remote edge address rd) (Remote other_edge other_address other_rd) =
+    remote_cmp cost edge address rd other_edge other_address other_rd
 
 -- the order of two routes that cover a source, the better first: longer ones before shorter ones
 abbrev pub route_cmp : (NodeId → ℕ) → KnownRoute → KnownRoute → Ordering
@@ -86,40 +140,70 @@ abbrev pub best_route : (NodeId → ℕ) → List KnownRoute → Addr → Option
 best_route cost [] source = None
 best_route cost (route ∷ more) source = better_of cost (covers route.prefix source) route (best_route cost more source)
 
--- The upstream choice of a VRF for a source, over the routes that it knows. The cost is the least cost in the core from this
--- edge to each node.
-abbrev pub choose : Rule → (NodeId → ℕ) → List KnownRoute → Addr → Option Origin
-choose rule cost routes source = option_map (λ route. route.origin) (best_route (cost_by rule cost) routes source)
+-- The upstream choice of a VRF for a source and a group, over the routes that it knows. The cost is the least cost in the
+-- core from this edge to each node.
+abbrev pub choose : Rule → (NodeId → ℕ) → List KnownRoute → Addr → Addr → Option Origin
+choose rule cost routes source group = option_map (λ route. route.origin) (best_route (cost_by rule cost routes source group) routes source)
 
 -- ---- what it means
 
--- The first edge has the higher address, or both are one edge and the second route distinguisher is not less.
-abbrev pub IsHigher : NodeId → Addr → Rd → NodeId → Addr → Rd → Type 0
-IsHigher edge address rd other_edge other_address other_rd = IsLower other_address address ⊎ ((edge ≡ other_edge) × (IsLess other_rd rd → ⊥))
-
--- The second edge and route distinguisher are no better by the rule. Hash is as Highest until it is built.
-abbrev pub IsFirst : Rule → (NodeId → ℕ) → NodeId → Addr → Rd → NodeId → Addr → Rd → Type 0
-IsFirst Highest cost edge address rd other_edge other_address other_rd = IsHigher edge address rd other_edge other_address other_rd
-IsFirst Nearest cost edge address rd other_edge other_address other_rd =
-    (cost edge < cost other_edge) ⊎ ((cost edge ≡ cost other_edge) × IsHigher edge address rd other_edge other_address other_rd)
-IsFirst Hash cost edge address rd other_edge other_address other_rd = IsHigher edge address rd other_edge other_address other_rd
-
--- A local origin stands before all others, and a remote one before no local one.
-abbrev pub Precedes : Rule → (NodeId → ℕ) → Origin → Origin → Type 0
-Precedes rule cost (Local site) other = ⊤
-Precedes rule cost (Remote edge address rd) (Local other_site) = ⊥
-Precedes rule cost (Remote edge address rd) (Remote other_edge other_address other_rd) = IsFirst rule cost edge address rd other_edge other_address other_rd
-
--- The VRF chooses the origin: it is that of a route that covers the source, no route that covers it is longer, and of those
--- as long none is better: where the origin is remote, none is local, and each other one has a lower address (by Nearest: a
--- greater cost, or the same cost and a lower address) or is of the same edge and of no lesser route distinguisher.
-pub record IsChosen (rule : Rule) (cost : NodeId → ℕ) (routes : List KnownRoute) (source : Addr) (origin : Origin) : Type 0 where
-  pub route : KnownRoute
+-- The route is a candidate: it covers the source, and no route that covers it is longer.
+pub record IsCandidate (routes : List KnownRoute) (source : Addr) (route : KnownRoute) : Type 0 where
   pub among : Among route routes
   pub covering : covers route.prefix source ≡ true
-  pub of_origin : route.origin ≡ origin
   pub longest : (other : KnownRoute) → Among other routes → covers other.prefix source ≡ true → other.prefix.bits ≤ route.prefix.bits
-  pub first : (other : KnownRoute) → Among other routes → covers other.prefix source ≡ true → other.prefix.bits ≡ route.prefix.bits → Precedes rule cost route.origin other.origin
+
+-- An edge of that address is the origin of a candidate.
+pub record IsEdgeOfCandidate (routes : List KnownRoute) (source address : Addr) : Type 0 where
+  pub route : KnownRoute
+  pub edge : NodeId
+  pub rd : Rd
+  pub candidate : IsCandidate routes source route
+  pub of_edge : route.origin ≡ Remote edge address rd
+
+-- Each address is lower than all behind it.
+abbrev pub AreRising : List Addr → Type 0
+AreRising [] = ⊤
+AreRising (address ∷ more) = ((other : Addr) → Among other more → IsLower address other) × AreRising more
+
+-- The hash names the edge of that address: of the addresses of the edges of the candidates, counted from 0 by rising address,
+-- it is the one whose number is the exclusive or of all octets of source and group modulo how many there are.
+pub record IsHashed (routes : List KnownRoute) (source group address : Addr) : Type 0 where
+  pub addresses : List Addr
+  pub rising : AreRising addresses
+  pub each : (other : Addr) → Among other addresses ↔ IsEdgeOfCandidate routes source other
+  pub named : slice_get addresses (hash_of source group % length addresses) ≡ Some address
+
+-- The first edge has the higher address, or both are one edge and the second route distinguisher is not less.
+abbrev pub IsHigher : NodeId → Addr → Rd → NodeId → Addr → Rd → Type 0
+IsHigher edge address rd other_edge other_address other_rd =
+    IsLower other_address address ⊎ ((edge ≡ other_edge) × (IsLess other_rd rd → ⊥))
+
+-- The second edge and route distinguisher are no better by the rule: the first edge has the higher address; or it is nearer,
+-- or as near and has the higher address; or it is the one that the hash names. Of one edge, the second route distinguisher
+-- is not less.
+abbrev pub IsFirst : Rule → (NodeId → ℕ) → (Addr → Type 0) → NodeId → Addr → Rd → NodeId → Addr → Rd → Type 0
+IsFirst Highest cost Named edge address rd other_edge other_address other_rd = IsHigher edge address rd other_edge other_address other_rd
+IsFirst Nearest cost Named edge address rd other_edge other_address other_rd =
+    (cost edge < cost other_edge) ⊎ ((cost edge ≡ cost other_edge) × IsHigher edge address rd other_edge other_address other_rd)
+IsFirst Hash cost Named edge address rd other_edge other_address other_rd = Named address × (edge ≡ other_edge → IsLess other_rd rd → ⊥)
+
+-- A local origin stands before all others, and a remote one before no local one.
+abbrev pub Precedes : Rule → (NodeId → ℕ) → (Addr → Type 0) → Origin → Origin → Type 0
+Precedes rule cost Named (Local site) other = ⊤
+Precedes rule cost Named (Remote edge address rd) (Local other_site) = ⊥
+Precedes rule cost Named (Remote edge address rd) (Remote other_edge other_address other_rd) =
+    IsFirst rule cost Named edge address rd other_edge other_address other_rd
+
+-- The VRF chooses the origin: it is that of a candidate. Where it is remote, no candidate is local, and it is the edge that
+-- the rule names: by Highest that of the highest address, by Nearest that of the least cost and of those the highest
+-- address, and by Hash the one that the hash of source and group names; of its routes, the least route distinguisher.
+pub record IsChosen (rule : Rule) (cost : NodeId → ℕ) (routes : List KnownRoute) (source group : Addr) (origin : Origin) : Type 0 where
+  pub route : KnownRoute
+  pub candidate : IsCandidate routes source route
+  pub of_origin : route.origin ≡ origin
+  pub first : (other : KnownRoute) → IsCandidate routes source other
+      → Precedes rule cost (IsHashed routes source group) route.origin other.origin
 
 -- No route covers the source.
 abbrev pub IsUncovered : List KnownRoute → Addr → Type 0
@@ -133,8 +217,8 @@ of_site route = record { prefix = route.prefix; origin = Local route.site }
 
 -- Remote origins of one edge have one address, and those of two edges have different ones.
 abbrev pub AreTold : Origin → Origin → Type 0
-AreTold origin other = (edge other_edge : NodeId) (address other_address : Addr) (rd other_rd : Rd) → origin ≡ Remote edge address rd → other ≡ Remote other_edge other_address other_rd
-    → (edge ≡ other_edge) ↔ (address ≡ other_address)
+AreTold origin other = (edge other_edge : NodeId) (address other_address : Addr) (rd other_rd : Rd)
+    → origin ≡ Remote edge address rd → other ≡ Remote other_edge other_address other_rd → (edge ≡ other_edge) ↔ (address ≡ other_address)
 
 -- An edge has one address, and two edges have different ones.
 abbrev pub AreOfEdges : List KnownRoute → Type 0
@@ -146,8 +230,8 @@ IsOnePrefix a b = (a.bits ≡ b.bits) × (same_front a.addr b.addr a.bits ≡ tr
 
 -- Local routes of one prefix are of one site.
 abbrev pub AreOfSites : List KnownRoute → Type 0
-AreOfSites routes = (route other : KnownRoute) (site other_site : SiteId) → Among route routes → Among other routes → IsOnePrefix route.prefix other.prefix
-    → route.origin ≡ Local site → other.origin ≡ Local other_site → site ≡ other_site
+AreOfSites routes = (route other : KnownRoute) (site other_site : SiteId) → Among route routes → Among other routes
+    → IsOnePrefix route.prefix other.prefix → route.origin ≡ Local site → other.origin ≡ Local other_site → site ≡ other_site
 
 -- Each route is local.
 abbrev pub AreLocal : List KnownRoute → Type 0

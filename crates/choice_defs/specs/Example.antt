@@ -5,14 +5,21 @@ use Rattle.mv_base.specs.declared.addr.Addr.TheVariants.{V4}
 use Rattle.mv_base.specs.declared.ids.NodeId.{NodeId}
 use Rattle.mv_base.specs.declared.prefix.Prefix.{Prefix}
 use Rattle.mv_base.specs.declared.rd.Rd.{Rd}
-use Rattle.mv_base.specs.declared.rd.Rule.TheVariants.{Highest, Nearest}
+use Rattle.mv_base.specs.declared.rd.Rule.TheVariants.{Highest, Nearest, Hash}
 use Rattle.choice_defs.specs.declared.known_route.KnownRoute.{KnownRoute}
 use Rattle.choice_defs.specs.declared.origin.Origin.{Origin}
 use Rattle.choice_defs.specs.declared.origin.Origin.TheVariants.{Local, Remote}
-use Rattle.choice_defs.specs.Choice.{choose, AreOfEdges, AreOfSites}
+use Rattle.choice_defs.specs.Choice.{hash_of, choose, AreOfEdges, AreOfSites}
 
 abbrev pub source : Addr
 source = V4 (10 ∷ 1 ∷ 0 ∷ 9 ∷ [])
+
+-- 232.1.1.1 and 232.1.1.2
+abbrev pub group : Addr
+group = V4 (232 ∷ 1 ∷ 1 ∷ 1 ∷ [])
+
+abbrev pub other_group : Addr
+other_group = V4 (232 ∷ 1 ∷ 1 ∷ 2 ∷ [])
 
 -- 10.0.0.0/8 and 10.1.0.0/16
 abbrev pub short : Prefix
@@ -55,11 +62,16 @@ far_route = record { prefix = long; origin = far }
 abbrev pub routes : List KnownRoute
 routes = local_route ∷ near_route ∷ far_route ∷ []
 
--- The routes are of edges and of sites. The edge of the higher address is chosen by Highest, and the nearer one by Nearest;
--- a longer route of another edge counts before a shorter local one.
+-- The routes are of edges and of sites. The edge of the higher address is chosen by Highest, and the nearer one by Nearest. By
+-- Hash the edges are counted from 0 by rising address: the exclusive or of all octets of source and group is 235, which is 1
+-- modulo 2, and with the other group 232, which is 0. A longer route of another edge counts before a shorter local one.
 pub record Worked : Type 0 where
   pub edges : AreOfEdges routes
   pub sites : AreOfSites routes
-  pub highest : choose Highest cost routes source ≡ Some far
-  pub nearest : choose Nearest cost routes source ≡ Some near
-  pub alone : choose Nearest cost (local_route ∷ []) source ≡ Some here
+  pub highest : choose Highest cost routes source group ≡ Some far
+  pub nearest : choose Nearest cost routes source group ≡ Some near
+  pub number : hash_of source group ≡ 235
+  pub hashed : choose Hash cost routes source group ≡ Some far
+  pub other_number : hash_of source other_group ≡ 232
+  pub other_hashed : choose Hash cost routes source other_group ≡ Some near
+  pub alone : choose Nearest cost (local_route ∷ []) source group ≡ Some here

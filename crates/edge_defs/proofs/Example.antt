@@ -15,7 +15,7 @@ use Rattle.mv_base.specs.Number.{◌>>?◌}
 use Rattle.mv_base.specs.declared.ids.NodeId.{NodeId}
 use Rattle.bgp_attributes.specs.declared.key.Key.{Key}
 use Rattle.mldp_fec.specs.declared.fec.Fec.{Fec}
-use Rattle.choice_defs.specs.Choice.{best_route, cost_by, of_site}
+use Rattle.choice_defs.specs.Choice.{best_route, of_site}
 use Rattle.choice_defs.specs.declared.known_route.KnownRoute.{KnownRoute}
 use Rattle.choice_defs.specs.declared.origin.Origin.TheVariants as origins
 use Rattle.scenario_defs.specs.Home.{local_routes}
@@ -27,13 +27,13 @@ use Rattle.label_defs.specs.Members.{in_order}
 use Rattle.selective_defs.specs.Selective.{Among}
 use Rattle.edge_defs.specs.Edge.{Note, Upstream, Remote, VrfPattern, Selected, VrfFlow, TakenRoute, Taken, note_cmp, pattern_cmp, flow_cmp, no_control}
 use Rattle.edge_defs.specs.Imported.{found_in, imported_inclusive, join_by}
-use Rattle.edge_defs.specs.Example.{first, second, first_addr, first_prefix, second_vrf, second_prefix, second_own, second_control, first_table, distinguisher, place_of, inclusive_key, inclusive_value, inclusive_tunnel, unicast_key, unicast_value, taken, source, upstream}
+use Rattle.edge_defs.specs.Example.{first, second, first_addr, first_prefix, second_vrf, second_prefix, second_own, second_control, first_table, distinguisher, place_of, inclusive_key, inclusive_value, inclusive_tunnel, unicast_key, unicast_value, taken, source, group, upstream}
 use Rattle.edge_defs.specs.Keys.{Value, key_cmp}
 use Rattle.edge_defs.specs.Originated.{originated, inclusive_route, unicast_routes, selective_key, tunnel_value, active_key, plain_value, is_iface_of}
 use Rattle.edge_defs.specs.Place.{OwnVrf, own_vrfs, tunnel_number}
 use Rattle.edge_defs.specs.Steps.{changed_leaves}
 use Rattle.edge_defs.specs.Tunnels.{flow_tunnels, inclusive_tunnels, leaves, tunnels_of}
-use Rattle.edge_defs.specs.Upstream.{known_from, known_route, known_routes, upstream_by, upstream_for}
+use Rattle.edge_defs.specs.Upstream.{costs_of, known_from, known_route, known_routes, upstream_by, upstream_for}
 use Rattle.edge_defs.proofs.KeyLemmas.{key_total, note_total}
 use Rattle.edge_defs.proofs.LeafLemmas.{call_for, changed_from, changed_to}
 
@@ -101,8 +101,12 @@ known =
     ap (λ (peers : List (NodeId × Taken)). own_routes ++ flat_map (known_from (place_of second) second_vrf) peers) peers_entries
     ∙ ap (λ (entries : List (Key × TakenRoute)). own_routes ++ (found_in (known_route (place_of second) second_vrf first) entries ++ [])) table_entries
 
-best : best_route (cost_by second_vrf.rule ((place_of second).core.cost (place_of second).me)) (known_routes (place_of second) second_control second_own) source ≡ Some remote
-best = ap (λ (routes : List KnownRoute). best_route (cost_by second_vrf.rule ((place_of second).core.cost (place_of second).me)) routes source) known
+best_of : List KnownRoute → Option KnownRoute
+best_of routes = best_route (costs_of (place_of second) second_own routes source group) routes source
+
+unfolding best_of
+best : best_of (known_routes (place_of second) second_control second_own) ≡ Some remote
+best = ap best_of known
 
 abbrev table_of : Option Taken → Taken
 table_of got = elim got [ None ↦ maps.empty | Some table ↦ table ]
@@ -115,7 +119,8 @@ by_remote =
     ap (λ (got : Option Taken). told_by (maps.get (table_of got) unicast_key)) peer_table
     ∙ ap told_by unicast_taken
 
-pub chooses : upstream_for (place_of second) second_control second_own source ≡ Some upstream
+unfolding best_of
+pub chooses : upstream_for (place_of second) second_control second_own source group ≡ Some upstream
 chooses = ap (λ (route : Option KnownRoute). route >>? upstream_by (place_of second) second_control) best ∙ by_remote
 
 -- the tunnels that it wants

@@ -18,7 +18,7 @@ use Rattle.bgp_update.specs.Written.{vpn_text}
 use Rattle.table_laws.specs.Words.{IsExact}
 use Rattle.selective_defs.proofs.PartLemmas.{one_addr, one_word}
 use Rattle.edge_defs.specs.Edge.{Note, VrfPattern, VrfFlow, note_cmp, pattern_cmp, flow_cmp}
-use Rattle.edge_defs.specs.Keys.{Value, addr_part, word_part, key_parts, parts_cmp, key_cmp, value_parts, same_value}
+use Rattle.edge_defs.specs.Keys.{Value, addr_part, word_part, afi_number, prefix_afi, key_parts, parts_cmp, key_cmp, value_parts, same_value}
 use Rattle.edge_defs.proofs.PartLemmas.{one_key, one_value}
 
 parts_total : IsTotalOrder parts_cmp
@@ -106,6 +106,23 @@ unicast_first rd prefix Ipv6 route = refl
 pub ipv4_first : (own other : Route) → key_cmp (Mcast Ipv4 own) (Mcast Ipv6 other) ≡ Less
 ipv4_first own other = refl
 
+-- the parts of keys by the AFI of their prefixes
+parts_by : Afi → Rd → Prefix → List (List ℕ)
+parts_by afi rd prefix = (0 ∷ afi_number afi ∷ []) ∷ vpn_text [] rd prefix ∷ rd.0 ∷ addr_part prefix.addr ∷ (prefix.bits ∷ []) ∷ []
+
+afi_by : Addr → Afi
+afi_by addr = elim addr [ V4 octets ↦ Ipv4 | V6 octets ↦ Ipv6 ]
+
+unfolding parts_by
+first_by : (a b : Afi) (rd other_rd : Rd) (prefix other : Prefix) → a ≡ Ipv4 → b ≡ Ipv6 → parts_cmp (parts_by a rd prefix) (parts_by b other_rd other) ≡ Less
+first_by a b rd other_rd prefix other h k =
+    ap (λ (x : Afi). parts_cmp (parts_by x rd prefix) (parts_by b other_rd other)) h ∙ ap (λ (y : Afi). parts_cmp (parts_by Ipv4 rd prefix) (parts_by y other_rd other)) k
+
+unfolding parts_by, afi_by
+pub ipv4_prefix_first : (rd other_rd : Rd) (prefix other : Prefix) (octets other_octets : List ℕ) → prefix.addr ≡ V4 octets → other.addr ≡ V6 other_octets
+    → key_cmp (Unicast rd prefix) (Unicast other_rd other) ≡ Less
+ipv4_prefix_first rd other_rd prefix other octets other_octets h k = first_by (prefix_afi prefix) (prefix_afi other) rd other_rd prefix other (ap afi_by h) (ap afi_by k)
+
 -- what tells is told at once
 told : (order rest : Ordering) → order ≢ Equal → ordering_then order rest ≡ order
 told Less rest differs = refl
@@ -116,6 +133,16 @@ pub routes_by_octets : (afi : Afi) (own other : Route) → slice_cmp nat_cmp (wr
 routes_by_octets Ipv4 own other differs = told (slice_cmp nat_cmp (written own) (written other)) _ differs
 routes_by_octets Ipv6 own other differs = told (slice_cmp nat_cmp (written own) (written other)) _ differs
 
-pub prefixes_by_octets : (rd other_rd : Rd) (prefix other : Prefix) → slice_cmp nat_cmp (vpn_text [] rd prefix) (vpn_text [] other_rd other) ≢ Equal →
-    key_cmp (Unicast rd prefix) (Unicast other_rd other) ≡ slice_cmp nat_cmp (vpn_text [] rd prefix) (vpn_text [] other_rd other)
-prefixes_by_octets rd other_rd prefix other differs = told (slice_cmp nat_cmp (vpn_text [] rd prefix) (vpn_text [] other_rd other)) _ differs
+unfolding parts_by
+by_octets : (a b : Afi) (rd other_rd : Rd) (prefix other : Prefix) → a ≡ b → slice_cmp nat_cmp (vpn_text [] rd prefix) (vpn_text [] other_rd other) ≢ Equal
+    → parts_cmp (parts_by a rd prefix) (parts_by b other_rd other) ≡ slice_cmp nat_cmp (vpn_text [] rd prefix) (vpn_text [] other_rd other)
+by_octets Ipv4 Ipv4 rd other_rd prefix other same differs = told (slice_cmp nat_cmp (vpn_text [] rd prefix) (vpn_text [] other_rd other)) _ differs
+by_octets Ipv6 Ipv6 rd other_rd prefix other same differs = told (slice_cmp nat_cmp (vpn_text [] rd prefix) (vpn_text [] other_rd other)) _ differs
+by_octets Ipv4 Ipv6 rd other_rd prefix other same differs = absurd cc
+by_octets Ipv6 Ipv4 rd other_rd prefix other same differs = absurd cc
+
+unfolding parts_by
+pub prefixes_by_octets : (rd other_rd : Rd) (prefix other : Prefix) → prefix_afi prefix ≡ prefix_afi other
+    → slice_cmp nat_cmp (vpn_text [] rd prefix) (vpn_text [] other_rd other) ≢ Equal
+    → key_cmp (Unicast rd prefix) (Unicast other_rd other) ≡ slice_cmp nat_cmp (vpn_text [] rd prefix) (vpn_text [] other_rd other)
+prefixes_by_octets rd other_rd prefix other same differs = by_octets (prefix_afi prefix) (prefix_afi other) rd other_rd prefix other same differs

@@ -44,16 +44,21 @@ is_from_edge edge other = false
 
 -- whether the interface belongs to another site
 abbrev pub is_outside : Scenario → SiteId → IfaceId → Bool
-is_outside scenario site iface = elim (slice_get scenario.ifaces iface.0) [ None ↦ false | Some found ↦ not (is_of_site site found) ]
+is_outside scenario site iface =
+    elim (slice_get scenario.ifaces iface.0) [ None ↦ false | Some found ↦ not (is_of_site site found) ]
 
--- A datagram of a site enters at a VRF only where the VRF's upstream for its source is that site. It leaves at each interface outside
--- the site that asks for it; and where another edge has joined the flow, a copy goes on each branch of the tunnel that is transmitted on.
+-- A datagram of a site enters at a VRF only where the VRF's upstream for its source and group is that site. It leaves at each
+-- interface outside the site that asks for it; and where another edge has joined the flow, a copy goes on each branch of the tunnel that
+-- is transmitted on.
 abbrev pub entering_fate : EdgePlace → ℕ → EdgeData → OwnVrf → SiteId → Addr → Addr → Fate
 entering_fate place now edge own site source group =
-    if is_from_site site (upstream_for place edge.control own source)
+    if is_from_site site (upstream_for place edge.control own source group)
     then record {
       outs = filter (is_outside place.scenario site) (asking_ifaces place now edge.control own source group);
-      branches = if is_joined_in place edge.control own source group then branches_of edge.part (transmit_tunnel place edge.control own source group) else [];
+      branches =
+        if is_joined_in place edge.control own source group
+        then branches_of edge.part (transmit_tunnel place edge.control own source group)
+        else [];
     }
     else discarded
 
@@ -76,11 +81,13 @@ is_route_of place own peer fec entry =
 abbrev pub is_imported_from : EdgePlace → OwnVrf → Fec → NodeId × Taken → Bool
 is_imported_from place own fec peer = list_any (is_route_of place own peer.0 fec) (maps.entries peer.1)
 
--- The copy is delivered at a VRF that imports a route of the tunnel, where the VRF's upstream for the source is the tunnel's root: it
--- leaves at each interface that asks for it.
+-- The copy is delivered at a VRF that imports a route of the tunnel, where the VRF's upstream for its source and group is the
+-- tunnel's root: it leaves at each interface that asks for it.
 abbrev pub outs_from : EdgePlace → ℕ → Control → OwnVrf → Fec → Addr → Addr → NodeId × Taken → List IfaceId
 outs_from place now control own fec source group peer =
-    if is_imported_from place own fec peer && is_from_edge peer.0 (upstream_for place control own source) then asking_ifaces place now control own source group else []
+    if is_imported_from place own fec peer && is_from_edge peer.0 (upstream_for place control own source group)
+    then asking_ifaces place now control own source group
+    else []
 
 abbrev pub outs_at : EdgePlace → ℕ → Control → Fec → Addr → Addr → OwnVrf → List IfaceId
 outs_at place now control fec source group own = flat_map (outs_from place now control own fec source group) (maps.entries control.peers)

@@ -28,4 +28,5 @@ abbrev pub due : EdgePlace → ℕ → EdgeData → ℕ
 due place now edge =
     labels.due (label_place place.scenario place.core place.me) now edge.part
     + (entries.due edge.control.entries now
-    + (count_by (is_selection_due place.scenario.delay now) (maps.values edge.control.selections) + sum_by (due_from place now) (maps.entries edge.control.peers)))
+    + (count_by (is_selection_due place.scenario.delay now) (maps.values edge.control.selections)
+    + sum_by (due_from place now) (maps.entries edge.control.peers)))

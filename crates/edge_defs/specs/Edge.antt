@@ -27,7 +27,9 @@ pub record Note : Type 0 where
   pub group : Addr
 
 abbrev pub note_cmp : Note → Note → Ordering
-note_cmp a b = parts_cmp ((a.iface.0 ∷ []) ∷ addr_part a.source ∷ addr_part a.group ∷ []) ((b.iface.0 ∷ []) ∷ addr_part b.source ∷ addr_part b.group ∷ [])
+note_cmp a b =
+    parts_cmp ((a.iface.0 ∷ []) ∷ addr_part a.source ∷ addr_part a.group ∷ [])
+    ((b.iface.0 ∷ []) ∷ addr_part b.source ∷ addr_part b.group ∷ [])
 
 -- A pattern that is selected in a VRF.
 pub record VrfPattern : Type 0 where
@@ -35,7 +37,9 @@ pub record VrfPattern : Type 0 where
   pub pattern : Pattern
 
 abbrev pub pattern_cmp : VrfPattern → VrfPattern → Ordering
-pattern_cmp a b = parts_cmp ((a.vrf.0 ∷ []) ∷ word_part a.pattern.source ∷ word_part a.pattern.group ∷ []) ((b.vrf.0 ∷ []) ∷ word_part b.pattern.source ∷ word_part b.pattern.group ∷ [])
+pattern_cmp a b =
+    parts_cmp ((a.vrf.0 ∷ []) ∷ word_part a.pattern.source ∷ word_part a.pattern.group ∷ [])
+    ((b.vrf.0 ∷ []) ∷ word_part b.pattern.source ∷ word_part b.pattern.group ∷ [])
 
 -- A flow of a VRF.
 pub record VrfFlow : Type 0 where
@@ -44,7 +48,9 @@ pub record VrfFlow : Type 0 where
   pub group : Addr
 
 abbrev pub flow_cmp : VrfFlow → VrfFlow → Ordering
-flow_cmp a b = parts_cmp ((a.vrf.0 ∷ []) ∷ addr_part a.source ∷ addr_part a.group ∷ []) ((b.vrf.0 ∷ []) ∷ addr_part b.source ∷ addr_part b.group ∷ [])
+flow_cmp a b =
+    parts_cmp ((a.vrf.0 ∷ []) ∷ addr_part a.source ∷ addr_part a.group ∷ [])
+    ((b.vrf.0 ∷ []) ∷ addr_part b.source ∷ addr_part b.group ∷ [])
 
 -- ---- what is kept
 

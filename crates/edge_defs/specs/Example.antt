@@ -77,10 +77,12 @@ target = record { 0 = 0 ∷ 2 ∷ 253 ∷ 232 ∷ 0 ∷ 0 ∷ 0 ∷ 1 ∷ [] }
 
 -- the VRFs V1 and V2
 abbrev pub first_vrf : Vrf
-first_vrf = record { name = 86 ∷ 49 ∷ []; edge = first; number = 1; rd = distinguisher; targets = record { 0 = target } ∷ []; rule = Highest }
+first_vrf =
+    record { name = 86 ∷ 49 ∷ []; edge = first; number = 1; rd = distinguisher; targets = record { 0 = target } ∷ []; rule = Highest }
 
 abbrev pub second_vrf : Vrf
-second_vrf = record { name = 86 ∷ 50 ∷ []; edge = second; number = 1; rd = distinguisher; targets = record { 0 = target } ∷ []; rule = Highest }
+second_vrf =
+    record { name = 86 ∷ 50 ∷ []; edge = second; number = 1; rd = distinguisher; targets = record { 0 = target } ∷ []; rule = Highest }
 
 abbrev pub first_prefix : Prefix
 first_prefix = record { addr = V4 (10 ∷ 1 ∷ 0 ∷ 0 ∷ []); bits = 24 }
@@ -131,7 +133,9 @@ abbrev pub inclusive_tunnel : Fec
 inclusive_tunnel = record { kind = P2mp; root = first_addr; opaque = 1 ∷ 0 ∷ 4 ∷ 0 ∷ 16 ∷ 0 ∷ 0 ∷ [] }
 
 abbrev pub inclusive_value : Value
-inclusive_value = record { next_hop = first_addr; comms = target ∷ []; pmsi = Some (record { leaf_info = false; tunnel = tunnels.Mldp inclusive_tunnel; label = None }) }
+inclusive_value =
+    let tunnel = record { leaf_info = false; tunnel = tunnels.Mldp inclusive_tunnel; label = None } in
+    record { next_hop = first_addr; comms = target ∷ []; pmsi = Some tunnel }
 
 abbrev pub unicast_key : Key
 unicast_key = Unicast distinguisher first_prefix
@@ -197,9 +201,15 @@ pub record Worked : Type 0 where
   pub originates : originated (place_of first) no_control ≡ (inclusive_key, inclusive_value) ∷ (unicast_key, unicast_value) ∷ []
   pub inclusive_octets : length (written (as_update (Reach inclusive_key inclusive_value))) ≡ 99
   pub unicast_octets : length (written (as_update (Reach unicast_key unicast_value))) ≡ 99
-  pub joins : option_map (λ (route : Key × Value). written (as_update (Reach route.0 route.1))) (join_route (place_of second) first (flow, Some upstream)) ≡ Some join_octets
-  pub joins_by : (rd : Rd) (import : Import) (source_as : ℕ) → join_route (place_of second) first (flow, Some (Remote first rd import source_as)) ≡ Some (join_key rd source_as, join_value import)
+  pub joins :
+      option_map (λ (route : Key × Value). written (as_update (Reach route.0 route.1)))
+      (join_route (place_of second) first (flow, Some upstream))
+      ≡ Some join_octets
+  pub joins_by : (rd : Rd) (import : Import) (source_as : ℕ) →
+      join_route (place_of second) first (flow, Some (Remote first rd import source_as)) ≡ Some (join_key rd source_as, join_value import)
   pub tunnel : lsp (own_addr (place_of first)) (tunnel_number first_vrf 0) ≡ inclusive_tunnel
-  pub chooses : upstream_for (place_of second) second_control second_own source ≡ Some upstream
+  pub chooses : upstream_for (place_of second) second_control second_own source group ≡ Some upstream
   pub leaf : sets.contains (leaves (place_of second) second_control) inclusive_tunnel ≡ true
-  pub wants : (call : labels.Call) → Among call (changed_leaves (leaves (place_of second) no_control) (leaves (place_of second) second_control)) ↔ (call ≡ labels.Want inclusive_tunnel)
+  pub wants : (call : labels.Call) →
+      Among call (changed_leaves (leaves (place_of second) no_control) (leaves (place_of second) second_control))
+      ↔ (call ≡ labels.Want inclusive_tunnel)

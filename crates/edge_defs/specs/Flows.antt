@@ -39,7 +39,8 @@ is_active place control own source group = list_any (same_flow source group) (ac
 
 -- whether the interface asks for (S,G)
 abbrev pub is_asking : EdgePlace → ℕ → Control → OwnVrf → Addr → Addr → IfaceId → Bool
-is_asking place now control own source group iface = asks control.entries iface source group (is_active place control own source group) now
+is_asking place now control own source group iface =
+    asks control.entries iface source group (is_active place control own source group) now
 
 -- the interfaces of the VRF, in order
 abbrev pub ifaces_of : EdgePlace → OwnVrf → List IfaceId
@@ -58,7 +59,8 @@ is_flow place now control own flow = list_any (is_asking place now control own f
 -- the (S,G) that an entry joins itself
 abbrev pub joined_by : EdgePlace → OwnVrf → IfaceEntry → Option FlowRoute
 joined_by place own at = elim at.entry [
-  | entries.Source source group ↦ if is_iface_of place.scenario own.id at.iface then Some (record { source = source; group = group }) else None
+  | entries.Source source group ↦
+      if is_iface_of place.scenario own.id at.iface then Some (record { source = source; group = group }) else None
   | entries.Star group ↦ None
   | entries.Rpt source group ↦ None
 ]
@@ -69,10 +71,12 @@ possible_flows place control own = found_in (joined_by place own) (maps.keys con
 
 -- a flow of the VRF, with its upstream
 abbrev pub with_upstream : EdgePlace → Control → OwnVrf → FlowRoute → VrfFlow × Option Upstream
-with_upstream place control own flow = (record { vrf = own.id; source = flow.source; group = flow.group }, upstream_for place control own flow.source)
+with_upstream place control own flow =
+    (record { vrf = own.id; source = flow.source; group = flow.group }, upstream_for place control own flow.source flow.group)
 
 abbrev pub vrf_flows : EdgePlace → ℕ → Control → OwnVrf → List (VrfFlow × Option Upstream)
-vrf_flows place now control own = map (with_upstream place control own) (filter (is_flow place now control own) (possible_flows place control own))
+vrf_flows place now control own =
+    map (with_upstream place control own) (filter (is_flow place now control own) (possible_flows place control own))
 
 -- The flows of the edge at a clock: each (S,G) for which some interface of a VRF asks, with the upstream that the VRF chooses for it.
 abbrev pub flows_at : EdgePlace → ℕ → Control → FinMap flow_cmp (Option Upstream)

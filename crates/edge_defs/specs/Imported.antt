@@ -39,11 +39,16 @@ has_comm wanted comms = list_any (λ comm. pointwise nat_eq wanted.0 comm.0) com
 
 -- the VRF Route Imports and the Source ASs among the communities
 abbrev pub import_in : ExtComm → Option Import
-import_in comm = if pointwise nat_eq (take 2 comm.0) (0x01 ∷ 0x0B ∷ []) then Some (record { addr = V4 (take 4 (drop 2 comm.0)); number = from_be_bytes w16 (drop 6 comm.0) }) else None
+import_in comm =
+    if pointwise nat_eq (take 2 comm.0) (0x01 ∷ 0x0B ∷ [])
+    then Some (record { addr = V4 (take 4 (drop 2 comm.0)); number = from_be_bytes w16 (drop 6 comm.0) })
+    else None
 
 abbrev pub source_as_in : ExtComm → Option ℕ
 source_as_in comm =
-    if pointwise nat_eq (take 2 comm.0) (0x00 ∷ 0x09 ∷ []) && pointwise nat_eq (drop 4 comm.0) (0 ∷ 0 ∷ 0 ∷ 0 ∷ []) then Some (from_be_bytes w16 (take 2 (drop 2 comm.0))) else None
+    if pointwise nat_eq (take 2 comm.0) (0x00 ∷ 0x09 ∷ []) && pointwise nat_eq (drop 4 comm.0) (0 ∷ 0 ∷ 0 ∷ 0 ∷ [])
+    then Some (from_be_bytes w16 (take 2 (drop 2 comm.0)))
+    else None
 
 -- what is found in a list, and the one thing of a list
 abbrev pub found_in : {A B : Type 0} → (A → Option B) → List A → List B
@@ -105,7 +110,8 @@ is_passed_over Ipv4 source group = false
 is_passed_over Ipv6 source group = is_none source && is_none group
 
 abbrev pub selective_of : Key → Option SelectiveRoute
-selective_of (Mcast afi (routes.Selective rd source group originator)) = only_if (not (is_passed_over afi source group)) (record { rd = rd; source = source; group = group; originator = originator })
+selective_of (Mcast afi (routes.Selective rd source group originator)) =
+    only_if (not (is_passed_over afi source group)) (record { rd = rd; source = source; group = group; originator = originator })
 selective_of other = None
 
 -- A Source Active A-D route, or a Source Tree Join: its source and group.
@@ -125,7 +131,10 @@ taken_from control peer = elim (maps.get control.peers peer) [ None ↦ maps.emp
 
 -- the tunnel of an inclusive route that the VRF imports from the peer of that address
 abbrev pub imported_inclusive : Vrf → Addr → Key × TakenRoute → Option Fec
-imported_inclusive vrf peer entry = inclusive_of entry.0 >>? λ originator. only_if (is_admitted vrf entry.1.value.comms) entry.1.value >>? λ value. tunnel_by peer originator value
+imported_inclusive vrf peer entry =
+    inclusive_of entry.0 >>? λ originator.
+    only_if (is_admitted vrf entry.1.value.comms) entry.1.value >>? λ value.
+    tunnel_by peer originator value
 
 -- A selective route that the VRF imports, with its tunnel.
 pub record ImportedSelective : Type 0 where
@@ -146,5 +155,8 @@ imported_active vrf entry = active_of entry.0 >>? λ flow. only_if (is_admitted 
 -- A Source Tree Join is used by the VRF that one of its Route Targets names, where RD and Source AS are the VRF's own.
 abbrev pub imported_join : EdgePlace → Vrf → Key × TakenRoute → Option FlowRoute
 imported_join place vrf (Mcast afi (routes.SourceJoin rd source_as source group), taken) =
-    only_if (pointwise nat_eq rd.0 vrf.rd.0 && (source_as == place.scenario.system) && has_comm (import_target (own_import place vrf)) taken.value.comms) (record { source = source; group = group })
+    only_if
+    (pointwise nat_eq rd.0 vrf.rd.0 && (source_as == place.scenario.system)
+    && has_comm (import_target (own_import place vrf)) taken.value.comms)
+    (record { source = source; group = group })
 imported_join place vrf other = None

@@ -5,6 +5,8 @@ use Rattle.std.specs.declared.cmp.Ordering.{Ordering}
 use Rattle.std.specs.Cmp.Lexicographic.{slice_cmp}
 use Rattle.std.specs.FinMap.{FinMap}
 use Rattle.mv_base.specs.declared.addr.Addr.{Addr}
+use Rattle.mv_base.specs.declared.addr.Addr.TheVariants.{V4, V6}
+use Rattle.mv_base.specs.declared.prefix.Prefix.{Prefix}
 use Rattle.mldp_fec.specs.declared.fec.FecKind.{FecKind}
 use Rattle.mldp_fec.specs.declared.fec.FecKind.TheVariants.{P2mp, Up, Down}
 use Rattle.pmsi_attr.specs.declared.pmsi.Pmsi.{Pmsi}
@@ -31,23 +33,30 @@ afi_number Ipv6 = 2
 
 abbrev pub leaf_parts : LeafKey → List (List ℕ)
 leaf_parts (leaf_keys.Inter rd source_as) = (2 ∷ source_as ∷ []) ∷ rd.0 ∷ []
-leaf_parts (leaf_keys.Selective rd source group originator) = (3 ∷ []) ∷ rd.0 ∷ word_part source ∷ word_part group ∷ addr_part originator ∷ []
+leaf_parts (leaf_keys.Selective rd source group originator) =
+    (3 ∷ []) ∷ rd.0 ∷ word_part source ∷ word_part group ∷ addr_part originator ∷ []
 
 -- the parts of a route, which tell it from every other one
 abbrev pub route_parts : Route → List (List ℕ)
 route_parts (routes.Intra rd originator) = (1 ∷ []) ∷ rd.0 ∷ addr_part originator ∷ []
 route_parts (routes.Inter rd source_as) = (2 ∷ source_as ∷ []) ∷ rd.0 ∷ []
-route_parts (routes.Selective rd source group originator) = (3 ∷ []) ∷ rd.0 ∷ word_part source ∷ word_part group ∷ addr_part originator ∷ []
+route_parts (routes.Selective rd source group originator) =
+    (3 ∷ []) ∷ rd.0 ∷ word_part source ∷ word_part group ∷ addr_part originator ∷ []
 route_parts (routes.Leaf key originator) = (4 ∷ []) ∷ addr_part originator ∷ leaf_parts key
 route_parts (routes.Active rd source group) = (5 ∷ []) ∷ rd.0 ∷ addr_part source ∷ addr_part group ∷ []
 route_parts (routes.SharedJoin rd source_as source group) = (6 ∷ source_as ∷ []) ∷ rd.0 ∷ addr_part source ∷ addr_part group ∷ []
 route_parts (routes.SourceJoin rd source_as source group) = (7 ∷ source_as ∷ []) ∷ rd.0 ∷ addr_part source ∷ addr_part group ∷ []
 route_parts (routes.Other kind octets) = (8 ∷ kind ∷ []) ∷ octets ∷ []
 
--- What keys are ordered by: unicast keys before multicast keys, those of AFI 1 before those of AFI 2, and then the octets that spell
--- them, the label of a unicast route aside. The parts of the key stand behind, so that no two keys tie.
+-- the AFI of a prefix
+abbrev pub prefix_afi : Prefix → Afi
+prefix_afi prefix = elim prefix.addr [ V4 octets ↦ Ipv4 | V6 octets ↦ Ipv6 ]
+
+-- What keys are ordered by: unicast keys before multicast keys, in each kind those of AFI 1 before those of AFI 2, and then the octets
+-- that spell them, the label of a unicast route aside. The parts of the key stand behind, so that no two keys tie.
 abbrev pub key_parts : Key → List (List ℕ)
-key_parts (Unicast rd prefix) = (0 ∷ []) ∷ vpn_text [] rd prefix ∷ rd.0 ∷ addr_part prefix.addr ∷ (prefix.bits ∷ []) ∷ []
+key_parts (Unicast rd prefix) =
+    (0 ∷ afi_number (prefix_afi prefix) ∷ []) ∷ vpn_text [] rd prefix ∷ rd.0 ∷ addr_part prefix.addr ∷ (prefix.bits ∷ []) ∷ []
 key_parts (Mcast afi route) = (1 ∷ afi_number afi ∷ []) ∷ written route ∷ route_parts route
 
 abbrev pub parts_cmp : List (List ℕ) → List (List ℕ) → Ordering

@@ -62,7 +62,8 @@ abbrev pub inclusive_key : EdgePlace → Vrf → Key
 inclusive_key place vrf = Mcast Ipv4 (routes.Intra vrf.rd (own_addr place))
 
 abbrev pub selective_key : EdgePlace → Vrf → Pattern → Key
-selective_key place vrf pattern = Mcast (afi_by pattern.source pattern.group) (routes.Selective vrf.rd pattern.source pattern.group (own_addr place))
+selective_key place vrf pattern =
+    Mcast (afi_by pattern.source pattern.group) (routes.Selective vrf.rd pattern.source pattern.group (own_addr place))
 
 abbrev pub active_key : Vrf → Addr → Addr → Key
 active_key vrf source group = Mcast (afi_of source) (routes.Active vrf.rd source group)
@@ -73,11 +74,15 @@ plain_value place vrf = record { next_hop = own_addr place; comms = target_comms
 
 -- a unicast route also names the VRF and the autonomous system
 abbrev pub unicast_value : EdgePlace → Vrf → Value
-unicast_value place vrf = record (plain_value place vrf) { comms = target_comms vrf ++ (import_comm (own_import place vrf) ∷ source_as_comm place.scenario.system ∷ []) }
+unicast_value place vrf =
+    let own = import_comm (own_import place vrf) ∷ source_as_comm place.scenario.system ∷ [] in
+    record (plain_value place vrf) { comms = target_comms vrf ++ own }
 
 -- with the tunnel of that number, which this edge is the root of (RFC 6514 section 5)
 abbrev pub tunnel_value : EdgePlace → Vrf → ℕ → Value
-tunnel_value place vrf number = record (plain_value place vrf) { pmsi = Some (record { leaf_info = false; tunnel = tunnels.Mldp (lsp (own_addr place) number); label = None }) }
+tunnel_value place vrf number =
+    let tunnel = record { leaf_info = false; tunnel = tunnels.Mldp (lsp (own_addr place) number); label = None } in
+    record (plain_value place vrf) { pmsi = Some tunnel }
 
 -- ---- the routes
 
@@ -85,9 +90,10 @@ tunnel_value place vrf number = record (plain_value place vrf) { pmsi = Some (re
 abbrev pub inclusive_route : EdgePlace → OwnVrf → Key × Value
 inclusive_route place own = (inclusive_key place own.vrf, tunnel_value place own.vrf (tunnel_number own.vrf 0))
 
--- a VPN-IPv4 route for each prefix of each site that is attached at the VRF
+-- a VPN-IPv4 route for each IPv4 prefix of each site that is attached at the VRF, and a VPN-IPv6 route for each IPv6 prefix (RFC 4659)
 abbrev pub unicast_routes : EdgePlace → OwnVrf → List (Key × Value)
-unicast_routes place own = map (λ route. (Unicast own.vrf.rd route.prefix, unicast_value place own.vrf)) (local_routes place.scenario own.id)
+unicast_routes place own =
+    map (λ route. (Unicast own.vrf.rd route.prefix, unicast_value place own.vrf)) (local_routes place.scenario own.id)
 
 -- whether the interface is one of the VRF
 abbrev pub is_iface_of : Scenario → VrfId → IfaceId → Bool
@@ -99,16 +105,19 @@ notes_of place control vrf = filter (λ note. is_iface_of place.scenario vrf not
 
 -- a Source Active A-D route for each source and group that is noted there
 abbrev pub active_routes : EdgePlace → Control → OwnVrf → List (Key × Value)
-active_routes place control own = map (λ note. (active_key own.vrf note.source note.group, plain_value place own.vrf)) (notes_of place control own.id)
+active_routes place control own =
+    map (λ note. (active_key own.vrf note.source note.group, plain_value place own.vrf)) (notes_of place control own.id)
 
 -- an S-PMSI A-D route for each selection of the VRF
 abbrev pub selective_routes : EdgePlace → Control → OwnVrf → List (Key × Value)
 selective_routes place control own =
-    map (λ (entry : VrfPattern × Selected). (selective_key place own.vrf entry.0.pattern, tunnel_value place own.vrf (tunnel_number own.vrf entry.1.number)))
+    map (λ (entry : VrfPattern × Selected).
+      (selective_key place own.vrf entry.0.pattern, tunnel_value place own.vrf (tunnel_number own.vrf entry.1.number)))
     (filter (λ (entry : VrfPattern × Selected). entry.0.vrf.0 == own.id.0) (maps.entries control.selections))
 
 abbrev pub routes_of : EdgePlace → Control → OwnVrf → List (Key × Value)
-routes_of place control own = inclusive_route place own ∷ (unicast_routes place own ++ (selective_routes place control own ++ active_routes place control own))
+routes_of place control own =
+    inclusive_route place own ∷ (unicast_routes place own ++ (selective_routes place control own ++ active_routes place control own))
 
 -- all routes that the edge originates, VRF by VRF
 abbrev pub originated : EdgePlace → Control → List (Key × Value)

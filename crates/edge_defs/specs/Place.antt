@@ -7,6 +7,7 @@ use Rattle.mv_base.specs.Address.{same_addr}
 use Rattle.mv_base.specs.Number.{◌>>?◌}
 use Rattle.mv_base.specs.declared.addr.Addr.{Addr}
 use Rattle.mv_base.specs.declared.addr.Addr.TheVariants.{V4}
+use Rattle.mv_base.specs.declared.core_link.Link.{Link}
 use Rattle.mv_base.specs.declared.ids.NodeId.{NodeId}
 use Rattle.mv_base.specs.declared.ids.VrfId.{VrfId}
 use Rattle.core_walks.specs.Walks.{IsLeast, IsToward}
@@ -22,14 +23,15 @@ pub record Core : Type 0 where
   pub cost : NodeId → NodeId → ℕ
   pub toward : NodeId → NodeId → Option NodeId
 
--- Costs and neighbours are those of the scenario's links. Between numbers that are no nodes of it there are none.
-pub record IsCoreOf (scenario : Scenario) (core : Core) : Type 0 where
-  pub least : (from to : NodeId) → from.0 < length scenario.nodes → to.0 < length scenario.nodes → IsLeast scenario.links from.0 to.0 (core.cost from to)
+-- Costs and neighbours of so many nodes are those of the links. Between numbers that are no nodes there are none.
+pub record IsCoreOf (count : ℕ) (links : List Link) (core : Core) : Type 0 where
+  pub least : (from to : NodeId) → from.0 < count → to.0 < count → IsLeast links from.0 to.0 (core.cost from to)
   pub itself : (node : NodeId) → core.toward node node ≡ None
-  pub first : (from to : NodeId) → from.0 < length scenario.nodes → to.0 < length scenario.nodes → from ≢ to → (next : NodeId) × (core.toward from to ≡ Some next) × IsToward scenario.links from.0 to.0 next.0
-  pub outside : (from to : NodeId) → (length scenario.nodes ≤ from.0) ⊎ (length scenario.nodes ≤ to.0) → (core.cost from to ≡ 0) × (core.toward from to ≡ None)
+  pub first : (from to : NodeId) → from.0 < count → to.0 < count → from ≢ to
+      → (next : NodeId) × (core.toward from to ≡ Some next) × IsToward links from.0 to.0 next.0
+  pub outside : (from to : NodeId) → (count ≤ from.0) ⊎ (count ≤ to.0) → (core.cost from to ≡ 0) × (core.toward from to ≡ None)
 
--- An edge of a scenario, and the core that it knows.
+-- An edge of a scenario, and the core that it knows: that of the links at the costs that it has acted on.
 pub record EdgePlace : Type 0 where
   pub scenario : Scenario
   pub core : Core
@@ -53,7 +55,10 @@ pub record OwnVrf : Type 0 where
 -- of the VRFs, numbered from that one on, those of the edge
 abbrev pub vrfs_from : NodeId → ℕ → List Vrf → List OwnVrf
 vrfs_from me number [] = []
-vrfs_from me number (vrf ∷ more) = if vrf.edge.0 == me.0 then record { id = record { 0 = number }; vrf = vrf } ∷ vrfs_from me (number + 1) more else vrfs_from me (number + 1) more
+vrfs_from me number (vrf ∷ more) =
+    if vrf.edge.0 == me.0
+    then record { id = record { 0 = number }; vrf = vrf } ∷ vrfs_from me (number + 1) more
+    else vrfs_from me (number + 1) more
 
 -- the VRFs of the edge, in order
 abbrev pub own_vrfs : EdgePlace → List OwnVrf

@@ -36,7 +36,8 @@ use Rattle.edge_defs.specs.Place.{EdgePlace, addr_of, own_vrfs, label_place}
 use Rattle.edge_defs.specs.Tunnels.{leaves}
 
 -- What makes a step: a BGP message or a label message that is taken, a Join/Prune message of a customer router, a source that is noted
--- or no longer is, a pattern that is selected or no longer is, an end that comes up, a loss that is noticed, and the timers.
+-- or no longer is, a pattern that is selected or no longer is, an end that comes up, a loss that is noticed, the timers, and other
+-- costs of links: the edge's place has the core by them.
 pub data Call : Type 0 where
   Update : (peer : NodeId) → (message : Message) → Call
   Label : (neighbour : NodeId) → (message : LabelMessage) → Call
@@ -48,6 +49,7 @@ pub data Call : Type 0 where
   Raised : (kind : Kind) → (peer : NodeId) → Call
   Noticed : (kind : Kind) → (peer : NodeId) → Call
   Timers : Call
+  Rerouted : Call
 
 -- ---- routes that are taken
 
@@ -57,7 +59,9 @@ learned now value None = record { value = value; since = now; run = false }
 learned now value (Some old) = if same_value old.value value then old else record { value = value; since = now; run = false }
 
 abbrev pub taken_change : ℕ → Taken → Change → Taken
-taken_change now taken (updates.Reach advert) = maps.insert taken advert.key (learned now (record { next_hop = advert.next_hop; comms = advert.comms; pmsi = advert.pmsi }) (maps.get taken advert.key))
+taken_change now taken (updates.Reach advert) =
+    let value = record { next_hop = advert.next_hop; comms = advert.comms; pmsi = advert.pmsi } in
+    maps.insert taken advert.key (learned now value (maps.get taken advert.key))
 taken_change now taken (updates.Unreach key) = maps.remove taken key
 
 -- a message of a peer whose session is up here: its withdrawals first, and then its advertisements
@@ -86,15 +90,18 @@ abbrev pub selection_run : ℕ → ℕ → Selected → Selected
 selection_run delay now selected = record selected { run = selected.run || nat_le (selected.since + delay) now }
 
 abbrev pub selections_run : ℕ → ℕ → FinMap pattern_cmp Selected → FinMap pattern_cmp Selected
-selections_run delay now old = maps.from_entries (map (λ (entry : VrfPattern × Selected). (entry.0, selection_run delay now entry.1)) (maps.entries old))
+selections_run delay now old =
+    maps.from_entries (map (λ (entry : VrfPattern × Selected). (entry.0, selection_run delay now entry.1)) (maps.entries old))
 
 -- whether some VRF of the edge imports the selective route from the peer
 abbrev pub is_imported : EdgePlace → NodeId → Key × TakenRoute → Bool
-is_imported place peer entry = list_any (λ own. is_some (imported_selective own.vrf (addr_of place.scenario peer) entry)) (own_vrfs place)
+is_imported place peer entry =
+    list_any (λ own. is_some (imported_selective own.vrf (addr_of place.scenario peer) entry)) (own_vrfs place)
 
 -- a selective route that is imported, and whose delay is over
 abbrev pub route_run : EdgePlace → ℕ → NodeId → Key × TakenRoute → Key × TakenRoute
-route_run place now peer entry = (entry.0, record entry.1 { run = entry.1.run || (is_imported place peer entry && nat_le (entry.1.since + place.scenario.delay) now) })
+route_run place now peer entry =
+    (entry.0, record entry.1 { run = entry.1.run || (is_imported place peer entry && nat_le (entry.1.since + place.scenario.delay) now) })
 
 abbrev pub taken_run : EdgePlace → ℕ → NodeId × Taken → NodeId × Taken
 taken_run place now peer = (peer.0, maps.from_entries (map (route_run place now peer.0) (maps.entries peer.1)))
@@ -104,7 +111,12 @@ peers_run place now old = maps.from_entries (map (taken_run place now) (maps.ent
 
 -- all timers of customers and of BGP that are due
 abbrev pub timed : EdgePlace → ℕ → Control → Control
-timed place now old = record old { entries = kept_at old.entries now; selections = selections_run place.scenario.delay now old.selections; peers = peers_run place now old.peers }
+timed place now old =
+    record old {
+      entries = kept_at old.entries now;
+      selections = selections_run place.scenario.delay now old.selections;
+      peers = peers_run place now old.peers;
+    }
 
 -- ---- steps
 
@@ -113,15 +125,19 @@ abbrev pub effect : EdgePlace → ℕ → Control → Call → Control
 effect place now old (Update peer message) = with_update now peer message old
 effect place now old (Label neighbour message) = old
 effect place now old (Pim iface message) = record old { entries = applied old.entries iface message now }
-effect place now old (Active iface source group) = record old { notes = sets.insert old.notes (record { iface = iface; source = source; group = group }) }
-effect place now old (Idle iface source group) = record old { notes = sets.remove old.notes (record { iface = iface; source = source; group = group }) }
+effect place now old (Active iface source group) =
+    record old { notes = sets.insert old.notes (record { iface = iface; source = source; group = group }) }
+effect place now old (Idle iface source group) =
+    record old { notes = sets.remove old.notes (record { iface = iface; source = source; group = group }) }
 effect place now old (Select vrf pattern) = record old { selections = with_selection now vrf pattern old.selections }
-effect place now old (Unselect vrf pattern) = record old { selections = maps.remove old.selections (record { vrf = vrf; pattern = pattern }) }
+effect place now old (Unselect vrf pattern) =
+    record old { selections = maps.remove old.selections (record { vrf = vrf; pattern = pattern }) }
 effect place now old (Raised kinds.Bgp peer) = record old { peers = maps.insert old.peers peer maps.empty }
 effect place now old (Raised kinds.Ldp peer) = old
 effect place now old (Noticed kinds.Bgp peer) = record old { peers = maps.remove old.peers peer }
 effect place now old (Noticed kinds.Ldp peer) = old
 effect place now old Timers = timed place now old
+effect place now old Rerouted = old
 
 -- whether the call is a step of each VRF: a selection changes no flow
 abbrev pub is_vrf_step : Call → Bool
@@ -135,7 +151,9 @@ refreshed place now control = record control { flows = flows_at place now contro
 
 -- what the edge keeps of its customers and of BGP behind a call
 abbrev pub control_step : EdgePlace → ℕ → Control → Call → Control
-control_step place now old call = let own = effect place now old call in if is_vrf_step call then refreshed place now own else own
+control_step place now old call =
+    let own = effect place now old call in
+    if is_vrf_step call then refreshed place now own else own
 
 -- ---- the label part
 
@@ -145,6 +163,7 @@ own_label_call (Label neighbour message) = Some (labels.Taken neighbour message)
 own_label_call (Raised kinds.Ldp peer) = Some (labels.Raised peer)
 own_label_call (Noticed kinds.Ldp peer) = Some (labels.Noticed peer)
 own_label_call Timers = Some labels.Timers
+own_label_call Rerouted = Some labels.Rerouted
 own_label_call other = None
 
 -- the trees of which the node becomes or stops being a leaf, in their order
@@ -186,5 +205,6 @@ pub record EdgeStepped : Type 0 where
 abbrev pub edge_step : EdgePlace → ℕ → EdgeData → Call → Option EdgeStepped
 edge_step place now old call =
     let control = control_step place now old.control call in
-    label_row place now old.part (one_call (own_label_call call) ++ changed_leaves (leaves place old.control) (leaves place control)) >>? λ row.
+    let calls = one_call (own_label_call call) ++ changed_leaves (leaves place old.control) (leaves place control) in
+    label_row place now old.part calls >>? λ row.
     Some (record { edge = record { control = control; part = part_after old.part row }; row = row })

@@ -25,7 +25,8 @@ abbrev pub selection_of : VrfPattern × Selected → Selection
 selection_of entry = record { pattern = entry.0.pattern; number = entry.1.number; since = entry.1.since; run = entry.1.run }
 
 abbrev pub selections_of : Control → VrfId → List Selection
-selections_of control vrf = map selection_of (filter (λ (entry : VrfPattern × Selected). entry.0.vrf.0 == vrf.0) (maps.entries control.selections))
+selections_of control vrf =
+    map selection_of (filter (λ (entry : VrfPattern × Selected). entry.0.vrf.0 == vrf.0) (maps.entries control.selections))
 
 -- the number that a selection adds to that of the VRF, and 0 for the inclusive tunnel
 abbrev pub number_by : Option Selection → ℕ
@@ -34,7 +35,8 @@ number_by (Some selection) = selection.number
 
 -- the tunnel on which the edge transmits (S,G) of a VRF
 abbrev pub transmit_tunnel : EdgePlace → Control → OwnVrf → Addr → Addr → Fec
-transmit_tunnel place control own source group = lsp (own_addr place) (tunnel_number own.vrf (number_by (transmitted (selections_of control own.id) source group)))
+transmit_tunnel place control own source group =
+    lsp (own_addr place) (tunnel_number own.vrf (number_by (transmitted (selections_of control own.id) source group)))
 
 -- whether another edge has joined (S,G) at the VRF by a Source Tree Join
 abbrev pub is_joined_by : EdgePlace → OwnVrf → Addr → Addr → NodeId × Taken → Bool
@@ -49,7 +51,9 @@ is_joined_in place control own source group = list_any (is_joined_by place own s
 abbrev pub learned_route : EdgePlace → OwnVrf → NodeId → Key × TakenRoute → Option LearnedRoute
 learned_route place own peer entry = elim (imported_selective own.vrf (addr_of place.scenario peer) entry) [
   | None ↦ None
-  | Some imported ↦ Some (record { pattern = record { source = imported.route.source; group = imported.route.group }; fec = imported.fec; since = entry.1.since; run = entry.1.run })
+  | Some imported ↦
+      (let pattern = record { source = imported.route.source; group = imported.route.group } in
+      Some (record { pattern = pattern; fec = imported.fec; since = entry.1.since; run = entry.1.run }))
 ]
 
 abbrev pub learned_routes : EdgePlace → Control → OwnVrf → NodeId → List LearnedRoute
@@ -61,7 +65,8 @@ inclusive_tunnels place own peer = found_in (imported_inclusive own.vrf (addr_of
 
 -- the selective tunnels that a flow of the VRF wants: those of its upstream alone
 abbrev pub flow_tunnels : EdgePlace → Control → OwnVrf → VrfFlow × Option Upstream → List Fec
-flow_tunnels place control own (flow, Some (Remote edge rd import source_as)) = map (λ route. route.fec) (wanted (learned_routes place control own edge) flow.source flow.group)
+flow_tunnels place control own (flow, Some (Remote edge rd import source_as)) =
+    map (λ route. route.fec) (wanted (learned_routes place control own edge) flow.source flow.group)
 flow_tunnels place control own (flow, other) = []
 
 -- the flows of a VRF at the last step
@@ -69,7 +74,9 @@ abbrev pub flows_of : Control → VrfId → List (VrfFlow × Option Upstream)
 flows_of control vrf = filter (λ (entry : VrfFlow × Option Upstream). entry.0.vrf.0 == vrf.0) (maps.entries control.flows)
 
 abbrev pub tunnels_of : EdgePlace → Control → OwnVrf → List Fec
-tunnels_of place control own = flat_map (inclusive_tunnels place own) (maps.entries control.peers) ++ flat_map (flow_tunnels place control own) (flows_of control own.id)
+tunnels_of place control own =
+    flat_map (inclusive_tunnels place own) (maps.entries control.peers)
+    ++ flat_map (flow_tunnels place control own) (flows_of control own.id)
 
 -- The tunnels of which the edge is to be a leaf: by its steps it is one of these, and of no other.
 abbrev pub leaves : EdgePlace → Control → FinSet fec_cmp

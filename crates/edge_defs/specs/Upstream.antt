@@ -1,5 +1,5 @@
--- The upstream that a VRF chooses for a source (RFC 6513 section 5.1).
-use Rattle.std.specs.Prelude.{List, ◌++◌, map, Option, None, Some}
+-- The upstream that a VRF chooses for a source and group (RFC 6513 section 5.1).
+use Rattle.std.specs.Prelude.{ℕ, List, ◌++◌, map, Option, None, Some}
 use Rattle.std.specs.List.{flat_map}
 use Rattle.std.specs.FinMap as maps
 use Rattle.mv_base.specs.Number.{◌>>?◌, only_if}
@@ -30,7 +30,8 @@ known_from place vrf peer = found_in (known_route place vrf peer.0) (maps.entrie
 
 -- The unicast routes that a VRF knows: its local ones, and those that it imports from the peers.
 abbrev pub known_routes : EdgePlace → Control → OwnVrf → List KnownRoute
-known_routes place control own = map of_site (local_routes place.scenario own.id) ++ flat_map (known_from place own.vrf) (maps.entries control.peers)
+known_routes place control own =
+    map of_site (local_routes place.scenario own.id) ++ flat_map (known_from place own.vrf) (maps.entries control.peers)
 
 -- what the chosen route says, with what its value says for a Source Tree Join
 abbrev pub upstream_by : EdgePlace → Control → KnownRoute → Option Upstream
@@ -42,6 +43,12 @@ upstream_by place control route = elim route.origin [
       Some (Remote edge rd by.import by.source_as)
 ]
 
--- The upstream of the VRF for a source, over all routes that it knows; none where none of them covers the source.
-abbrev pub upstream_for : EdgePlace → Control → OwnVrf → Addr → Option Upstream
-upstream_for place control own source = best_route (cost_by own.vrf.rule (place.core.cost place.me)) (known_routes place control own) source >>? upstream_by place control
+-- what a VRF with those routes compares before addresses, by its rule and the core that the edge knows
+abbrev pub costs_of : EdgePlace → OwnVrf → List KnownRoute → Addr → Addr → NodeId → ℕ
+costs_of place own routes source group = cost_by own.vrf.rule (place.core.cost place.me) routes source group
+
+-- The upstream of the VRF for a source and group, over all routes that it knows; none where none of them covers the source.
+abbrev pub upstream_for : EdgePlace → Control → OwnVrf → Addr → Addr → Option Upstream
+upstream_for place control own source group =
+    let routes = known_routes place control own in
+    best_route (costs_of place own routes source group) routes source >>? upstream_by place control

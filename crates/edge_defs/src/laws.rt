@@ -1,10 +1,11 @@
 //! Laws of an edge.
-ghost use Rattle.std.specs.Prelude.{◌≡◌, ◌≢◌, ◌<◌, ℕ, [], length, Some};
+ghost use Rattle.std.specs.Prelude.{◌≡◌, ◌≢◌, ℕ, List, [], Some};
 ghost use Rattle.std.specs.Ordering.{nat_cmp};
 ghost use Rattle.std.specs.Cmp.Lexicographic.{slice_cmp};
 ghost use Rattle.std.specs.declared.cmp.Ordering.TheVariants.{Less, Equal};
 ghost use Rattle.std.specs.FinMap.{IsAntisymmetric};
-ghost use Rattle.mv_base.specs.declared.ids.NodeId.{NodeId};
+ghost use Rattle.mv_base.specs.declared.addr.Addr.TheVariants.{V4, V6};
+ghost use Rattle.mv_base.specs.declared.core_link.Link.{Link};
 ghost use Rattle.mv_base.specs.declared.prefix.Prefix.{Prefix};
 ghost use Rattle.mv_base.specs.declared.rd.Rd.{Rd};
 ghost use Rattle.mvpn_nlri.specs.declared.route.Afi.{Afi};
@@ -13,11 +14,10 @@ ghost use Rattle.mvpn_nlri.specs.declared.route.Route.{Route};
 ghost use Rattle.mvpn_nlri.specs.Spelling.{written};
 ghost use Rattle.bgp_attributes.specs.declared.key.Key.TheVariants.{Mcast, Unicast};
 ghost use Rattle.bgp_update.specs.Written.{vpn_text};
-ghost use Rattle.scenario_defs.specs.declared.scenario.Scenario.{Scenario};
 ghost use Rattle.table_laws.specs.Words.{IsExact};
 ghost use Rattle.edge_defs.specs.Edge.{EdgeData, flow_cmp, fresh, note_cmp, pattern_cmp};
 ghost use Rattle.edge_defs.specs.Example.{Worked};
-ghost use Rattle.edge_defs.specs.Keys.{key_cmp, same_value};
+ghost use Rattle.edge_defs.specs.Keys.{key_cmp, prefix_afi, same_value};
 ghost use Rattle.edge_defs.specs.Place.{Core, EdgePlace, IsCoreOf};
 ghost use Rattle.edge_defs.specs.Steps.{Call, EdgeStepped, edge_step};
 ghost use Rattle.edge_defs.specs.Tunnels.{leaves};
@@ -31,14 +31,17 @@ pub fn keys_are_told()
     ensures exact { IsExact same_value }
 {}
 
-/// Unicast keys stand before multicast keys, those of AFI 1 before those of AFI 2, and two keys of one kind in the order of the
-/// octets that spell them, the label aside.
+/// Unicast keys stand before multicast keys, in each kind those of AFI 1 before those of AFI 2, and two keys of one kind and AFI in
+/// the order of the octets that spell them, the label aside.
 pub fn keys_are_in_order()
     ensures unicast { (rd : Rd) (prefix : Prefix) (afi : Afi) (route : Route) → key_cmp (Unicast rd prefix) (Mcast afi route) ≡ Less }
     ensures families { (own other : Route) → key_cmp (Mcast Ipv4 own) (Mcast Ipv6 other) ≡ Less }
+    ensures prefix_families { (rd other_rd : Rd) (prefix other : Prefix) (octets other_octets : List ℕ) → prefix.addr ≡ V4 octets →
+        other.addr ≡ V6 other_octets → key_cmp (Unicast rd prefix) (Unicast other_rd other) ≡ Less }
     ensures routes { (afi : Afi) (own other : Route) → slice_cmp nat_cmp (written own) (written other) ≢ Equal →
         key_cmp (Mcast afi own) (Mcast afi other) ≡ slice_cmp nat_cmp (written own) (written other) }
-    ensures prefixes { (rd other_rd : Rd) (prefix other : Prefix) → slice_cmp nat_cmp (vpn_text [] rd prefix) (vpn_text [] other_rd other) ≢ Equal →
+    ensures prefixes { (rd other_rd : Rd) (prefix other : Prefix) → prefix_afi prefix ≡ prefix_afi other →
+        slice_cmp nat_cmp (vpn_text [] rd prefix) (vpn_text [] other_rd other) ≢ Equal →
         key_cmp (Unicast rd prefix) (Unicast other_rd other) ≡ slice_cmp nat_cmp (vpn_text [] rd prefix) (vpn_text [] other_rd other) }
 {}
 
@@ -51,11 +54,13 @@ pub fn worked_edges()
 /// it is in a fresh edge, and each step keeps it.
 pub fn leaves_are_those_wanted()
     ensures fresh { (place : EdgePlace) (count : ℕ) → (fresh count).part.leaves ≡ leaves place (fresh count).control }
-    ensures step { (place : EdgePlace) (now : ℕ) (old : EdgeData) (call : Call) (new : EdgeStepped) → old.part.leaves ≡ leaves place old.control → edge_step place now old call ≡ Some new →
+    ensures step { (place : EdgePlace) (now : ℕ) (old : EdgeData) (call : Call) (new : EdgeStepped) →
+        old.part.leaves ≡ leaves place old.control → edge_step place now old call ≡ Some new →
         new.edge.part.leaves ≡ leaves place new.edge.control }
 {}
 
-/// The links of a scenario tell its core.
-pub fn a_scenario_has_one_core()
-    ensures { (scenario : Scenario) (core other : Core) → IsCoreOf scenario core → IsCoreOf scenario other → core ≡ other }
+/// The links of so many nodes tell their core.
+pub fn links_have_one_core()
+    ensures { (count : ℕ) (links : List Link) (core other : Core) → IsCoreOf count links core → IsCoreOf count links other →
+        core ≡ other }
 {}

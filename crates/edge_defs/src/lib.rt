@@ -5,6 +5,5 @@
 mod laws;
 
 pub use laws::{
-    a_scenario_has_one_core, keys_are_in_order, keys_are_told, leaves_are_those_wanted,
-    worked_edges,
+    keys_are_in_order, keys_are_told, leaves_are_those_wanted, links_have_one_core, worked_edges,
 };

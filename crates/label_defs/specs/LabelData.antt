@@ -1,5 +1,6 @@
 -- The label part of a node as plain data, and what is read from it.
-use Rattle.std.specs.Prelude.{ℕ, ◌+◌, ◌-◌, ◌||◌, ◌&&◌, Bool, true, false, not, nat_le, nat_lt, List, [], ◌∷◌, ◌++◌, map, replicate, slice_get, position, option_map, is_some, Option, None, Some, count_by, if◌then◌else◌}
+use Rattle.std.specs.Prelude.{ℕ, ◌+◌, ◌-◌, ◌||◌, ◌&&◌, Bool, true, false, not, nat_le, nat_lt, if◌then◌else◌}
+use Rattle.std.specs.Prelude.{List, [], ◌∷◌, ◌++◌, map, replicate, slice_get, position, count_by, Option, None, Some, option_map, is_some}
 use Rattle.std.specs.List.{filter, list_any}
 use Rattle.std.specs.Ordering.{eq_by_cmp}
 use Rattle.std.specs.FinMap as maps
@@ -23,19 +24,19 @@ pub record Place : Type 0 where
   pub upstream : Fec → Option NodeId
 
 -- The label part of a node: what each label is used for, from label 16 on; the branches of its trees; the trees of which
--- it is a leaf; the trees whose binding waits; the ends of its LDP sessions that are up, by neighbour; and the id of the
--- next message to each of these neighbours.
+-- it is a leaf; the trees whose binding waits; and the ends of its LDP sessions that are up, by neighbour, each with the id of
+-- its next message.
 pub record LabelData : Type 0 where
   pub labels : List LabelUse
   pub branches : FinSet branch_cmp
   pub leaves : FinSet fec_cmp
   pub waiting : FinSet fec_cmp
   pub ends : FinMap node_cmp End
-  pub ids : FinMap node_cmp ℕ
 
 -- a node in which nothing has happened, with so many labels
 abbrev pub fresh : ℕ → LabelData
-fresh count = record { labels = replicate count uses.Free; branches = sets.empty; leaves = sets.empty; waiting = sets.empty; ends = maps.empty; ids = maps.empty }
+fresh count =
+    record { labels = replicate count uses.Free; branches = sets.empty; leaves = sets.empty; waiting = sets.empty; ends = maps.empty }
 
 -- the least label; 0 to 15 are reserved (RFC 3032 section 2.1)
 abbrev pub first_label : ℕ
@@ -95,7 +96,9 @@ mapped_trees (other ∷ more) = mapped_trees more
 
 -- the trees of the node, in their order: those with a branch, a leaf, or a mapped label
 abbrev pub trees : LabelData → List Fec
-trees part = in_order (sets.from_list {R = fec_cmp} (map (λ branch. branch.fec) (in_order part.branches) ++ (in_order part.leaves ++ mapped_trees part.labels)))
+trees part =
+    let branched = map (λ branch. branch.fec) (in_order part.branches) in
+    in_order (sets.from_list {R = fec_cmp} (branched ++ (in_order part.leaves ++ mapped_trees part.labels)))
 
 -- whether a resting label is due
 abbrev pub is_rested : ℕ → LabelUse → Bool

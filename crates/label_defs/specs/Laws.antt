@@ -1,5 +1,6 @@
 -- What the laws of the label steps speak of.
-use Rattle.std.specs.Prelude.{◌≡◌, ℕ, ◌<◌, ◌==◌, ◌&&◌, nat_le, Bool, true, false, not, List, [], ◌∷◌, ◌++◌, Some, is_some, count_by, ◌⊎◌}
+use Rattle.std.specs.Prelude.{◌≡◌, ◌≢◌, ◌⊎◌, ℕ, ◌<◌, ◌==◌, ◌&&◌, nat_le, Bool, true, false, not}
+use Rattle.std.specs.Prelude.{List, [], ◌∷◌, ◌++◌, count_by, Some, is_some}
 use Rattle.std.specs.List.{list_any, filter}
 use Rattle.std.specs.FinMap as maps
 use Rattle.std.specs.FinSet as sets
@@ -13,9 +14,9 @@ use Rattle.label_defs.specs.declared.label_use.LabelUse.{LabelUse}
 use Rattle.label_defs.specs.declared.label_use.LabelUse.TheVariants as uses
 use Rattle.label_defs.specs.declared.put.Put.{Put}
 use Rattle.label_defs.specs.Keys.{fec_cmp}
-use Rattle.label_defs.specs.LabelData.{Place, LabelData, use_of, mapped_label, has_tree}
-use Rattle.label_defs.specs.Settling.{is_ready_to}
-use Rattle.label_defs.specs.Steps.{Call, Taken, Noticed, Timers, effect}
+use Rattle.label_defs.specs.LabelData.{Place, LabelData, use_of, mapped_label, has_tree, trees}
+use Rattle.label_defs.specs.Settling.{holder_of, same_neighbour, is_ready_to}
+use Rattle.label_defs.specs.Steps.{Call, Taken, Noticed, Timers, Rerouted, effect}
 use Rattle.label_defs.specs.Settled.{Maps}
 
 -- ---- releases
@@ -47,15 +48,22 @@ abbrev pub withdraw_to : NodeId → Fec → ℕ → Put
 withdraw_to to fec label = record { to = to; message = messages.Withdraw fec label }
 
 -- A withdraw that a step puts is of a label that was mapped so. Behind the step the label is leaving, and the node is not on the
--- tree.
-pub record WithdrawIs (part new : LabelData) (to : NodeId) (fec : Fec) (label : ℕ) : Type 0 where
+-- tree, or the neighbour is not the one towards its root.
+pub record WithdrawIs (place : Place) (part new : LabelData) (to : NodeId) (fec : Fec) (label : ℕ) : Type 0 where
   pub mapped : Maps part fec label to
   pub leaves : use_of new label ≡ Some (uses.Leaving fec to)
-  pub off : has_tree new fec ≡ false
+  pub off : (has_tree new fec ≡ false) ⊎ (place.upstream fec ≢ Some to)
+
+-- the label is leaving, and its withdraw is among the messages
+pub record WithdrawnThen (new : LabelData) (puts : List Put) (fec : Fec) (to : NodeId) (label : ℕ) : Type 0 where
+  pub leaves : use_of new label ≡ Some (uses.Leaving fec to)
+  pub before : List Put
+  pub behind : List Put
+  pub put : puts ≡ before ++ withdraw_to to fec label ∷ behind
 
 -- what becomes of a mapped label: it stays so, or it is leaving and its withdraw was put
 abbrev pub MappedThen : LabelData → List Put → Fec → NodeId → ℕ → Type 0
-MappedThen new puts fec to label = Maps new fec label to ⊎ ((use_of new label ≡ Some (uses.Leaving fec to)) × ((before : List Put) × (behind : List Put) × (puts ≡ before ++ withdraw_to to fec label ∷ behind)))
+MappedThen new puts fec to label = Maps new fec label to ⊎ WithdrawnThen new puts fec to label
 
 -- ---- labels that are taken
 
@@ -72,9 +80,22 @@ is_free_in now call other = false
 abbrev pub FreeIn : ℕ → LabelData → Call → ℕ → Type 0
 FreeIn now part call label = (usage : LabelUse) × (use_of part label ≡ Some usage) × (is_free_in now call usage ≡ true)
 
+-- a mapping to that neighbour
+abbrev pub mapping_to : NodeId → Fec → ℕ → Put
+mapping_to to fec label = record { to = to; message = messages.Mapping fec label }
+
+-- the label is mapped, and its mapping is among the messages
+pub record TakenThen (new : LabelData) (puts : List Put) (label : ℕ) : Type 0 where
+  pub fec : Fec
+  pub to : NodeId
+  pub before : List Put
+  pub behind : List Put
+  pub maps : Maps new fec label to
+  pub put : puts ≡ before ++ mapping_to to fec label ∷ behind
+
 -- what becomes of a label that is free in a step: it is free behind it, or it is mapped and its mapping was put
 abbrev pub FreeThen : LabelData → List Put → ℕ → Type 0
-FreeThen new puts label = (use_of new label ≡ Some uses.Free) ⊎ ((fec : Fec) × (to : NodeId) × (before : List Put) × (behind : List Put) × Maps new fec label to × (puts ≡ before ++ record { to = to; message = messages.Mapping fec label } ∷ behind))
+FreeThen new puts label = (use_of new label ≡ Some uses.Free) ⊎ TakenThen new puts label
 
 -- whether the message maps the label
 abbrev pub takes : ℕ → LabelMessage → Bool
@@ -85,15 +106,35 @@ takes label other = false
 abbrev pub IsHeld : LabelData → NodeId → Type 0
 IsHeld part node = (end : End) × (maps.get part.ends node ≡ Some end) × (end.held ≡ true)
 
+-- the hold of the end was run before, at the same raise
+abbrev pub HeldBefore : LabelData → NodeId → End → Type 0
+HeldBefore part node end = (old : End) × (maps.get part.ends node ≡ Some old) × (old.held ≡ true) × (old.raised ≡ end.raised)
+
+-- the end is up since that moment, and its hold was run
+abbrev pub HeldSince : LabelData → NodeId → ℕ → Type 0
+HeldSince part node moment = (end : End) × (maps.get part.ends node ≡ Some end) × (end.held ≡ true) × (end.raised ≡ moment)
+
 -- A mapping that a step puts, behind others. It goes to the neighbour towards the root of the tree, and the hold of its session
 -- was run. It takes a label that is free in the step, and each lower one that is so was taken by a mapping before. Behind the
 -- step the label is mapped so.
-pub record MappingIs (place : Place) (now : ℕ) (part : LabelData) (call : Call) (new : LabelData) (before : List Put) (to : NodeId) (fec : Fec) (label : ℕ) : Type 0 where
+pub record MappingIs (place : Place) (now : ℕ) (part : LabelData) (call : Call) (new : LabelData) (before : List Put)
+    (to : NodeId) (fec : Fec) (label : ℕ) : Type 0 where
   pub toward : place.upstream fec ≡ Some to
   pub ready : IsHeld new to
   pub free : FreeIn now part call label
   pub least : (lower : ℕ) → lower < label → FreeIn now part call lower → list_any (λ (put : Put). takes lower put.message) before ≡ true
   pub holds : Maps new fec label to
+
+-- ---- next hops that changed
+
+-- A tree moved: its label is withdrawn from the old neighbour, and right behind that another is mapped to the new one.
+pub record MovedThen (new : LabelData) (puts : List Put) (fec : Fec) (old_hop new_hop : NodeId) (label : ℕ) : Type 0 where
+  pub taken : ℕ
+  pub before : List Put
+  pub behind : List Put
+  pub maps : Maps new fec taken new_hop
+  pub leaves : use_of new label ≡ Some (uses.Leaving fec old_hop)
+  pub put : puts ≡ before ++ withdraw_to old_hop fec label ∷ mapping_to new_hop fec taken ∷ behind
 
 -- ---- labels that are lacking
 
@@ -101,10 +142,19 @@ pub record MappingIs (place : Place) (now : ℕ) (part : LabelData) (call : Call
 abbrev pub needs_label : Place → LabelData → Fec → Bool
 needs_label place part fec = has_tree part fec && (not (is_some (mapped_label part fec)) && is_ready_to part (place.upstream fec))
 
--- the trees among these that need one
-abbrev pub needing : Place → LabelData → List Fec → FinSet fec_cmp
-needing place part fecs = sets.from_list {R = fec_cmp} (filter (needs_label place part) fecs)
+-- whether it needs one where next hops changed: none is mapped to it towards its root as that is now
+abbrev pub needs_new_label : Place → LabelData → Fec → Bool
+needs_new_label place part fec =
+    has_tree part fec && (not (same_neighbour (holder_of part fec) (place.upstream fec)) && is_ready_to part (place.upstream fec))
+
+-- the trees among these that pass
+abbrev pub passing : (Fec → Bool) → List Fec → FinSet fec_cmp
+passing test fecs = sets.from_list {R = fec_cmp} (filter test fecs)
 
 -- more trees of the step need a label than are free in it
 abbrev pub LacksLabels : Place → ℕ → LabelData → Call → Type 0
-LacksLabels place now part call = let own = effect place now part call in count_by (is_free_in now call) part.labels < sets.len (needing place own.0.part own.1)
+LacksLabels place now part Rerouted =
+    count_by (is_free_in now Rerouted) part.labels < sets.len (passing (needs_new_label place part) (trees part))
+LacksLabels place now part call =
+    let own = effect place now part call in
+    count_by (is_free_in now call) part.labels < sets.len (passing (needs_label place own.0.part) own.1)

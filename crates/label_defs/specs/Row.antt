@@ -8,7 +8,7 @@ use Rattle.mldp_msgs.specs.declared.message.LabelMessage.TheVariants as messages
 use Rattle.label_defs.specs.declared.put.Put.{Put}
 use Rattle.label_defs.specs.LabelData.{Place, LabelData, fresh, first_label}
 use Rattle.label_defs.specs.Settling.{Stepped}
-use Rattle.label_defs.specs.Steps.{Taken, Want, branch_to, label_step}
+use Rattle.label_defs.specs.Steps.{Call, Taken, Want, branch_to, label_step}
 
 abbrev pub root_node : NodeId
 root_node = record { 0 = 0 }
@@ -28,10 +28,14 @@ abbrev pub joined_to : ℕ → ℕ → List NodeId → LabelData
 joined_to count raised [] = fresh count
 joined_to count raised (node ∷ more) =
     let rest = joined_to count raised more in
-    record rest { ends = maps.insert rest.ends node (record { raised = raised; held = true }); ids = maps.insert rest.ids node 1 }
+    record rest { ends = maps.insert rest.ends node (record { raised = raised; held = true; next = 1 }) }
 
 abbrev pub first_mapping : NodeId → Fec → Put
 first_mapping to fec = record { to = to; message = messages.Mapping fec first_label }
+
+-- the mapping of that label is taken
+abbrev pub takes_first : NodeId → Fec → Call
+takes_first from fec = Taken from (messages.Mapping fec first_label)
 
 -- The leaf maps its first label to the core node. The core node takes that from the leaf, and maps its own to the root. The root
 -- takes that from the core node, and puts nothing. Then there is a branch at the root and one at the core node.
@@ -41,9 +45,11 @@ pub record LeafToRoot (life now raised count : ℕ) (fec : Fec) : Type 0 where
   pub root : Stepped
   pub wants : label_step (towards life (Some core_node)) now (joined_to count raised (core_node ∷ [])) (Want fec) ≡ Some leaf
   pub from_leaf : leaf.puts ≡ first_mapping core_node fec ∷ []
-  pub takes : label_step (towards life (Some root_node)) now (joined_to count raised (root_node ∷ leaf_node ∷ [])) (Taken leaf_node (messages.Mapping fec first_label)) ≡ Some core
+  pub takes :
+      let place = towards life (Some root_node) in
+      label_step place now (joined_to count raised (root_node ∷ leaf_node ∷ [])) (takes_first leaf_node fec) ≡ Some core
   pub from_core : core.puts ≡ first_mapping root_node fec ∷ []
   pub to_leaf : sets.contains core.part.branches (branch_to leaf_node fec first_label) ≡ true
-  pub ends : label_step (towards life None) now (joined_to count raised (core_node ∷ [])) (Taken core_node (messages.Mapping fec first_label)) ≡ Some root
+  pub ends : label_step (towards life None) now (joined_to count raised (core_node ∷ [])) (takes_first core_node fec) ≡ Some root
   pub from_root : root.puts ≡ []
   pub to_core : sets.contains root.part.branches (branch_to core_node fec first_label) ≡ true

@@ -1,5 +1,6 @@
 -- What a tree of a node needs, and what becomes of the node when it gets it (RFC 6388 sections 2.4.1.1, 2.4.2.1).
-use Rattle.std.specs.Prelude.{ℕ, ◌-◌, Bool, true, false, List, [], ◌∷◌, ◌++◌, slice_set, Option, None, Some}
+use Rattle.std.specs.Prelude.{ℕ, ◌-◌, ◌==◌, Bool, true, false, if◌then◌else◌}
+use Rattle.std.specs.Prelude.{List, [], ◌∷◌, ◌++◌, slice_set, Option, None, Some}
 use Rattle.std.specs.FinSet as sets
 use Rattle.mv_base.specs.declared.ids.NodeId.{NodeId}
 use Rattle.mv_base.specs.Number.{◌>>?◌}
@@ -22,21 +23,32 @@ upstream_of (Some (uses.Mapped fec upstream)) = Some upstream
 upstream_of (Some (uses.Leaving fec upstream)) = Some upstream
 upstream_of other = None
 
+-- the neighbour towards which a label is mapped to the tree
+abbrev pub holder_of : LabelData → Fec → Option NodeId
+holder_of part fec = mapped_label part fec >>? λ label. upstream_of (use_of part label)
+
+-- whether both are one neighbour, or none
+abbrev pub same_neighbour : Option NodeId → Option NodeId → Bool
+same_neighbour (Some a) (Some b) = a.0 == b.0
+same_neighbour None None = true
+same_neighbour a b = false
+
 -- a label that is withdrawn from its upstream
 abbrev pub withdrawn : ℕ → Option NodeId → Change
 withdrawn label None = changes.Keep
 withdrawn label (Some upstream) = changes.Withdraw upstream label
 
 -- What a tree needs: by whether the node is on it, the label that is mapped to it and towards whom, the upstream, whether
--- the session with the upstream is ready, and the least free label.
+-- the session with the upstream is ready, and the least free label. A label that is mapped towards another neighbour than the
+-- upstream is withdrawn from it (RFC 6388 section 2.4.3). At the root of the tree nothing waits.
 abbrev pub change_by : Bool → Option ℕ → Option NodeId → Option NodeId → Bool → Option ℕ → Change
-change_by true (Some label) mapped upstream ready free = changes.Keep
-change_by true None mapped (Some upstream) true (Some label) = changes.Map upstream label
-change_by true None mapped (Some upstream) true None = changes.NoLabel
-change_by true None mapped (Some upstream) false free = changes.Wait
-change_by true None mapped None ready free = changes.Keep
-change_by false (Some label) mapped upstream ready free = withdrawn label mapped
-change_by false None mapped upstream ready free = changes.Cancel
+change_by true (Some label) holder upstream ready free = if same_neighbour holder upstream then changes.Keep else withdrawn label holder
+change_by true None holder (Some upstream) true (Some label) = changes.Map upstream label
+change_by true None holder (Some upstream) true None = changes.NoLabel
+change_by true None holder (Some upstream) false free = changes.Wait
+change_by true None holder None ready free = changes.Cancel
+change_by false (Some label) holder upstream ready free = withdrawn label holder
+change_by false None holder upstream ready free = changes.Cancel
 
 -- whether the session with the upstream is ready
 abbrev pub is_ready_to : LabelData → Option NodeId → Bool
@@ -46,14 +58,14 @@ is_ready_to part (Some upstream) = is_ready part upstream
 -- what the tree needs
 abbrev pub change_of : Place → LabelData → Fec → Change
 change_of place part fec =
-    let mapped = mapped_label part fec in
-    let holder = mapped >>? λ label. upstream_of (use_of part label) in
-    change_by (has_tree part fec) mapped holder (place.upstream fec) (is_ready_to part (place.upstream fec)) (free_label part)
+    let upstream = place.upstream fec in
+    change_by (has_tree part fec) (mapped_label part fec) (holder_of part fec) upstream (is_ready_to part upstream) (free_label part)
 
 -- the node behind a change of the tree; none where a label is needed and none is free
 abbrev pub changed : LabelData → Fec → Change → Option LabelData
 changed part fec changes.Keep = Some part
-changed part fec (changes.Map upstream label) = Some (record (with_use part label (uses.Mapped fec upstream)) { waiting = sets.remove part.waiting fec })
+changed part fec (changes.Map upstream label) =
+    Some (record (with_use part label (uses.Mapped fec upstream)) { waiting = sets.remove part.waiting fec })
 changed part fec (changes.Withdraw upstream label) = Some (with_use part label (uses.Leaving fec upstream))
 changed part fec changes.Wait = Some (record part { waiting = sets.insert part.waiting fec })
 changed part fec changes.Cancel = Some (record part { waiting = sets.remove part.waiting fec })

@@ -7,4 +7,6 @@ pub struct End {
     pub raised: u64,
     /// Whether its hold was run: no copy that was put before the raise is on the link any more.
     pub held: bool,
+    /// The id of the next message to the neighbour (RFC 5036 section 3.5).
+    pub next: u32,
 }

@@ -15,9 +15,9 @@ pub use change::Change;
 pub use end::End;
 pub use label_use::LabelUse;
 pub use laws::{
-    free_labels_stay, fresh_is_settled, holds_wait, labels_rest, leaf_to_root,
+    free_labels_stay, fresh_is_settled, holds_wait, ids_fit, labels_rest, leaf_to_root,
     losses_end_a_session, losses_need_no_label, mappings_wait, messages_are_passed_over, no_label,
-    settled_needs_nothing, settling_keeps, steps_keep_settled, withdraws_are_answered,
-    withdraws_leave,
+    reroutes_move, reroutes_settle, settled_needs_nothing, settling_keeps, steps_keep_settled,
+    withdraws_are_answered, withdraws_leave,
 };
 pub use put::Put;

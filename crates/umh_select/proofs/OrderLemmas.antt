@@ -20,7 +20,7 @@ use Rattle.mv_base.specs.declared.addr.Addr.TheVariants.{V4, V6}
 use Rattle.mv_base.specs.declared.ids.NodeId.{NodeId}
 use Rattle.mv_base.specs.declared.prefix.Prefix.{Prefix}
 use Rattle.choice_defs.specs.Choice.{Among, addr_cmp}
-use Rattle.choice_defs.proofs.OrderLemmas.{one_addr}
+use Rattle.choice_defs.proofs.OrderLemmas.{one_addr, not_itself}
 use Rattle.umh_select.specs.declared.key.Place.{Place}
 use Rattle.umh_select.specs.declared.key.Place.TheVariants.{First, Here, From, Last}
 use Rattle.umh_select.specs.declared.key.RouteKey.{RouteKey}
@@ -78,6 +78,9 @@ key_exact a b e =
     let place = one_place a.place b.place (numbers_exact (place_part a.place) (place_part b.place) places.0) in
     let addr = one_addr a.prefix.addr b.prefix.addr places.1 in
     λ i. record { prefix = record { addr = addr i; bits = bits i }; place = place i }
+
+pub same_key : (k q : RouteKey) → is_at (key_cmp k) q ≡ true → k ≡ q
+same_key k q h = key_exact k q ((Equal-is (key_cmp k q)).0 h)
 
 -- ---- sorted entries and their map
 
@@ -142,16 +145,13 @@ module _ {X : Type 0} where
   absent_by true w o h k = h refl
   absent_by false w o h k = k
 
-  pub same_key : (k q : RouteKey) → is_at (key_cmp k) q ≡ true → k ≡ q
-  same_key k q h = key_exact k q ((Equal-is (key_cmp k q)).0 h)
-
   pub still_absent : (es fs : List (RouteKey × X)) (k : RouteKey) (w : Option X) → Changes es fs k w → (q : RouteKey) → (k ≡ q → w ≡ None)
       → lookup (is_at (key_cmp q)) es ≡ None → lookup (is_at (key_cmp q)) fs ≡ None
   still_absent es fs k w u q h n = u q ∙ absent_by (is_at (key_cmp k) q) w (lookup (is_at (key_cmp q)) es) (λ e. h (same_key k q e)) n
 
   pub absent_filter : (p : RouteKey × X → Bool) (q : RouteKey) (es : List (RouteKey × X)) → lookup (is_at (key_cmp q)) es ≡ None → lookup (is_at (key_cmp q)) (filter p es) ≡ None
   absent_filter p q [] h = refl
-  absent_filter p q (e ∷ es) h = by (is_at (key_cmp q) e.0) (p e) h (absent_filter p q es)
+  absent_filter p q (e ∷ es) h = by (is_at (key_cmp q) e.0) (p e) refl h (absent_filter p q es)
     where
       by : (b c : Bool) → is_at (key_cmp q) e.0 ≡ b → cond b (Some e.1) (lookup (is_at (key_cmp q)) es) ≡ None → (lookup (is_at (key_cmp q)) es ≡ None → lookup (is_at (key_cmp q)) (filter p es) ≡ None)
           → lookup (is_at (key_cmp q)) (cond c (e ∷ filter p es) (filter p es)) ≡ None
@@ -159,21 +159,40 @@ module _ {X : Type 0} where
       by false true a h k = ap (λ (t : Bool). cond t (Some e.1) (lookup (is_at (key_cmp q)) (filter p es))) a ∙ k h
       by false false a h k = k h
 
+  some_there : (t : Bool) (x : X) (o : Option X) → t ≡ true → cond t (Some x) o ≡ None → ⊥
+  some_there true x o e h = absurd cc
+  some_there false x o e h = absurd cc
+
+  other_there : (t : Bool) (x : X) (o : Option X) → cond t (Some x) o ≡ None → o ≡ None
+  other_there true x o h = absurd cc
+  other_there false x o h = h
+
+  at_itself : (e f : RouteKey × X) → e ≡ f → is_at (key_cmp e.0) f.0 ≡ true
+  at_itself e f s = subst (λ (g : RouteKey × X). is_at (key_cmp e.0) g.0 ≡ true) s (ap is_eq (tied_itself key_total e.0))
+
   -- what is there is not absent
-  pub found : (e : RouteKey × X) (es : List (RouteKey × X)) → Among e es → lookup (is_at (key_cmp e.0)) es ≡ None → ⊥
-  found e [] m h = m
-  found e (f ∷ es) (inl same) h = absurd (let bad : cond (is_at (key_cmp e.0) f.0) (Some f.1) (lookup (is_at (key_cmp e.0)) es) ≡ None = h in no_none (is_at (key_cmp e.0) f.0) (itself e f same) f.1 (lookup (is_at (key_cmp e.0)) es) bad)
-    where
-      itself : (e f : RouteKey × X) → e ≡ f → is_at (key_cmp e.0) f.0 ≡ true
-      itself e f s = subst (λ (g : RouteKey × X). is_at (key_cmp e.0) g.0 ≡ true) s (ap is_eq (tied_itself key_total e.0))
-      no_none : (t : Bool) → t ≡ true → (x : X) (o : Option X) → cond t (Some x) o ≡ None → ⊥
-      no_none true e x o h = absurd cc
-      no_none false e x o h = absurd cc
-  found e (f ∷ es) (inr m) h = by (is_at (key_cmp e.0) f.0) h
-    where
-      by : (t : Bool) → cond t (Some f.1) (lookup (is_at (key_cmp e.0)) es) ≡ None → ⊥
-      by true h = absurd cc
-      by false h = found e es m h
+  pub there : (e : RouteKey × X) (es : List (RouteKey × X)) → Among e es → lookup (is_at (key_cmp e.0)) es ≡ None → ⊥
+  there e [] m h = m
+  there e (f ∷ es) (inl same) h = some_there (is_at (key_cmp e.0) f.0) f.1 (lookup (is_at (key_cmp e.0)) es) (at_itself e f same) h
+  there e (f ∷ es) (inr m) h = there e es m (other_there (is_at (key_cmp e.0) f.0) f.1 (lookup (is_at (key_cmp e.0)) es) h)
+
+  above : (x : RouteKey) (e : RouteKey × X) (es : List (RouteKey × X)) → Among e es → AllByRecursion (λ y. key_cmp x y ≡ Less) (keys_of es) → key_cmp x e.0 ≡ Less
+  above x e [] m h = absurd m
+  above x e (f ∷ es) (inl same) h = ap (λ (g : RouteKey × X). key_cmp x g.0) same ∙ h.0
+  above x e (f ∷ es) (inr m) h = above x e es m h.1
+
+  not_first : (e f : RouteKey × X) → key_cmp f.0 e.0 ≡ Less → (t : Bool) → is_at (key_cmp e.0) f.0 ≡ t → (o : Option X) → cond t (Some f.1) o ≡ o
+  not_first e f h true k o = absurd (not_itself key_total f.0 (subst (λ (q : RouteKey). key_cmp f.0 q ≡ Less) (same_key e.0 f.0 k) h))
+  not_first e f h false k o = refl
+
+  -- an entry is what is found at its key
+  pub entry_found : (e : RouteKey × X) (es : List (RouteKey × X)) → Sorted es → Among e es → lookup (is_at (key_cmp e.0)) es ≡ Some e.1
+  unfolding IsStrictlySortedBy
+  entry_found e [] a m = absurd m
+  entry_found e (f ∷ es) a (inl same) =
+      ap (λ (t : Bool). cond t (Some f.1) (lookup (is_at (key_cmp e.0)) es)) (at_itself e f same) ∙ ap (λ (g : RouteKey × X). Some g.1) (sym same)
+  entry_found e (f ∷ es) a (inr m) =
+      not_first e f (above f.0 e es m a.0) (is_at (key_cmp e.0) f.0) refl (lookup (is_at (key_cmp e.0)) es) ∙ entry_found e es a.1 m
 
   pub filter_among : (p q : RouteKey × X → Bool) (es : List (RouteKey × X)) → ((e : RouteKey × X) → Among e es → p e ≡ q e) → filter p es ≡ filter q es
   filter_among p q [] h = refl
@@ -259,7 +278,7 @@ module _ (source : Addr) (bits : ℕ) (q : RouteKey) where
       (level families (by_front (low_end source bits) q) (by_front (high_end source bits) q) _
       (level fronts (by_place (low_end source bits) q) (by_place (high_end source bits) q) true (ends q.place h (addr_cmp source q.prefix.addr) (addr_cmp source q.prefix.addr))))
 
-  to : (is_eq lengths && (is_eq families && (is_eq fronts && true))) ≡ true → ((q.prefix.bits == bits) && covers q.prefix source) ≡ true
+  to : (is_eq lengths && (is_eq families && (is_eq fronts && true))) ≡ true → (covers q.prefix source && q.prefix.bits == bits) ≡ true
   to h =
       let a = and_parts (is_eq lengths) (is_eq families && (is_eq fronts && true)) h in
       let b = and_parts (is_eq families) (is_eq fronts && true) a.1 in
@@ -267,24 +286,24 @@ module _ (source : Addr) (bits : ℕ) (q : RouteKey) where
       let long = nat_cmp-IsAntisymmetric bits q.prefix.bits ((Equal-is lengths).0 a.0) in
       let kind = nat_cmp-IsAntisymmetric (family source) (family q.prefix.addr) ((Equal-is families).0 b.0) in
       let same = nat_cmp-IsAntisymmetric (front source bits) (front q.prefix.addr q.prefix.bits) ((Equal-is fronts).0 c.0) in
-      both_true (q.prefix.bits == bits) (covers q.prefix source) (eq-eqb q.prefix.bits bits (sym long))
-      (fronts_cover q.prefix.addr source q.prefix.bits (sym kind) (sym same ∙ ap (front source) long))
+      both_true (covers q.prefix source) (q.prefix.bits == bits)
+      (fronts_cover q.prefix.addr source q.prefix.bits (sym kind) (sym same ∙ ap (front source) long)) (eq-eqb q.prefix.bits bits (sym long))
 
-  from : ((q.prefix.bits == bits) && covers q.prefix source) ≡ true → (is_eq lengths && (is_eq families && (is_eq fronts && true))) ≡ true
+  from : (covers q.prefix source && q.prefix.bits == bits) ≡ true → (is_eq lengths && (is_eq families && (is_eq fronts && true))) ≡ true
   from h =
-      let both = and_parts (q.prefix.bits == bits) (covers q.prefix source) h in
-      let long : q.prefix.bits ≡ bits = eqb-true q.prefix.bits bits both.0 in
-      let fits = covers_fronts q.prefix.addr source q.prefix.bits both.1 in
+      let both = and_parts (covers q.prefix source) (q.prefix.bits == bits) h in
+      let long : q.prefix.bits ≡ bits = eqb-true q.prefix.bits bits both.1 in
+      let fits = covers_fronts q.prefix.addr source q.prefix.bits both.0 in
       both_true (is_eq lengths) (is_eq families && (is_eq fronts && true)) (tied_numbers bits q.prefix.bits (sym long))
       (both_true (is_eq families) (is_eq fronts && true) (tied_numbers (family source) (family q.prefix.addr) (sym fits.0))
       (both_true (is_eq fronts) true (tied_numbers (front source bits) (front q.prefix.addr q.prefix.bits) (sym (fits.1 ∙ ap (front source) long))) refl))
 
-  pub in_range : IsInner q.place → range_contains key_cmp (Included (low_end source bits)) (Included (high_end source bits)) q ≡ ((q.prefix.bits == bits) && covers q.prefix source)
-  in_range h = in_levels h ∙ same_bool (is_eq lengths && (is_eq families && (is_eq fronts && true))) ((q.prefix.bits == bits) && covers q.prefix source) to from
+  pub in_range : IsInner q.place → range_contains key_cmp (Included (low_end source bits)) (Included (high_end source bits)) q ≡ (covers q.prefix source && q.prefix.bits == bits)
+  in_range h = in_levels h ∙ same_bool (is_eq lengths && (is_eq families && (is_eq fronts && true))) (covers q.prefix source && q.prefix.bits == bits) to from
 
 module _ {X : Type 0} where
   pub range_at : (source : Addr) (bits : ℕ) (es : List (RouteKey × X)) → ((e : RouteKey × X) → Among e es → IsInner e.0.place)
       → entries_between key_cmp (Included (low_end source bits)) (Included (high_end source bits)) es ≡ at_length source bits es
   range_at source bits es h =
-      filter_among (λ (e : RouteKey × X). range_contains key_cmp (Included (low_end source bits)) (Included (high_end source bits)) e.0) (λ (e : RouteKey × X). (e.0.prefix.bits == bits) && covers e.0.prefix source) es
+      filter_among (λ (e : RouteKey × X). range_contains key_cmp (Included (low_end source bits)) (Included (high_end source bits)) e.0) (λ (e : RouteKey × X). covers e.0.prefix source && e.0.prefix.bits == bits) es
       (λ e m. in_range source bits e.0 (h e m))

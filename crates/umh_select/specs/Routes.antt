@@ -1,5 +1,5 @@
 -- What a VRF keeps of its routes, and which of them it chooses.
-use Rattle.std.specs.Prelude.{◌≡◌, ℕ, ◌<◌, ◌==◌, ◌&&◌, Bool, true, false, not, List, [], ◌∷◌, ◌++◌, map, refl, Option, None, Some, if◌then◌else◌, slice_index}
+use Rattle.std.specs.Prelude.{◌≡◌, ℕ, ◌<◌, ◌≤◌, ◌==◌, ◌&&◌, Bool, true, false, not, List, [], ◌∷◌, ◌++◌, map, refl, Option, None, Some, if◌then◌else◌, slice_index_or}
 use Rattle.std.specs.List.{filter}
 use Rattle.std.specs.BTreeMap.{is_at}
 use Rattle.std.specs.Coded.{Coded, code_by, coded×, coded_ℕ}
@@ -23,7 +23,7 @@ use Rattle.core_walks.specs.Walks.{IsLeast}
 use Rattle.choice_defs.specs.declared.known_route.KnownRoute.{KnownRoute}
 use Rattle.choice_defs.specs.declared.origin.Origin.{Origin}
 use Rattle.choice_defs.specs.declared.origin.Origin.TheVariants.{Local, Remote}
-use Rattle.choice_defs.specs.Choice.{addr_cmp, rd_cmp}
+use Rattle.choice_defs.specs.Choice.{addr_cmp, rd_cmp, cost_unless}
 use Rattle.umh_select.specs.declared.candidate.Candidate.{Candidate}
 use Rattle.umh_select.specs.declared.key.Place.{Place}
 use Rattle.umh_select.specs.declared.key.Place.TheVariants.{First, Here, From, Last}
@@ -111,6 +111,12 @@ origin_of choices.None = None
 origin_of (choices.Local site) = Some (Local site)
 origin_of (choices.Remote edge rd import source_as) = Some (Remote edge import.0 rd)
 
+-- whether it is a choice
+abbrev pub is_found : Choice → Bool
+is_found choices.None = false
+is_found (choices.Local site) = true
+is_found (choices.Remote edge rd import source_as) = true
+
 -- The costs are those of the least walks from a node.
 abbrev pub AreCosts : Topology → NodeId → (NodeId → ℕ) → Type 0
 AreCosts core me cost = (node : NodeId) → node.0 < core.nodes → IsLeast core.links me.0 node.0 (cost node)
@@ -124,7 +130,7 @@ AreOfCore nodes (entry ∷ more) = ((peer_of entry.0.place).0 < nodes) × AreOfC
 
 -- the routes whose prefixes are of the length and cover the source
 abbrev pub at_length : {X : Type 0} → Addr → ℕ → List (RouteKey × X) → List (RouteKey × X)
-at_length {X = X} source bits entries = filter (λ (entry : RouteKey × X). (entry.0.prefix.bits == bits) && covers entry.0.prefix source) entries
+at_length {X = X} source bits entries = filter (λ (entry : RouteKey × X). covers entry.0.prefix source && entry.0.prefix.bits == bits) entries
 
 -- no prefix of the length covers the source
 abbrev pub IsNoneAt : Routes → Addr → ℕ → Type 0
@@ -134,11 +140,17 @@ abbrev pub first_site : List (RouteKey × SiteId) → Option SiteId
 first_site [] = None
 first_site (entry ∷ more) = Some entry.1
 
--- what the rule compares first: the cost, or which edge is that of the hash
-abbrev pub measure : Rule → (NodeId → ℕ) → NodeId → ℕ
-measure Highest cost peer = 0
-measure Nearest cost peer = cost peer
-measure Hash cost peer = 0
+-- what the rule compares first: nothing, the cost, or whether the edge is the one that is named
+abbrev pub measure : Rule → (NodeId → ℕ) → Option NodeId → NodeId → ℕ
+measure Highest cost named peer = 0
+measure Nearest cost named peer = cost peer
+measure Hash cost named peer = cost_unless named peer
+
+-- the edge that is named, where the rule is the hash
+abbrev pub named_by : Rule → Option NodeId → Option NodeId
+named_by Highest named = None
+named_by Nearest named = None
+named_by Hash named = named
 
 abbrev pub candidate_of : (NodeId → ℕ) → RouteKey × Held → Candidate
 candidate_of cost entry = record { key = entry.0; held = entry.1; measure = cost (peer_of entry.0.place) }
@@ -162,6 +174,10 @@ abbrev pub choice_of : Option Candidate → Choice
 choice_of None = choices.None
 choice_of (Some best) = choices.Remote (peer_of best.key.place) (rd_of best.key.place) best.held.import best.held.source_as
 
+-- the routes that the VRF knows of that length and that cover the source
+abbrev pub known_at : Routes → Addr → ℕ → List KnownRoute
+known_at routes source bits = map known_here (at_length source bits (maps.entries routes.attached)) ++ map known_from (at_length source bits (maps.entries routes.learned))
+
 -- ---- what is true of the tables
 
 -- whether it is the place of a learned route, or of an attached prefix
@@ -173,7 +189,8 @@ abbrev pub is_attached_place : Place → Bool
 is_attached_place Here = true
 is_attached_place other = false
 
--- No key is there of another kind of place, or of a length that isn't marked.
+-- No key is there of another kind of place, of a length that isn't marked, or of one above 255.
 pub record IsIndexed {X : Type 0} (is_place : Place → Bool) (lengths : List Bool) (entries : List (RouteKey × X)) : Type 0 where
   pub placed : (key : RouteKey) → is_place key.place ≡ false → lookup (is_at (key_cmp key)) entries ≡ None
-  pub marked : (key : RouteKey) → slice_index lengths key.prefix.bits ≡ false → lookup (is_at (key_cmp key)) entries ≡ None
+  pub short : (key : RouteKey) → 256 ≤ key.prefix.bits → lookup (is_at (key_cmp key)) entries ≡ None
+  pub marked : (key : RouteKey) → slice_index_or lengths key.prefix.bits false ≡ false → lookup (is_at (key_cmp key)) entries ≡ None

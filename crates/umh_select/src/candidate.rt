@@ -1,6 +1,7 @@
 //! The better one of two routes to a source.
 ghost use Rattle.std.specs.Prelude.{◌≡◌, ◌<◌, ℕ};
 ghost use Rattle.mv_base.specs.declared.ids.NodeId.{NodeId};
+ghost use Rattle.choice_defs.specs.Choice.{cost_unless};
 ghost use Rattle.umh_select.specs.Routes.{AreCosts, better, candidate_cmp, choice_of, measure, peer_of, rd_of};
 
 use crate::key::{Place, RouteKey, compare_addrs, compare_distinguishers};
@@ -37,15 +38,32 @@ fn rd_of(place: Place) -> Rd
     }
 }
 
+/// Nothing for the edge that is named, and 1 for each other one.
+fn cost_unless(named: Option<NodeId>, peer: NodeId) -> u64
+    ensures { result ≡ cost_unless named peer }
+{
+    match named {
+        Some(named) if named.0 == peer.0 => 0,
+        _ => 1,
+    }
+}
+
 /// What the rule compares before addresses.
-pub(crate) fn measure(rule: Rule, peer: NodeId, me: NodeId, core: &Core) -> u64
+pub(crate) fn measure(
+    rule: Rule,
+    named: Option<NodeId>,
+    peer: NodeId,
+    me: NodeId,
+    core: &Core,
+) -> u64
     requires me { me.0 < core.now.nodes }
     requires peer { peer.0 < core.now.nodes }
-    ensures { (cost : NodeId → ℕ) → AreCosts core.now me cost → result ≡ measure rule cost peer }
+    ensures { (cost : NodeId → ℕ) → AreCosts core.now me cost → result ≡ measure rule cost named peer }
 {
     match rule {
+        Rule::Highest => 0,
         Rule::Nearest => core.cost(me, peer),
-        _ => 0,
+        Rule::Hash => cost_unless(named, peer),
     }
 }
 

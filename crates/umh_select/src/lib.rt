@@ -3,6 +3,7 @@
 #![tactic(auto)]
 
 mod candidate;
+mod edges;
 mod key;
 mod route;
 mod umh;

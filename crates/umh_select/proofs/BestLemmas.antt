@@ -1,6 +1,5 @@
 -- The best of the routes that a VRF knows is the best of those of the greatest length that covers the source.
-use Rattle.std.proofs.Common.{◌≡◌, ℕ, ◌<◌, ◌≤◌, ◌==◌, ◌&&◌, Bool, true, false, ◌⊎◌, inl, inr, List, [], ◌∷◌, ◌++◌, map, filter, Option, Some, None, refl, sym, ap, subst, ◌∙◌, cond, arith, eqb-true}
-use Rattle.std.proofs.lemmas.Bool.{and_parts, cases_Bool}
+use Rattle.std.proofs.Common.{◌≡◌, ℕ, ◌<◌, ◌≤◌, ◌==◌, ◌&&◌, Bool, true, false, inl, inr, List, [], ◌∷◌, map, filter, Option, Some, None, refl, sym, ap, subst, ◌∙◌, cond, arith, eqb-true}
 use Rattle.std.proofs.lemmas.Bool.Decides.{nat_tests}
 use Rattle.std.specs.Cmp.{nat_cmp_is, nat_cmp_total, tied_itself}
 use Rattle.std.specs.Ordering.{nat_cmp, is_lt, ordering_then}
@@ -19,7 +18,7 @@ use Rattle.choice_defs.proofs.BestLemmas.{opposite}
 use Rattle.umh_select.specs.declared.candidate.Candidate.{Candidate}
 use Rattle.umh_select.specs.declared.key.RouteKey.{RouteKey}
 use Rattle.umh_select.specs.declared.route.Held.{Held}
-use Rattle.umh_select.specs.Routes.{best_of, better, candidate_cmp, candidate_of, known_from, known_here, peer_of, rd_of}
+use Rattle.umh_select.specs.Routes.{best_of, candidate_cmp, candidate_of, known_from, known_here}
 
 -- ---- the better one of three
 
@@ -58,7 +57,7 @@ module _ (cost : NodeId → ℕ) where
       ∙ (three r x o (is_better cost o x) (is_better cost x r) (is_better cost o r) refl refl refl
       ∙ sym (right_is r x o (is_better cost x r)))
 
--- ---- the best one along routes of one length
+  -- ---- the best one along routes of one length
 
   -- each is of the length and covers the source
   abbrev pub AreAt : ℕ → Addr → List (RouteKey × Held) → Type 0
@@ -121,7 +120,7 @@ module _ (cost : NodeId → ℕ) where
       by true = h.2
       by false = (h.0, h.1, h.2.2)
 
--- ---- routes of the greatest length
+  -- ---- routes of the greatest length
 
   abbrev at : ℕ → Addr → KnownRoute → Bool
   at bits source r = is_candidate bits source r
@@ -186,7 +185,7 @@ module _ (cost : NodeId → ℕ) where
       by true false p q found all k = shorter bits r (below r.prefix.bits bits (h.0 p) q) found all k
       by true true p q found all k = level bits r (eqb-true r.prefix.bits bits q) found all k
 
--- ---- an attached prefix comes first
+  -- ---- an attached prefix comes first
 
   -- it is none, or of the length
   abbrev OfLength : ℕ → Option KnownRoute → Type 0
@@ -204,6 +203,7 @@ module _ (cost : NodeId → ℕ) where
       either : (y : KnownRoute) → y.prefix.bits ≡ bits → (t : Bool) → OfLength bits (cond t (Some y) (Some r))
       either y k true = k
       either y k false = h.0
+
       by : (c : Bool) (rest : Option KnownRoute) → OfLength bits rest → OfLength bits (better_of cost c r rest)
       by false rest k = k
       by true None k = h.0

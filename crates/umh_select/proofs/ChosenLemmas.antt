@@ -1,11 +1,8 @@
 -- What is found at the greatest length that covers the source is what is chosen of all routes.
-use Rattle.std.proofs.Common.{◌≡◌, ℕ, suc, ◌<◌, ◌≤◌, ◌==◌, ◌&&◌, max, Bool, true, false, ◌⊎◌, inl, inr, List, [], ◌∷◌, ◌++◌, map, filter, Option, Some, None, option_map, slice_index_or, refl, sym, ap, subst, ◌∙◌, cond, arith, eqb-true, eq-eqb}
+use Rattle.std.proofs.Common.{◌≡◌, ℕ, suc, ◌≤◌, ◌==◌, ◌&&◌, max, Bool, true, false, inl, inr, List, [], ◌∷◌, ◌++◌, map, filter, Option, Some, None, option_map, slice_index_or, refl, sym, ap, subst, ◌∙◌, cond, arith, eqb-true, eq-eqb}
 use Rattle.std.proofs.lemmas.Bool.{and_parts, cases_Bool, cases_lt}
-use Rattle.std.proofs.lemmas.Bool.Decides.{nat_tests}
-use Rattle.std.specs.BTreeMap.{is_at}
 use Rattle.std.specs.FinMap as maps
 use Rattle.std.specs.FinMap.{FinMap, from_sorted}
-use Rattle.std.specs.Map.{lookup}
 use Rattle.mv_base.specs.Prefix.{covers}
 use Rattle.mv_base.specs.declared.addr.Addr.{Addr}
 use Rattle.mv_base.specs.declared.ids.NodeId.{NodeId}
@@ -13,9 +10,8 @@ use Rattle.mv_base.specs.declared.ids.SiteId.{SiteId}
 use Rattle.mv_base.specs.declared.rd.Rule.{Rule}
 use Rattle.mv_base.specs.declared.rd.Rule.TheVariants.{Highest, Nearest, Hash}
 use Rattle.choice_defs.specs.declared.known_route.KnownRoute.{KnownRoute}
-use Rattle.choice_defs.specs.declared.origin.Origin.{Origin}
-use Rattle.choice_defs.specs.declared.origin.Origin.TheVariants.{Local, Remote}
-use Rattle.choice_defs.specs.Choice.{Among, best_route, better_of, candidate_edges, choose, cost_by, edges_of, hash_of, hashed_of, is_candidate, longest_bits, put_edge, put_origin}
+use Rattle.choice_defs.specs.declared.origin.Origin.TheVariants.{Local}
+use Rattle.choice_defs.specs.Choice.{Among, best_route, better_of, candidate_edges, cost_by, edges_of, hash_of, hashed_of, is_candidate, longest_bits, put_edge}
 use Rattle.choice_defs.proofs.BestLemmas.{Best, BestIs, best, opposite}
 use Rattle.umh_select.specs.declared.candidate.Candidate.{Candidate}
 use Rattle.umh_select.specs.declared.key.Place.{Place}
@@ -189,8 +185,7 @@ module _ (cost : NodeId → ℕ) (lengths : List Bool) (es : List (RouteKey × H
       let is : best_of None (map (candidate_of cost) (e ∷ more)) ≡ Some (candidate_of cost won) = best_winner cost e more in
       let route : best_route cost (map known_from (e ∷ more)) source ≡ Some (known_from won) =
       sym (winner_best cost bits source e more h ∙ first_better e (covers e.0.prefix source) h.0 (best_route cost (map known_from more) source)) in
-      let got = get_of won (k won (winner_among cost e more)) in
-      (
+      let got = get_of won (k won (winner_among cost e more)) in (
         ap choice_of is ∙ (sym (ap (λ (o : Option Held). remote_choice (peer_of won.0.place) (rd_of won.0.place) o) got) ∙ sym (ap (chosen learned) route)),
         ap (λ (c : Option Candidate). origin_of (choice_of c)) is ∙ sym (ap (option_map (λ (r : KnownRoute). r.origin)) route),
       )
@@ -206,12 +201,12 @@ pub remote_is : (cost : NodeId → ℕ) (lengths : List Bool) (es : List (RouteK
     × (origin_of (choice_of (best_of None (map (candidate_of cost) (at_length source bits (maps.entries known))))) ≡ option_map (λ route. route.origin) (best_route cost (map known_from (at_length source bits (maps.entries known))) source))
 remote_is cost lengths es a indexed known is source bits =
     subst (λ (m : FinMap key_cmp Held).
-      (choice_of (best_of None (map (candidate_of cost) (at_length source bits (maps.entries m)))) ≡ chosen m (best_route cost (map known_from (at_length source bits (maps.entries m))) source))
-      × (origin_of (choice_of (best_of None (map (candidate_of cost) (at_length source bits (maps.entries m))))) ≡ option_map (λ (route : KnownRoute). route.origin) (best_route cost (map known_from (at_length source bits (maps.entries m))) source)))
+    (choice_of (best_of None (map (candidate_of cost) (at_length source bits (maps.entries m)))) ≡ chosen m (best_route cost (map known_from (at_length source bits (maps.entries m))) source))
+    × (origin_of (choice_of (best_of None (map (candidate_of cost) (at_length source bits (maps.entries m))))) ≡ option_map (λ (route : KnownRoute). route.origin) (best_route cost (map known_from (at_length source bits (maps.entries m))) source)))
     is
     (subst (λ (l : List (RouteKey × Held)).
-      (choice_of (best_of None (map (candidate_of cost) (at_length source bits l))) ≡ chosen (from_sorted es) (best_route cost (map known_from (at_length source bits l)) source))
-      × (origin_of (choice_of (best_of None (map (candidate_of cost) (at_length source bits l)))) ≡ option_map (λ (route : KnownRoute). route.origin) (best_route cost (map known_from (at_length source bits l)) source)))
+    (choice_of (best_of None (map (candidate_of cost) (at_length source bits l))) ≡ chosen (from_sorted es) (best_route cost (map known_from (at_length source bits l)) source))
+    × (origin_of (choice_of (best_of None (map (candidate_of cost) (at_length source bits l)))) ≡ option_map (λ (route : KnownRoute). route.origin) (best_route cost (map known_from (at_length source bits l)) source)))
     (sym (entries_of es a)) (best_is cost lengths es a indexed source bits))
 
 -- ---- an attached prefix
@@ -249,8 +244,7 @@ module _ (cost : NodeId → ℕ) (source : Addr) (bits : ℕ) where
   site_by [] site h e more k learned = absurd cc
   site_by (x ∷ xs) site h e more k learned =
       let same : x.1 ≡ site = cc in
-      let is = local_first cost bits source x (map known_here xs ++ more) h.0 h.1 (all_both (map known_here xs) more (all_here xs h.2) k) in
-      (
+      let is = local_first cost bits source x (map known_here xs ++ more) h.0 h.1 (all_both (map known_here xs) more (all_here xs h.2) k) in (
         ap (λ (s : SiteId). choices.Local s) (sym same) ∙ sym (ap (chosen learned) is),
         ap (λ (s : SiteId). Some (Local s)) (sym same) ∙ sym (ap (option_map (λ (r : KnownRoute). r.origin)) is),
       )
@@ -308,6 +302,7 @@ module _ (routes : Routes) (source group : Addr) (bits : ℕ) where
     where
       at_most : (m n : ℕ) → m ≤ bits → n ≤ bits → max m n ≤ bits
       at_most m n h k = grind (arith)
+
       by : (t : Bool) → covers x.prefix source ≡ t → cond t x.prefix.bits 0 ≤ bits
       by true e = h x (inl refl) e
       by false e = omega arith
@@ -380,10 +375,10 @@ module _ (routes : Routes) (source : Addr) where
   pub no_length : (cost : NodeId → ℕ) → ((length : ℕ) → IsNoneAt routes source length) → best_route cost (known routes) source ≡ None
   no_length cost none =
       uncovered_by cost (known routes) (λ r m c.
-        let empty = none r.prefix.bits in
-        none_in r (known_at routes source r.prefix.bits) (λ i. map known_here (empty.0 i) ++ map known_from (empty.1 i))
-        (subst (λ (l : List KnownRoute). Among r l) (known_filter routes source r.prefix.bits)
-        (among_passed (is_candidate r.prefix.bits source) r (known routes) (ap (λ (t : Bool). t && r.prefix.bits == r.prefix.bits) c ∙ eq-eqb r.prefix.bits r.prefix.bits refl) m)))
+      let empty = none r.prefix.bits in
+      none_in r (known_at routes source r.prefix.bits) (λ i. map known_here (empty.0 i) ++ map known_from (empty.1 i))
+      (subst (λ (l : List KnownRoute). Among r l) (known_filter routes source r.prefix.bits)
+      (among_passed (is_candidate r.prefix.bits source) r (known routes) (ap (λ (t : Bool). t && r.prefix.bits == r.prefix.bits) c ∙ eq-eqb r.prefix.bits r.prefix.bits refl) m)))
 
 -- ---- whether there is a choice
 

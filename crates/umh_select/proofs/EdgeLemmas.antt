@@ -1,12 +1,12 @@
 -- The edges that routes are from, by rising address.
-use Rattle.std.proofs.Common.{◌≡◌, ℕ, zero, suc, ◌+◌, ◌*◌, ◌%◌, ◌<◌, ◌≤◌, Bool, true, false, ◌⊎◌, inl, inr, List, [], ◌∷◌, map, length, slice_get, Option, Some, None, option_map, refl, sym, ap, subst, ◌∙◌, cond, arith}
+use Rattle.std.proofs.Common.{◌≡◌, ℕ, zero, suc, ◌+◌, ◌*◌, ◌%◌, ◌<◌, ◌≤◌, Bool, true, false, List, [], ◌∷◌, map, length, slice_get, Option, Some, None, option_map, refl, sym, ap, subst, ◌∙◌, cond, arith}
 use Rattle.std.proofs.lemmas.Nat.{mod-mul-add}
 use Rattle.std.specs.Ordering.{is_lt}
 use Rattle.std.specs.declared.cmp.Ordering.{Ordering}
 use Rattle.std.specs.declared.cmp.Ordering.TheVariants.{Less, Equal, Greater}
 use Rattle.mv_base.specs.declared.addr.Addr.{Addr}
 use Rattle.mv_base.specs.declared.ids.NodeId.{NodeId}
-use Rattle.choice_defs.specs.Choice.{Among, addr_cmp, IsLower, hashed_of, put_by, put_edge}
+use Rattle.choice_defs.specs.Choice.{addr_cmp, IsLower, hashed_of, put_by, put_edge}
 use Rattle.choice_defs.proofs.BestLemmas.{opposite}
 use Rattle.choice_defs.proofs.OrderLemmas.{greater_back, is_less, less_twice, not_both, not_itself, not_less, not_less_chain, addr_cmp_total, one_addr}
 use Rattle.umh_select.specs.declared.key.RouteKey.{RouteKey}

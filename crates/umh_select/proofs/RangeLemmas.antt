@@ -1,5 +1,5 @@
 -- What the range of a length has.
-use Rattle.std.proofs.Common.{◌≡◌, ℕ, List, refl, sym, ap, ◌∙◌}
+use Rattle.std.proofs.Common.{◌≡◌, ℕ, List, sym, ap, ◌∙◌}
 use Rattle.std.specs.BTreeMap.Range.{entries_between}
 use Rattle.std.specs.FinMap.{FinMap, entries, from_sorted}
 use Rattle.std.specs.declared.ops.Bound.TheVariants.{Included}

@@ -2,7 +2,7 @@
 use Rattle.std.specs.Prelude.{◌≡◌, ℕ, ◌<◌, ◌≤◌, ◌==◌, ◌&&◌, Bool, true, false, not, List, [], ◌∷◌, ◌++◌, map, refl, Option, None, Some, if◌then◌else◌, slice_index_or}
 use Rattle.std.specs.List.{filter}
 use Rattle.std.specs.BTreeMap.{is_at}
-use Rattle.std.specs.Coded.{Coded, code_by, coded×, coded_ℕ}
+use Rattle.std.specs.Coded.{Coded, code_by, coded×}
 use Rattle.std.specs.FinMap as maps
 use Rattle.std.specs.FinMap.{FinMap}
 use Rattle.std.specs.Map.{lookup}
@@ -26,7 +26,7 @@ use Rattle.choice_defs.specs.declared.origin.Origin.TheVariants.{Local, Remote}
 use Rattle.choice_defs.specs.Choice.{addr_cmp, rd_cmp, cost_unless}
 use Rattle.umh_select.specs.declared.candidate.Candidate.{Candidate}
 use Rattle.umh_select.specs.declared.key.Place.{Place}
-use Rattle.umh_select.specs.declared.key.Place.TheVariants.{First, Here, From, Last}
+use Rattle.umh_select.specs.declared.key.Place.TheVariants.{Here, From}
 use Rattle.umh_select.specs.declared.key.RouteKey.{RouteKey}
 use Rattle.umh_select.specs.declared.route.Choice.{Choice}
 use Rattle.umh_select.specs.declared.route.Choice.TheVariants as choices

@@ -16,10 +16,7 @@ pub enum Place {
     /// The prefix is attached at the VRF itself.
     Here,
     /// The route is from that peer, with that route distinguisher.
-    From {
-        peer: NodeId,
-        rd: Rd,
-    },
+    From { peer: NodeId, rd: Rd },
     Last,
 }
 
@@ -91,9 +88,13 @@ fn compare_places(one: Place, other: Place) -> Ordering
     ensures { result ≡ slice_cmp nat_cmp (place_part one) (place_part other) }
 {
     match (one, other) {
-        (Place::From { peer, rd }, Place::From { peer: next, rd: its }) => {
-            peer.0.cmp(&next.0).then(compare_distinguishers(rd, its))
-        }
+        (
+            Place::From { peer, rd },
+            Place::From {
+                peer: next,
+                rd: its,
+            },
+        ) => { peer.0.cmp(&next.0).then(compare_distinguishers(rd, its)) }
         (Place::First, Place::First) | (Place::Here, Place::Here) | (Place::Last, Place::Last) => {
             Ordering::Equal
         }

@@ -170,14 +170,7 @@ impl Umh {
     }
 
     /// The upstream among the prefixes of that length.
-    fn choose_at(
-        &self,
-        source: Addr,
-        group: Addr,
-        bits: u8,
-        me: NodeId,
-        core: &Core,
-    ) -> Choice
+    fn choose_at(&self, source: Addr, group: Addr, bits: u8, me: NodeId, core: &Core) -> Choice
         requires me { me.0 < core.now.nodes }
         requires peers { AreOfCore core.now.nodes (entries self.now.learned) }
         ensures none { result ≡ choices.None → IsNoneAt self.now source bits }
@@ -260,14 +253,7 @@ impl Umh {
     }
 
     /// The upstream among the learned routes of that length.
-    fn remote_at(
-        &self,
-        source: Addr,
-        group: Addr,
-        bits: u8,
-        me: NodeId,
-        core: &Core,
-    ) -> Choice
+    fn remote_at(&self, source: Addr, group: Addr, bits: u8, me: NodeId, core: &Core) -> Choice
         requires me { me.0 < core.now.nodes }
         requires peers { AreOfCore core.now.nodes (entries self.now.learned) }
         ensures none { result ≡ choices.None → at_length source bits (entries self.now.learned) ≡ [] }

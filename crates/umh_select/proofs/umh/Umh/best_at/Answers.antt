@@ -47,6 +47,6 @@ returns-clause-best c =
     c.args.self.now.learned (ap (λ (r : Routes). r.learned) c.self.view_is) c.into_iter-key-iterator.result (gives ∙ c.range-key-items.ensures.between c.new-ends.ensures.exhausted) in
     let done : c.loop-key.key-iterator ≡ [] = rest_all deref_pair _ _ c.next.result c.in-None.is c.next.ensures.steps in
     λ cost costs.
-      ap (λ (l : List (RouteKey × Held)). best_of c.loop-key.best (map (candidate_of (measure c.args.self.now.rule cost c.args.named)) l)) (sym done)
-      ∙ (c.loop-key.invariant.best cost costs
-      ∙ ap (λ (l : List (RouteKey × Held)). best_of None (map (candidate_of (measure c.args.self.now.rule cost c.args.named)) l)) listed)
+    ap (λ (l : List (RouteKey × Held)). best_of c.loop-key.best (map (candidate_of (measure c.args.self.now.rule cost c.args.named)) l)) (sym done)
+    ∙ (c.loop-key.invariant.best cost costs
+    ∙ ap (λ (l : List (RouteKey × Held)). best_of None (map (candidate_of (measure c.args.self.now.rule cost c.args.named)) l)) listed)

@@ -1,8 +1,7 @@
-use Rattle.std.proofs.Common.{rules, ◌≡◌, ◌≤◌, ◌<◌, ◌-◌, ℕ, suc, None, true, option_map, arith, sym, ap, ◌∙◌}
+use Rattle.std.proofs.Common.{rules, ◌≡◌, ◌<◌, ◌-◌, ℕ, true, option_map, arith, sym, ap, ◌∙◌}
 use Rattle.choice_defs.specs.declared.known_route.KnownRoute.{KnownRoute}
-use Rattle.choice_defs.specs.Choice.{best_route, cost_by}
-use Rattle.umh_select.specs.Edges.{cost_at}
-use Rattle.umh_select.specs.Routes.{IsNoneAt, chosen, is_found, known, known_at}
+use Rattle.choice_defs.specs.Choice.{cost_by}
+use Rattle.umh_select.specs.Routes.{IsNoneAt, chosen, is_found, known}
 use Rattle.umh_select.proofs.ChosenLemmas.{all_lengths, found_not, no_length}
 use Rattle.umh_select.proofs.umh.Umh.choose.Goals as goal
 
@@ -12,10 +11,10 @@ returns-then-is_found-clause-route c =
     let positive : 0 < c.loop-length.length = search rules in
     let found : is_found c.choose_at-choice.result ≡ true = search rules in
     λ cost costs.
-      c.choose_at-choice.ensures.route cost costs
-      ∙ ap (chosen c.args.self.now.learned) (all_lengths c.args.self.now c.args.source c.args.group bits cost
-      (λ length h. c.loop-length.invariant.none length (omega (arith, h, positive)))
-      (λ none. found_not c.choose_at-choice.result found (c.choose_at-choice.ensures.route cost costs ∙ ap (chosen c.args.self.now.learned) none)))
+    c.choose_at-choice.ensures.route cost costs
+    ∙ ap (chosen c.args.self.now.learned) (all_lengths c.args.self.now c.args.source c.args.group bits cost
+    (λ length h. c.loop-length.invariant.none length (omega (arith, h, positive)))
+    (λ none. found_not c.choose_at-choice.result found (c.choose_at-choice.ensures.route cost costs ∙ ap (chosen c.args.self.now.learned) none)))
 
 pub returns-then-is_found-clause-origin : goal.returns-then-is_found-clause-origin
 returns-then-is_found-clause-origin c =
@@ -23,10 +22,10 @@ returns-then-is_found-clause-origin c =
     let positive : 0 < c.loop-length.length = search rules in
     let found : is_found c.choose_at-choice.result ≡ true = search rules in
     λ cost costs.
-      c.choose_at-choice.ensures.origin cost costs
-      ∙ ap (option_map (λ (route : KnownRoute). route.origin)) (all_lengths c.args.self.now c.args.source c.args.group bits cost
-      (λ length h. c.loop-length.invariant.none length (omega (arith, h, positive)))
-      (λ none. found_not c.choose_at-choice.result found (c.choose_at-choice.ensures.route cost costs ∙ ap (chosen c.args.self.now.learned) none)))
+    c.choose_at-choice.ensures.origin cost costs
+    ∙ ap (option_map (λ (route : KnownRoute). route.origin)) (all_lengths c.args.self.now c.args.source c.args.group bits cost
+    (λ length h. c.loop-length.invariant.none length (omega (arith, h, positive)))
+    (λ none. found_not c.choose_at-choice.result found (c.choose_at-choice.ensures.route cost costs ∙ ap (chosen c.args.self.now.learned) none)))
 
 pub returns-clause-route : goal.returns-clause-route
 returns-clause-route c =

@@ -1,6 +1,6 @@
-use Rattle.std.proofs.Common.{rules, ◌≡◌, ◌≤◌, ◌<◌, ℕ, ◌+◌, Some, None, length, slice_get, arith, sym, ap, ◌∙◌}
+use Rattle.std.proofs.Common.{rules, ◌≤◌, arith, sym, ◌∙◌}
 use Rattle.std.specs.FinMap.{entries}
-use Rattle.umh_select.specs.Edges.{edges_in, first_above}
+use Rattle.umh_select.specs.Edges.{edges_in}
 use Rattle.umh_select.specs.Routes.{at_length}
 use Rattle.umh_select.proofs.EdgeLemmas.{edges_rise, first_edge, next_edge, one_more, past_end}
 use Rattle.umh_select.proofs.umh.Umh.edge_at.Goals as goal

@@ -1,4 +1,4 @@
-use Rattle.std.proofs.Common.{◌≡◌, slice_get, ap, sym, ◌∙◌}
+use Rattle.std.proofs.Common.{slice_get, ap, sym, ◌∙◌}
 use Rattle.std.specs.FinMap.{entries}
 use Rattle.choice_defs.specs.Choice.{hash_of}
 use Rattle.umh_select.specs.Edges.{edges_in}

@@ -1,10 +1,9 @@
 use Rattle.std.proofs.Common.{List, ap, ◌∙◌, ◌≡◌}
-use Rattle.std.specs.FinMap.{FinMap, empty, from_sorted}
+use Rattle.std.specs.FinMap.{empty, from_sorted}
 use Rattle.mv_base.specs.declared.ids.SiteId.{SiteId}
 use Rattle.umh_select.specs.declared.key.RouteKey.{RouteKey}
 use Rattle.umh_select.specs.declared.route.Held.{Held}
 use Rattle.umh_select.specs.Order.{key_cmp}
-use Rattle.umh_select.specs.Routes.{Routes}
 use Rattle.umh_select.proofs.OrderLemmas.{empty_map}
 use Rattle.umh_select.proofs.umh.Umh.of.Goals as goal
 

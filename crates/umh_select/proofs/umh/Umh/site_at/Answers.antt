@@ -1,13 +1,11 @@
-use Rattle.std.proofs.Common.{rules, ◌≡◌, List, [], ◌∷◌, Some, sym, ap, ◌∙◌}
+use Rattle.std.proofs.Common.{rules, ◌≡◌, [], Some, sym, ap, ◌∙◌}
 use Rattle.std.specs.FinMap.{entries}
 use Rattle.std.specs.Ordering.{is_gt}
-use Rattle.umh_select.specs.declared.key.RouteKey.{RouteKey}
 use Rattle.umh_select.specs.Order.{key_cmp}
 use Rattle.umh_select.proofs.OrderLemmas.{forward}
 use Rattle.umh_select.proofs.RangeLemmas.{between}
 use Rattle.std.specs.Map.Iter.{deref_pair}
 use Rattle.std.proofs.lemmas.Map.Iter.{rest_all}
-use Rattle.mv_base.specs.declared.ids.SiteId.{SiteId}
 use Rattle.umh_select.specs.Routes.{Routes, at_length, first_site}
 use Rattle.umh_select.proofs.ChosenLemmas.{attached_inner}
 use Rattle.umh_select.proofs.umh.Umh.site_at.Goals as goal

@@ -36,9 +36,9 @@ pub record FitsKey (key : Key) : Type 0 where
   pub writable : IsWritableKey key
   pub prefix : HasOctets key
   pub reach : IsOctets (key_text advertised key)
-  pub reach_few : length (key_text advertised key) ≤ 26
+  pub reach_few : length (key_text advertised key) ≤ 52
   pub unreach : IsOctets (key_text withdrawn key)
-  pub unreach_few : length (key_text withdrawn key) ≤ 26
+  pub unreach_few : length (key_text withdrawn key) ≤ 52
 
 pub record FitsTunnel (pmsi : Option Pmsi) : Type 0 where
   pub spelled : IsTunnel pmsi
@@ -106,7 +106,7 @@ module _ (key : Key) (value : Value) (k : FitsKey key) (v : FitsValue value) whe
       octets_append (pair f) (hop_of f value.next_hop ++ (0 ∷ key_text advertised key)) (pair_fits f)
       (octets_append (hop_of f value.next_hop) (0 ∷ key_text advertised key) (hop_fits f value.next_hop v.next_hop) (octets_cons 0 (key_text advertised key) (omega arith) k.reach))
 
-  value_length : length (reach_value advert) ≤ 43
+  value_length : length (reach_value advert) ≤ 69
   value_length = omega (arith, length-append (hop_of f value.next_hop) (0 ∷ key_text advertised key), hop_length f value.next_hop v.next_hop, k.reach_few)
 
   advert_fits : IsOctets (advert_text advert)

@@ -18,7 +18,7 @@ use Rattle.pim_defs.specs.Mention.{entry_by, entry_of}
 use Rattle.pim_defs.specs.Entries.{Entries, expiry_at, expiry_then, named_in, with_expiries, applied, kept_at, asks}
 use Rattle.pim_defs.proofs.EntriesLemmas.{get-kept}
 use Rattle.pim_defs.proofs.KeyLemmas.{entry_cmp_total, entry_cmp_exact}
-use Rattle.world_laws.specs.Sound.{IsHost, IsGroupAddr, SoundEntry}
+use Rattle.world_laws.specs.Sound.{IsFlow, IsHost, IsGroupAddr, SoundEntry}
 use Rattle.world_laws.specs.Honest.{SoundGroup, SoundMessage}
 use Rattle.world_laws.proofs.Lists.{each_append, each_map, each_flat, each_weaker}
 use Rattle.world_laws.proofs.Maps.{Each, all_entries, made_meets}
@@ -28,18 +28,18 @@ SoundAt at expiry = SoundEntry at.entry
 
 -- ---- messages
 
-sound_entry_by : (kind : SourceKind) (group addr : Addr) → IsGroupAddr group → IsHost addr → SoundEntry (entry_by kind group addr)
-sound_entry_by kinds.Sg group addr g h = (h, g)
-sound_entry_by kinds.Star group addr g h = g
-sound_entry_by kinds.Rpt group addr g h = (h, g)
+sound_entry_by : (kind : SourceKind) (group addr : Addr) → IsFlow addr group → SoundEntry (entry_by kind group addr)
+sound_entry_by kinds.Sg group addr h = h
+sound_entry_by kinds.Star group addr h = h.1
+sound_entry_by kinds.Rpt group addr h = h
 
 named_by_group : (iface : IfaceId) (group : Group) → SoundGroup group →
     AllByRecursion (λ (at : IfaceEntry). SoundEntry at.entry) (map (λ source. record { iface = iface; entry = entry_of group.group source }) (group.joins ++ group.prunes))
 named_by_group iface group sound =
     each_map (λ (at : IfaceEntry). SoundEntry at.entry) (λ (source : JpSource). record { iface = iface; entry = entry_of group.group source }) (group.joins ++ group.prunes)
-    (each_weaker (λ (source : JpSource). IsHost source.addr) (λ source. SoundEntry (entry_of group.group source))
-    (λ source h. sound_entry_by source.kind group.group source.addr sound.group_addr h)
-    (group.joins ++ group.prunes) (each_append (λ (source : JpSource). IsHost source.addr) group.joins group.prunes sound.joins sound.prunes))
+    (each_weaker (λ (source : JpSource). IsFlow source.addr group.group) (λ source. SoundEntry (entry_of group.group source))
+    (λ source h. sound_entry_by source.kind group.group source.addr h)
+    (group.joins ++ group.prunes) (each_append (λ (source : JpSource). IsFlow source.addr group.group) group.joins group.prunes sound.joins sound.prunes))
 
 named_sound : (iface : IfaceId) (message : JoinPrune) → SoundMessage message → AllByRecursion (λ (at : IfaceEntry). SoundEntry at.entry) (named_in iface message)
 named_sound iface message sound =

@@ -128,16 +128,16 @@ upstream_sound place control own source group sound =
 
 -- ---- flows
 
--- a flow of IPv4, where its group is
 abbrev Likely : FlowRoute → Type 0
-Likely flow = IsHost flow.group → IsFlow flow.source flow.group
+Likely flow = IsFlow flow.source flow.group
 
-routed : (afi : Afi) (source group : Addr) → IsSource afi source → IsGroup afi group → IsOctets (addr_octets source) → IsOctets (addr_octets group) → IsHost group → IsFlow source group
-routed Ipv4 (V4 s) (V4 g) a b o p host = ((a, o), ((b.0, p), b.1))
-routed Ipv4 (V6 s) group a b o p host = absurd a
-routed Ipv4 (V4 s) (V6 g) a b o p host = absurd host
-routed Ipv6 source (V6 g) a b o p host = absurd host
-routed Ipv6 source (V4 g) a b o p host = absurd b.0
+routed : (afi : Afi) (source group : Addr) → IsSource afi source → IsGroup afi group → IsOctets (addr_octets source) → IsOctets (addr_octets group) → IsFlow source group
+routed Ipv4 (V4 s) (V4 g) a b o p = ((a, o), ((b.0, p), b.1), tt)
+routed Ipv4 (V6 s) group a b o p = absurd a
+routed Ipv4 (V4 s) (V6 g) a b o p = absurd b.0
+routed Ipv6 (V6 s) (V6 g) a b o p = ((a, o), ((b.0, p), b.1), tt)
+routed Ipv6 (V4 s) group a b o p = absurd a
+routed Ipv6 (V6 s) (V4 g) a b o p = absurd b.0
 
 active_sound : (key : Key) (flow : FlowRoute) → SoundKey key → active_of key ≡ Some flow → Likely flow
 active_sound (Unicast rd prefix) flow h e = absurd cc
@@ -164,7 +164,7 @@ by_entry : (own : Bool) (entry : JoinEntry) (flow : FlowRoute) → SoundEntry en
 ] ≡ Some flow → Likely flow
 by_entry own (entries.Star group) flow h e = absurd cc
 by_entry own (entries.Rpt source group) flow h e = absurd cc
-by_entry own (entries.Source source group) flow h e = subst Likely (tested own (record { source = source; group = group }) flow e) (λ host. h)
+by_entry own (entries.Source source group) flow h e = subst Likely (tested own (record { source = source; group = group }) flow e) h
 
 joined_sound : (place : EdgePlace) (own : OwnVrf) (at : IfaceEntry) (flow : FlowRoute) → SoundEntry at.entry → joined_by place own at ≡ Some flow → Likely flow
 joined_sound place own at = by_entry (is_iface_of place.scenario own.id at.iface) at.entry
@@ -183,7 +183,7 @@ active_flows_sound : (place : EdgePlace) (control : Control) (own : OwnVrf) → 
 active_flows_sound place control own sound =
     each_append Likely (map noted_flow (notes_of place control own.id)) (flat_map (active_from own) (maps.entries control.peers))
     (each_map Likely noted_flow (notes_of place control own.id)
-    (each_weaker (λ note. SoundNote note × (is_iface_of place.scenario own.id note.iface ≡ true)) (λ note. Likely (noted_flow note)) (λ note h host. h.0) (notes_of place control own.id)
+    (each_weaker (λ note. SoundNote note × (is_iface_of place.scenario own.id note.iface ≡ true)) (λ note. Likely (noted_flow note)) (λ note h. h.0) (notes_of place control own.id)
     (each_filtered SoundNote (λ note. is_iface_of place.scenario own.id note.iface) (in_order control.notes) (each_in_order note_total SoundNote control.notes sound.notes))))
     (each_flat Likely (active_from own) (maps.entries control.peers)
     (each_weaker (λ peer. SoundPeer peer.0 peer.1) (λ peer. AllByRecursion Likely (active_from own peer)) (peer_sound own) (maps.entries control.peers)
@@ -200,16 +200,11 @@ possible_sound place control own sound =
 abbrev pub SoundFlow : VrfFlow → Option Upstream → Type 0
 SoundFlow flow found = IsFlow flow.source flow.group × SoundUpstream found
 
-asked_sound : (place : EdgePlace) (now : ℕ) (control : Control) (own : OwnVrf) (flow : FlowRoute) → SoundSources control → Likely flow → is_flow place now control own flow ≡ true → IsFlow flow.source flow.group
-asked_sound place now control own flow sound likely e =
-    let iface = passing (is_asking place now control own flow.source flow.group) (ifaces_of place own) e in
-    likely (asked_group control.entries iface.0 flow.source flow.group (is_active place control own flow.source flow.group) now sound.entries iface.1).0
-
 vrf_flows_sound : (place : EdgePlace) (now : ℕ) (control : Control) (own : OwnVrf) → SoundSources control → AllEntries SoundFlow (vrf_flows place now control own)
 vrf_flows_sound place now control own sound =
     each_map (λ entry. SoundFlow entry.0 entry.1) (with_upstream place control own) (filter (is_flow place now control own) (possible_flows place control own))
     (each_weaker (λ flow. Likely flow × (is_flow place now control own flow ≡ true)) (λ flow. IsFlow flow.source flow.group × SoundUpstream (upstream_for place control own flow.source flow.group))
-    (λ flow h. (asked_sound place now control own flow sound h.0 h.1, upstream_sound place control own flow.source flow.group sound.peers))
+    (λ flow h. (h.0, upstream_sound place control own flow.source flow.group sound.peers))
     (filter (is_flow place now control own) (possible_flows place control own))
     (each_filtered Likely (is_flow place now control own) (possible_flows place control own) (possible_sound place control own sound)))
 

@@ -39,13 +39,24 @@ abbrev pub IsHost : Addr → Type 0
 IsHost (V4 octets) = (length octets ≡ 4) × IsOctets octets
 IsHost (V6 octets) = ⊥
 
+-- an address of a customer, of either family, in octets
+abbrev pub IsCustomer : Addr → Type 0
+IsCustomer (V4 octets) = (length octets ≡ 4) × IsOctets octets
+IsCustomer (V6 octets) = (length octets ≡ 16) × IsOctets octets
+
 -- a multicast one
 abbrev pub IsGroupAddr : Addr → Type 0
-IsGroupAddr addr = IsHost addr × IsMulticast addr
+IsGroupAddr addr = IsCustomer addr × IsMulticast addr
 
--- a source and a group
+-- both are of one family
+abbrev pub AreOneFamily : Addr → Addr → Type 0
+AreOneFamily (V4 octets) (V4 others) = Unit {0}
+AreOneFamily (V6 octets) (V6 others) = Unit {0}
+AreOneFamily addr other = ⊥
+
+-- a source and a group of one family
 abbrev pub IsFlow : Addr → Addr → Type 0
-IsFlow source group = IsHost source × IsGroupAddr group
+IsFlow source group = IsCustomer source × IsGroupAddr group × AreOneFamily source group
 
 -- eight octets
 abbrev pub AreEight : List ℕ → Type 0
@@ -77,8 +88,13 @@ SoundEntry (entries.Star group) = IsGroupAddr group
 SoundEntry (entries.Source source group) = IsFlow source group
 SoundEntry (entries.Rpt source group) = IsFlow source group
 
+-- source and group of a pattern are of one family, where both are given
+abbrev pub AreWordsAlike : Option Addr → Option Addr → Type 0
+AreWordsAlike (Some source) (Some group) = AreOneFamily source group
+AreWordsAlike source group = Unit {0}
+
 abbrev pub SoundPattern : Pattern → Type 0
-SoundPattern pattern = IsAnyOr IsHost pattern.source × IsAnyOr IsGroupAddr pattern.group
+SoundPattern pattern = IsAnyOr IsCustomer pattern.source × IsAnyOr IsGroupAddr pattern.group × AreWordsAlike pattern.source pattern.group
 
 abbrev pub SoundUpstream : Option Upstream → Type 0
 SoundUpstream (Some (Remote edge rd import source_as)) = AreEight rd.0 × IsHost import.addr × (import.number < 65536) × (source_as < 65536)

@@ -8,7 +8,7 @@ use Rattle.scenario_defs.specs.declared.event.Kind.{Kind}
 use Rattle.scenario_defs.specs.declared.event.Kind.TheVariants as kinds
 use Rattle.scenario_defs.specs.declared.scenario.Scenario.{Scenario}
 use Rattle.label_defs.specs.declared.end.End.{End}
-use Rattle.edge_defs.specs.Place.{Core}
+use Rattle.world_defs.specs.Costs.{Cores}
 use Rattle.edge_defs.specs.Steps as steps
 use Rattle.mvpn_model.specs.Unready.{SessionsStand}
 use Rattle.ready_laws.proofs.ActsStand as stand
@@ -139,5 +139,5 @@ ending_kept scenario = record {
   refused = λ before number world line reason k n peer. up_next kinds.Ldp n peer before (refused_step number line reason) ∙ k n peer;
 }
 
-pub ending_start : (scenario : Scenario) (core : Core) → Ending [] (start scenario core)
-ending_start scenario core n peer = ap is_some (sym (fresh_end scenario n peer))
+pub ending_start : (scenario : Scenario) (cores : Cores) → Ending [] (start scenario cores)
+ending_start scenario cores n peer = ap is_some (sym (fresh_end scenario n peer))

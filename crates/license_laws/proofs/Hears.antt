@@ -28,7 +28,7 @@ use Rattle.edge_defs.specs.Steps as steps
 use Rattle.edge_defs.specs.Steps.{EdgeStepped, edge_step, own_label_call}
 use Rattle.world_defs.specs.Counts.{direction}
 use Rattle.world_laws.proofs.Lists.{each_append}
-use Rattle.world_defs.specs.Nodes.{NodeState, Edge, CoreNode, Nodes, with_node, fresh_node, place_of}
+use Rattle.world_defs.specs.Nodes.{NodeState, Edge, CoreNode, Nodes, with_node, fresh_node, place_of, label_place_of}
 use Rattle.world_defs.specs.Puts.{bgp_puts, label_puts}
 use Rattle.world_defs.specs.System.{NodeCall, Own, Elapse, Reset, node_called, core_called, call_of, system}
 
@@ -90,7 +90,7 @@ called_elsewhere nodes n m (Edge edge) call ne = by (edge_step (place_of nodes n
   where
     by : (o : Option EdgeStepped) → StaysAt nodes m (o >>? λ new. Some (record {
       state = with_node nodes n (Edge new.edge);
-      puts = bgp_puts (place_of nodes n) edge.control new.edge.control ++ flat_map (label_puts n (addr_of nodes.scenario n) (label_place nodes.scenario nodes.core n) nodes.clock) new.row;
+      puts = bgp_puts (place_of nodes n) edge.control new.edge.control ++ flat_map (label_puts n (addr_of nodes.scenario n) (label_place_of nodes n) nodes.clock) new.row;
     }))
     by None = tt
     by (Some new) = elsewhere nodes n m (Edge new.edge) ne
@@ -98,11 +98,11 @@ called_elsewhere nodes n m (CoreNode part) call ne = by (own_label_call call)
   where
     by : (o : Option labels.Call) → StaysAt nodes m (core_called nodes n part o)
     by None = refl
-    by (Some own) = step own (label_step (label_place nodes.scenario nodes.core n) nodes.clock part own)
+    by (Some own) = step own (label_step (label_place_of nodes n) nodes.clock part own)
       where
         step : (own : labels.Call) (o : Option settling.Stepped) → StaysAt nodes m (o >>? λ new. Some (record {
           state = with_node nodes n (CoreNode new.part);
-          puts = label_puts n (addr_of nodes.scenario n) (label_place nodes.scenario nodes.core n) nodes.clock (record { old = part; call = own; new = new });
+          puts = label_puts n (addr_of nodes.scenario n) (label_place_of nodes n) nodes.clock (record { old = part; call = own; new = new });
         }))
         step own None = tt
         step own (Some new) = elsewhere nodes n m (CoreNode new.part) ne

@@ -108,6 +108,7 @@ leaf_not from (labels.Taken n message) is = absurd is
 leaf_not from (labels.Raised peer) is = absurd is
 leaf_not from (labels.Noticed peer) is = absurd is
 leaf_not from labels.Timers is = absurd is
+leaf_not from labels.Rerouted is = absurd is
 
 changed_leaf : (old new : sets.FinSet fec_cmp) → AllByRecursion IsLeafCall (changed_leaves old new)
 changed_leaf old new =
@@ -198,6 +199,7 @@ own_other place now part from ms (steps.Raised kinds.Ldp peer) ne q = λ first e
 own_other place now part from ms (steps.Noticed kinds.Bgp peer) ne q = q
 own_other place now part from ms (steps.Noticed kinds.Ldp peer) ne q = λ first e fec label h. q fec label (step_fewer place now part (labels.Noticed peer) first from fec label tt e h)
 own_other place now part from ms steps.Timers ne q = λ first e fec label h. q fec label (step_fewer place now part labels.Timers first from fec label tt e h)
+own_other place now part from ms steps.Rerouted ne q = λ first e fec label h. q fec label (step_fewer place now part labels.Rerouted first from fec label tt e h)
 
 -- a message that is taken
 taken_mapped : (place : Place) (now : ℕ) (part : LabelData) (from : NodeId) (ms : List LabelMessage) (message : LabelMessage) → MappedPart from ms part → MappedPart from (ms ++ message ∷ []) (effect place now part (labels.Taken from message)).0.part

@@ -16,7 +16,7 @@ use Rattle.ready_laws.proofs.ActsStand.{WorldStands, act_stand, act_gives}
 use Rattle.ready_laws.proofs.Ends.{end_run}
 use Rattle.ready_laws.proofs.Nodes.{call_stand, fresh_end}
 use Rattle.scenario_defs.specs.Kinds.{same_kind}
-use Rattle.world_defs.specs.Acts.{Act, Tick, Timers, Move, Lose, Notice, RaiseFirst, RaiseSecond, Restart, At, Enter, Land, Drop, Tell, Acted, act}
+use Rattle.world_defs.specs.Acts.{Act, Tick, Timers, Move, Lose, Notice, RaiseFirst, RaiseSecond, Restart, At, Enter, Land, Drop, Tell, SetCost, Reroute, Acted, act}
 use Rattle.world_defs.specs.Counts.{direction}
 use Rattle.world_defs.specs.Local.{is_up_after, is_up_in}
 use Rattle.world_defs.specs.Nodes.{part_of}
@@ -90,6 +90,7 @@ call_end scenario m (steps.Unselect vrf pattern) old n peer world sound fit = sa
 call_end scenario m (steps.Raised kind p) old n peer world sound fit = absurd fit
 call_end scenario m (steps.Noticed kind p) old n peer world sound fit = absurd fit
 call_end scenario m steps.Timers old n peer world sound fit = same_both (n.0 == m.0) (old.end kinds.Ldp n peer) (end_run scenario.life old.clock (old.end kinds.Ldp n peer)) (run_some scenario.life old.clock (old.end kinds.Ldp n peer))
+call_end scenario m steps.Rerouted old n peer world sound fit = same_both (n.0 == m.0) (old.end kinds.Ldp n peer) (old.end kinds.Ldp n peer) refl
 
 act_end : (scenario : Scenario) (world : World) (one : Act) → SoundAct scenario one → IsFit world one → (old : SessionsStand) (n peer : NodeId) → is_up_after kinds.Ldp n peer (is_some (old.end kinds.Ldp n peer)) (Some one) ≡ is_some ((act_stand scenario one old).end kinds.Ldp n peer)
 act_end scenario world (Tick ticks) sound fit old n peer = refl
@@ -105,6 +106,8 @@ act_end scenario world (Enter vrf) sound fit old n peer = refl
 act_end scenario world (Land a b place) sound fit old n peer = refl
 act_end scenario world (Drop a b place) sound fit old n peer = refl
 act_end scenario world Tell sound fit old n peer = refl
+act_end scenario world (SetCost a b cost) sound fit old n peer = refl
+act_end scenario world (Reroute m) sound fit old n peer = refl
 
 -- ---- runs
 

@@ -7,7 +7,7 @@ use Rattle.scenario_defs.specs.declared.report.ReportLine.{ReportLine}
 use Rattle.scenario_defs.specs.declared.scenario.Scenario.{Scenario}
 use Rattle.mvpn_model.specs.Report.{Entry}
 use Rattle.world_defs.specs.Costs.{Cores}
-use Rattle.world_defs.specs.Acts.{Act, Tick, Timers, Move, Lose, Notice, RaiseFirst, RaiseSecond, Restart, At, Enter, Land, Drop, Tell}
+use Rattle.world_defs.specs.Acts.{Act, Tick, Timers, Move, Lose, Notice, RaiseFirst, RaiseSecond, Restart, At, Enter, Land, Drop, Tell, SetCost, Reroute}
 use Rattle.world_defs.specs.Events.{Happened}
 use Rattle.world_defs.specs.Local.{goes_on, IsLicensed, TakesWhatWasPut, Local}
 use Rattle.world_defs.specs.Run.{Traced, traced}
@@ -53,6 +53,8 @@ quiet_licensed scenario datagrams before (Some (Restart n)) all p s = s
 quiet_licensed scenario datagrams before (Some (At n call)) all p s = s
 quiet_licensed scenario datagrams before (Some (Drop a b place)) all p s = s
 quiet_licensed scenario datagrams before (Some Tell) all p s = s
+quiet_licensed scenario datagrams before (Some (SetCost a b cost)) all p s = s
+quiet_licensed scenario datagrams before (Some (Reroute n)) all p s = s
 
 -- a step of two traces is one of the first, or is as each of the second
 of_either : (Q : Traced → Type 0) (first more front after : List Traced) (step : Traced) → first ++ more ≡ front ++ step ∷ after → AllByRecursion Q more → ((rest : List Traced) × (first ≡ front ++ step ∷ rest)) ⊎ Q step

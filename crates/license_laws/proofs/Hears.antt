@@ -28,9 +28,9 @@ use Rattle.edge_defs.specs.Steps as steps
 use Rattle.edge_defs.specs.Steps.{EdgeStepped, edge_step, own_label_call}
 use Rattle.world_defs.specs.Counts.{direction}
 use Rattle.world_laws.proofs.Lists.{each_append}
-use Rattle.world_defs.specs.Nodes.{NodeState, Edge, CoreNode, Nodes, with_node, fresh_node, place_of, label_place_of}
+use Rattle.world_defs.specs.Nodes.{NodeState, Edge, CoreNode, Nodes, with_node, fresh_node, following, place_of, label_place_of}
 use Rattle.world_defs.specs.Puts.{bgp_puts, label_puts}
-use Rattle.world_defs.specs.System.{NodeCall, Own, Elapse, Reset, node_called, core_called, call_of, system}
+use Rattle.world_defs.specs.System.{NodeCall, Own, Elapse, Reset, Price, Follow, node_called, core_called, call_of, system}
 
 -- ---- calls
 
@@ -69,6 +69,8 @@ own_other kinds.Bgp from (steps.Noticed k peer) own = tt
 own_other kinds.Ldp from (steps.Noticed k peer) own = tt
 own_other kinds.Bgp from steps.Timers own = tt
 own_other kinds.Ldp from steps.Timers own = tt
+own_other kinds.Bgp from steps.Rerouted own = tt
+own_other kinds.Ldp from steps.Rerouted own = tt
 
 -- the message is one of the kind
 abbrev pub IsOfKind : Kind → SessionMessage → Type 0
@@ -148,6 +150,8 @@ module _ (kind : Kind) (from to : NodeId) (P : List SessionMessage → NodeState
   pub call_has : (ms : List SessionMessage) (nodes : Nodes) (call : NodeCall) → IsOwn call → P ms (nodes.node to) → StateHas ms (system.called call nodes)
   call_has ms nodes (Own n call) own p = node_has ms nodes n call (λ e. own_other kind from call own) p
   call_has ms nodes (Elapse ticks) own p = p
+  call_has ms nodes (Price a b cost) own p = p
+  call_has ms nodes (Follow n) own p = node_has ms (following nodes n) n steps.Rerouted (λ e. own_other kind from steps.Rerouted tt) p
   call_has ms nodes (Reset n) own p = elim (node_cases to n) [
     | inl same ↦ subst (λ (m : NodeId). P ms ((with_node nodes m (fresh_node nodes.scenario m)).node to)) same (subst (P ms) (sym (ap (λ (t : Bool). cond t (fresh_node nodes.scenario to) (nodes.node to)) (node_itself to to refl))) (f.fresh ms nodes.scenario))
     | inr ne ↦ subst (P ms) (sym (elsewhere nodes n to (fresh_node nodes.scenario n) ne)) p

@@ -170,6 +170,7 @@ effect_has place now from changes old (steps.Raised kinds.Ldp peer) ne h = h
 effect_has place now from changes old (steps.Noticed kinds.Bgp peer) ne h = remove_other from peer changes old.peers h
 effect_has place now from changes old (steps.Noticed kinds.Ldp peer) ne h = h
 effect_has place now from changes old steps.Timers ne h = run_other place now from changes old.peers h
+effect_has place now from changes old steps.Rerouted ne h = h
 
 flows_apart : (place : EdgePlace) (now : ℕ) (from : NodeId) (changes : List Change) (own : Control) (vrf : Bool) → PeerHas from changes own.peers → PeerHas from changes (cond vrf (refreshed place now own) own).peers
 flows_apart place now from changes own true h = h

@@ -3,7 +3,7 @@ use Rattle.std.proofs.Common.{◌≡◌, ℕ, ◌+◌, ◌<◌, ◌≤◌, ◌^�
 use Rattle.std.specs.Int.{w32, to_be_bytes}
 use Rattle.std.proofs.lemmas.List.{length-append, length-take}
 use Rattle.mv_base.proofs.Fields.{octets_before}
-use Rattle.mv_base.specs.Address.{addr_octets}
+use Rattle.mv_base.specs.Address.{IsAddr, addr_octets}
 use Rattle.mv_base.specs.Octets.{IsOctets}
 use Rattle.mv_base.specs.Prefix.{IsPrefixOf}
 use Rattle.mv_base.specs.declared.addr.Addr.{Addr}
@@ -19,7 +19,6 @@ use Rattle.mvpn_nlri.specs.declared.route.Route.TheVariants as routes
 use Rattle.bgp_attributes.specs.Spelling.{octets_for}
 use Rattle.bgp_attributes.specs.declared.key.Key.TheVariants.{Mcast, Unicast}
 use Rattle.bgp_update.specs.Written.{advertised, withdrawn, vpn_text, IsVpnPrefix}
-use Rattle.scenario_defs.specs.Rules.{IsIpv4, IsSitePrefix}
 use Rattle.edge_defs.specs.Originated.{afi_of, afi_by}
 use Rattle.world_laws.specs.Sound.{IsCustomer, AreOneFamily, AreWordsAlike, IsFlow, IsHost, IsGroupAddr, AreEight}
 use Rattle.world_laws.proofs.BgpOctets.{octets_cons, octets_append, one_octet, octets_of_32, host_octets, host_length}
@@ -139,35 +138,31 @@ join_fits rd source_as source group r a (s, g, f) =
 
 -- ---- keys of unicast routes
 
-vpn_prefix : (addr : Addr) (bits : ℕ) → IsIpv4 addr → IsPrefixOf addr bits → IsVpnPrefix addr bits
-vpn_prefix (V4 octets) bits len is = (len, is)
-vpn_prefix (V6 octets) bits len is = absurd len
+vpn_bits : (addr : Addr) (bits : ℕ) → IsPrefixOf addr bits → bits ≤ 128
+vpn_bits (V4 octets) bits is = (let le = is.0 in omega (arith, le))
+vpn_bits (V6 octets) bits is = is.0
 
-vpn_bits : (addr : Addr) (bits : ℕ) → IsIpv4 addr → IsPrefixOf addr bits → bits ≤ 32
-vpn_bits (V4 octets) bits len is = is.0
-vpn_bits (V6 octets) bits len is = absurd len
+vpn_length : (addr : Addr) → IsAddr addr → length (addr_octets addr) ≤ 16
+vpn_length (V4 octets) len = omega (arith, len)
+vpn_length (V6 octets) len = omega (arith, len)
 
-vpn_length : (addr : Addr) → IsIpv4 addr → length (addr_octets addr) ≡ 4
-vpn_length (V4 octets) len = len
-vpn_length (V6 octets) len = absurd len
-
-vpn_fits : (label : List ℕ) (rd : Rd) (addr : Addr) (bits : ℕ) → IsOctets label → AreEight rd.0 → bits ≤ 32 → IsOctets (addr_octets addr) → IsOctets (vpn_text label rd (record { addr = addr; bits = bits }))
+vpn_fits : (label : List ℕ) (rd : Rd) (addr : Addr) (bits : ℕ) → IsOctets label → AreEight rd.0 → bits ≤ 128 → IsOctets (addr_octets addr) → IsOctets (vpn_text label rd (record { addr = addr; bits = bits }))
 vpn_fits label rd addr bits l r le fits =
     let front : List ℕ = take (octets_for bits) (addr_octets addr) in
     octets_cons (88 + bits) (label ++ (rd.0 ++ front)) (omega (arith, le))
     (octets_append label (rd.0 ++ front) l (octets_append rd.0 front r.1 (octets_before (octets_for bits) (addr_octets addr) fits)))
 
-vpn_few : (label : List ℕ) (rd : Rd) (addr : Addr) (bits : ℕ) → length label ≡ 3 → AreEight rd.0 → length (addr_octets addr) ≡ 4 → length (vpn_text label rd (record { addr = addr; bits = bits })) ≤ 52
+vpn_few : (label : List ℕ) (rd : Rd) (addr : Addr) (bits : ℕ) → length label ≡ 3 → AreEight rd.0 → length (addr_octets addr) ≤ 16 → length (vpn_text label rd (record { addr = addr; bits = bits })) ≤ 52
 vpn_few label rd addr bits l r four =
     let front : List ℕ = take (octets_for bits) (addr_octets addr) in
     omega (arith, length-append label (rd.0 ++ front), length-append rd.0 front, length-take (octets_for bits) (addr_octets addr), l, r.0, four)
 
-pub unicast_fits : (rd : Rd) (prefix : Prefix) → AreEight rd.0 → IsSitePrefix prefix → IsOctets (addr_octets prefix.addr) → FitsKey (Unicast rd prefix)
+pub unicast_fits : (rd : Rd) (prefix : Prefix) → AreEight rd.0 → IsVpnPrefix prefix.addr prefix.bits → IsOctets (addr_octets prefix.addr) → FitsKey (Unicast rd prefix)
 unicast_fits rd prefix r is fits =
-    let le : prefix.bits ≤ 32 = vpn_bits prefix.addr prefix.bits is.ipv4 is.bits in
-    let four = vpn_length prefix.addr is.ipv4 in
+    let le : prefix.bits ≤ 128 = vpn_bits prefix.addr prefix.bits is.1 in
+    let four = vpn_length prefix.addr is.0 in
     record {
-      writable = record { rd_len = r.0; is_prefix = vpn_prefix prefix.addr prefix.bits is.ipv4 is.bits };
+      writable = record { rd_len = r.0; is_prefix = is };
       prefix = fits;
       reach = vpn_fits advertised rd prefix.addr prefix.bits (octets_cons 0 (0 ∷ 0x31 ∷ []) (omega arith) (octets_cons 0 (0x31 ∷ []) (omega arith) (one_octet 0x31 (omega arith)))) r le fits;
       reach_few = vpn_few advertised rd prefix.addr prefix.bits refl r four;

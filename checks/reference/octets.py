@@ -167,14 +167,26 @@ def path_text():
     return attribute(0x40, 1, (0,)) + attribute(0x40, 2, ()) + attribute(0x40, 5, to_be_bytes(4, 100))
 
 
+def afi_of(addr):
+    return 1 if isinstance(addr, V4) else 2
+
+
+MAPPED_FRONT = (0,) * 10 + (0xFF,) * 2
+
+
+def mapped(addr):
+    return MAPPED_FRONT + addr.octets if isinstance(addr, V4) else addr.octets
+
+
 def pair(key):
-    return to_be_bytes(2, key.afi) + (5,) if isinstance(key, Mcast) else (0, 1, 128)
+    return to_be_bytes(2, key.afi) + (5,) if isinstance(key, Mcast) else to_be_bytes(2, afi_of(key.prefix.addr)) + (128,)
 
 
 def hop_of(key, addr):
     if isinstance(key, Mcast):
         return (len(addr_octets(addr)),) + addr_octets(addr)
-    return (8 + len(addr_octets(addr)),) + (0,) * 8 + addr_octets(addr)
+    octets = mapped(addr) if afi_of(key.prefix.addr) == 2 else addr_octets(addr)
+    return (8 + len(octets),) + (0,) * 8 + octets
 
 
 ADVERTISED = (0x00, 0x00, 0x31)

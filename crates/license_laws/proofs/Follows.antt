@@ -324,8 +324,8 @@ done_follows K H number before world keeps leaves lines s (events.Notice kind a 
 done_follows K H number before world keeps leaves lines s (events.Raise kind a b) free sound k =
     let x = or_parts (is_end world kind a b) (is_end world kind b a) (not_refused (is_end world kind a b || is_end world kind b a) refusals.State free) in
     raise_follows (scenario_of world) K keeps H leaves number kind a b (sessions (scenario_of world)) (sessions_declared (scenario_of world) lines) before world x.0 x.1 s k
-done_follows K H number before world keeps leaves lines s (events.Join iface entry) free sound k = message_follows K H number before world keeps leaves lines (message_of (scenario_of world) (events.Join iface entry)) (join_is_sound (scenario_of world) lines iface entry sound) s k
-done_follows K H number before world keeps leaves lines s (events.Prune iface entry) free sound k = message_follows K H number before world keeps leaves lines (message_of (scenario_of world) (events.Prune iface entry)) (prune_is_sound (scenario_of world) lines iface entry sound) s k
+done_follows K H number before world keeps leaves lines s (events.Join iface entry) free sound k = message_follows K H number before world keeps leaves lines (message_of (scenario_of world) (events.Join iface entry)) (join_is_sound (scenario_of world) iface entry sound.1) s k
+done_follows K H number before world keeps leaves lines s (events.Prune iface entry) free sound k = message_follows K H number before world keeps leaves lines (message_of (scenario_of world) (events.Prune iface entry)) (prune_is_sound (scenario_of world) iface entry sound.1) s k
 done_follows K H number before world keeps leaves lines s (events.Pim iface octets) free sound k = message_follows K H number before world keeps leaves lines (message_of (scenario_of world) (events.Pim iface octets)) (read_is_sound iface octets sound) s k
 done_follows K H number before world keeps leaves lines s (events.Active iface source group) free sound k =
     edge_follows (scenario_of world) K keeps H leaves number (edge_of (scenario_of world) iface) (steps.Active iface source group) (edge_within (scenario_of world) lines iface) sound before world (λ n e. tt) s k

@@ -309,8 +309,8 @@ done_in_step enters world lines s (events.Notice kind a b) free sound = alone (s
 done_in_step enters world lines s (events.Raise kind a b) free sound =
     let x = or_parts (is_end world kind a b) (is_end world kind b a) (not_refused (is_end world kind a b || is_end world kind b a) refusals.State free) in
     raise_in_step (scenario_of world) kind a b (sessions (scenario_of world)) (sessions_fit (scenario_of world) lines) world x.0 x.1 s
-done_in_step enters world lines s (events.Join iface entry) free sound = message_in_step world lines (message_of (scenario_of world) (events.Join iface entry)) (join_is_sound (scenario_of world) lines iface entry sound.0 sound.1) s
-done_in_step enters world lines s (events.Prune iface entry) free sound = message_in_step world lines (message_of (scenario_of world) (events.Prune iface entry)) (prune_is_sound (scenario_of world) lines iface entry sound.0 sound.1) s
+done_in_step enters world lines s (events.Join iface entry) free sound = message_in_step world lines (message_of (scenario_of world) (events.Join iface entry)) (join_is_sound (scenario_of world) iface entry sound.1) s
+done_in_step enters world lines s (events.Prune iface entry) free sound = message_in_step world lines (message_of (scenario_of world) (events.Prune iface entry)) (prune_is_sound (scenario_of world) iface entry sound.1) s
 done_in_step enters world lines s (events.Pim iface octets) free sound = message_in_step world lines (message_of (scenario_of world) (events.Pim iface octets)) (read_is_sound iface octets sound) s
 done_in_step enters world lines s (events.Active iface source group) free sound =
     edge_in_step (scenario_of world) (edge_of (scenario_of world) iface) (steps.Active iface source group) (edge_within (scenario_of world) lines iface) sound (λ n e old. tt) world s

@@ -1,12 +1,6 @@
 -- Events that a scenario allows are of sound values.
 use Rattle.std.specs.Prelude.{IfSome}
-use Rattle.std.specs.Prelude.{slice_get}
-use Rattle.mv_base.specs.declared.ids.IfaceId.{IfaceId}
-use Rattle.pim_defs.specs.Mention.{group_of}
-use Rattle.mvpn_model.specs.Messages.{own_addr}
-use Rattle.scenario_defs.specs.declared.scenario.Iface.{Iface}
-use Rattle.scenario_defs.proofs.RuleLemmas.{iface_rules_at}
-use Rattle.std.proofs.Common.{◌≡◌, refl, ℕ, ◌<◌, List, [], ◌∷◌, ◌++◌, take, drop, length, Option, None, Some, subst}
+use Rattle.std.proofs.Common.{ℕ, ◌<◌, List, [], ◌∷◌, ◌++◌, take, drop, length, Option, None, Some, subst}
 use Rattle.std.specs.List.{AllByRecursion}
 use Rattle.std.proofs.lemmas.Option.{slice_get_within}
 use Rattle.mv_base.specs.Address.{addr_octets}
@@ -17,7 +11,7 @@ use Rattle.mv_base.specs.declared.ids.NodeId.{NodeId}
 use Rattle.core_walks.specs.Topology.{IsTopology}
 use Rattle.core_walks.proofs.WalkLemmas.{good}
 use Rattle.mvpn_nlri.specs.Spelling.{IsAnyOr}
-use Rattle.scenario_defs.specs.Rules.{Rules, IsIpv4, ScriptRules, IsUnicast, IsGroup, IsEntry, HaveSession, IsEventOf}
+use Rattle.scenario_defs.specs.Rules.{Rules, ScriptRules, IsUnicast, IsGroup, IsEntry, HaveSession, IsEventOf}
 use Rattle.scenario_defs.specs.declared.event.Event.{Event}
 use Rattle.scenario_defs.specs.declared.event.Event.TheVariants as events
 use Rattle.scenario_defs.specs.declared.event.JoinEntry.{JoinEntry}
@@ -30,71 +24,49 @@ use Rattle.scenario_defs.specs.declared.scenario.Scenario.{Scenario}
 use Rattle.world_defs.specs.Costs.{Cores, AreCoresOf}
 use Rattle.world_defs.specs.Run.{Traced, Run}
 use Rattle.world_defs.specs.World.{World}
-use Rattle.world_laws.specs.Honest.{IsSoundAt, IsSoundEvent}
-use Rattle.world_laws.specs.Sound.{IsCustomer, IsGroupAddr, AreOneFamily, IsFlow, AreWordsAlike, SoundEntry}
+use Rattle.world_laws.specs.Honest.{IsSoundEvent}
+use Rattle.world_laws.specs.Sound.{IsCustomer, IsGroupAddr, IsFlow, AreAlike, SoundEntry}
 use Rattle.world_laws.specs.SoundRun.{SoundRun}
+use Rattle.edge_defs.specs.Originated.{afi_of}
 use Rattle.world_laws.proofs.Lists.{each_front}
 use Rattle.delivery_laws.proofs.Splits.{cut_in_two}
-use Rattle.run_laws.specs.Octets.{flow_octets, entry_octets, word_octets, EventHasOctets, ScriptHasOctets}
+use Rattle.run_laws.specs.Octets.{entry_octets, word_octets, EventHasOctets, ScriptHasOctets}
 
 -- ---- addresses
 
-customer : (addr : Addr) → IsUnicast addr → IsOctets (addr_octets addr) → IsCustomer addr
-customer (V4 octets) unicast is = (unicast.0, is)
-customer (V6 octets) unicast is = absurd unicast
+host : (addr : Addr) → IsUnicast addr → IsOctets (addr_octets addr) → IsCustomer addr
+host (V4 octets) unicast is = (unicast.0, is)
+host (V6 octets) unicast is = absurd unicast
 
 group_addr : (addr : Addr) → IsGroup addr → IsOctets (addr_octets addr) → IsGroupAddr addr
 group_addr (V4 octets) (four, low, high, apart) is = ((four, is), (low, high))
 group_addr (V6 octets) group is = absurd group
 
-one_family : (source group : Addr) → IsUnicast source → IsGroup group → AreOneFamily source group
-one_family (V4 octets) (V4 others) unicast is = tt
-one_family (V6 octets) group unicast is = absurd unicast
-one_family (V4 octets) (V6 others) unicast is = absurd is
+alike : (source group : Addr) → IsUnicast source → IsGroup group → afi_of source ≡ afi_of group
+alike (V4 s) (V4 g) a b = refl
+alike (V4 s) (V6 g) a b = absurd b
+alike (V6 s) group a b = absurd a
 
-flow_sound : (source group : Addr) → IsUnicast source → IsGroup group → AllByRecursion IsOctets (flow_octets source group) → IsFlow source group
-flow_sound source group unicast is octets = (customer source unicast octets.0, group_addr group is octets.1.0, one_family source group unicast is)
+flow_sound : (source group : Addr) → IsUnicast source → IsGroup group → IsOctets (addr_octets source) → IsOctets (addr_octets group) → IsFlow source group
+flow_sound source group a b o p = (host source a o, group_addr group b p, alike source group a b)
 
 entry_sound : (entry : JoinEntry) → IsEntry entry → AllByRecursion IsOctets (entry_octets entry) → SoundEntry entry
 entry_sound (entries.Star group) is octets = group_addr group is octets.0
-entry_sound (entries.Source source group) is octets = flow_sound source group is.0 is.1 octets
-entry_sound (entries.Rpt source group) is octets = flow_sound source group is.0 is.1 octets
+entry_sound (entries.Source source group) is octets = flow_sound source group is.0 is.1 octets.0 octets.1.0
+entry_sound (entries.Rpt source group) is octets = flow_sound source group is.0 is.1 octets.0 octets.1.0
+
+any_host : (word : Option Addr) → IfSome word IsUnicast → AllByRecursion IsOctets (word_octets word) → IsAnyOr IsCustomer word
+any_host None is octets = tt
+any_host (Some addr) is octets = host addr is octets.0
 
 any_group : (word : Option Addr) → IfSome word IsGroup → AllByRecursion IsOctets (word_octets word) → IsAnyOr IsGroupAddr word
 any_group None is octets = tt
 any_group (Some addr) is octets = group_addr addr is octets.0
 
-words_alike : (source group : Option Addr) → IfSome source IsUnicast → IfSome group IsGroup → AreWordsAlike source group
-words_alike None group is given = tt
-words_alike (Some source) None is given = tt
-words_alike (Some source) (Some group) is given = one_family source group is given
-
-words_sound : (source group : Option Addr) → IfSome source IsUnicast → IfSome group IsGroup → AllByRecursion IsOctets (word_octets source ++ word_octets group)
-    → IsAnyOr IsCustomer source × IsAnyOr IsGroupAddr group × AreWordsAlike source group
+words_sound : (source group : Option Addr) → IfSome source IsUnicast → IfSome group IsGroup → AllByRecursion IsOctets (word_octets source ++ word_octets group) → IsAnyOr IsCustomer source × IsAnyOr IsGroupAddr group × AreAlike source group
 words_sound None group is given octets = (tt, any_group group given octets, tt)
-words_sound (Some addr) group is given octets = (customer addr is octets.0, any_group group given octets.1, words_alike (Some addr) group is given)
-
--- the group of an entry is of the family of the interface's address
-group_alike : (own : Addr) (group : Addr) → IsIpv4 own → IsGroup group → AreOneFamily own group
-group_alike (V4 octets) (V4 others) four is = tt
-group_alike (V6 octets) group four is = absurd four
-group_alike (V4 octets) (V6 others) four is = absurd is
-
-entry_group : (entry : JoinEntry) → IsEntry entry → IsGroup (group_of entry)
-entry_group (entries.Star group) is = is
-entry_group (entries.Source source group) is = is.1
-entry_group (entries.Rpt source group) is = is.1
-
-iface_ipv4 : (scenario : Scenario) → Rules scenario → (iface : IfaceId) → iface.0 < length scenario.ifaces → IsIpv4 (own_addr scenario iface)
-iface_ipv4 scenario rules iface lt = by (slice_get scenario.ifaces iface.0) refl
-  where
-    by : (o : Option Iface) → slice_get scenario.ifaces iface.0 ≡ o → IsIpv4 (elim o [ None ↦ V4 (0 ∷ 0 ∷ 0 ∷ 0 ∷ []) | Some found ↦ found.addr ])
-    by (Some found) e = (iface_rules_at scenario rules iface.0 found e).ipv4
-    by None e = refl
-
-at_iface : (scenario : Scenario) → Rules scenario → (iface : IfaceId) (entry : JoinEntry) → iface.0 < length scenario.ifaces → IsEntry entry → AllByRecursion IsOctets (entry_octets entry) → IsSoundAt scenario iface entry
-at_iface scenario rules iface entry lt is octets =
-    record { known = lt; sound = entry_sound entry is octets; family = group_alike (own_addr scenario iface) (group_of entry) (iface_ipv4 scenario rules iface lt) (entry_group entry is) }
+words_sound (Some addr) None is given octets = (host addr is octets.0, tt, tt)
+words_sound (Some addr) (Some group) is given octets = (host addr is octets.0, group_addr group given octets.1.0, alike addr group is given)
 
 -- ---- events
 
@@ -102,33 +74,33 @@ within_by : (scenario : Scenario) → IsTopology (length scenario.nodes) scenari
 within_by scenario topology kinds.Bgp a b (edge, other, apart) = slice_get_within scenario.nodes a.0 edge.node edge.at
 within_by scenario topology kinds.Ldp a b (cost, linked) = (good (length scenario.nodes) scenario.links a.0 b.0 cost topology linked).a_within
 
-sound_by : (scenario : Scenario) → Rules scenario → (event : Event) → IsEventOf scenario event → EventHasOctets event → IsSoundEvent scenario event
-sound_by scenario rules (events.Tick count) is octets = tt
-sound_by scenario rules (events.Timers node) is octets = is
-sound_by scenario rules (events.Restart node) is octets = tt
-sound_by scenario rules (events.Move kind from to count) is octets = tt
-sound_by scenario rules (events.Lose kind a b) is octets = tt
-sound_by scenario rules (events.Notice kind a b) is octets = within_by scenario rules.core.topology kind a b is
-sound_by scenario rules (events.Raise kind a b) is octets = tt
-sound_by scenario rules (events.Join iface entry) is octets = at_iface scenario rules iface entry is.0 is.1 octets
-sound_by scenario rules (events.Prune iface entry) is octets = at_iface scenario rules iface entry is.0 is.1 octets
-sound_by scenario rules (events.Pim iface bytes) is octets = octets.0
-sound_by scenario rules (events.Active iface source group) is octets = flow_sound source group is.1 is.2 octets
-sound_by scenario rules (events.Idle iface source group) is octets = tt
-sound_by scenario rules (events.Send site source group payload) is octets = tt
-sound_by scenario rules (events.Packet site bytes) is octets = tt
-sound_by scenario rules (events.Select vrf pattern) is octets = words_sound pattern.source pattern.group is.1.0 is.1.1 octets
-sound_by scenario rules (events.Unselect vrf pattern) is octets = tt
-sound_by scenario rules (events.Hop from to place) ((cost, linked), counted, few) octets = record { cost = cost; linked = linked; counted = counted }
-sound_by scenario rules (events.DropCopy from to place) ((cost, linked), counted, few) octets = record { cost = cost; linked = linked; counted = counted }
-sound_by scenario rules events.Heal is octets = tt
-sound_by scenario rules events.Settle is octets = tt
-sound_by scenario rules events.Drain is octets = tt
-sound_by scenario rules events.State is octets = tt
-sound_by scenario rules (events.Cost a b cost) is octets = (is.1, is.2)
+sound_by : (scenario : Scenario) → IsTopology (length scenario.nodes) scenario.links → (event : Event) → IsEventOf scenario event → EventHasOctets event → IsSoundEvent scenario event
+sound_by scenario topology (events.Tick count) is octets = tt
+sound_by scenario topology (events.Timers node) is octets = is
+sound_by scenario topology (events.Restart node) is octets = tt
+sound_by scenario topology (events.Move kind from to count) is octets = tt
+sound_by scenario topology (events.Lose kind a b) is octets = tt
+sound_by scenario topology (events.Notice kind a b) is octets = within_by scenario topology kind a b is
+sound_by scenario topology (events.Raise kind a b) is octets = tt
+sound_by scenario topology (events.Join iface entry) is octets = (is.0, entry_sound entry is.1 octets)
+sound_by scenario topology (events.Prune iface entry) is octets = (is.0, entry_sound entry is.1 octets)
+sound_by scenario topology (events.Pim iface bytes) is octets = octets.0
+sound_by scenario topology (events.Active iface source group) is octets = flow_sound source group is.1 is.2 octets.0 octets.1.0
+sound_by scenario topology (events.Idle iface source group) is octets = tt
+sound_by scenario topology (events.Send site source group payload) is octets = tt
+sound_by scenario topology (events.Packet site bytes) is octets = tt
+sound_by scenario topology (events.Select vrf pattern) is octets = words_sound pattern.source pattern.group is.1.0 is.1.1 octets
+sound_by scenario topology (events.Unselect vrf pattern) is octets = tt
+sound_by scenario topology (events.Hop from to place) ((cost, linked), counted, few) octets = record { cost = cost; linked = linked; counted = counted }
+sound_by scenario topology (events.DropCopy from to place) ((cost, linked), counted, few) octets = record { cost = cost; linked = linked; counted = counted }
+sound_by scenario topology events.Heal is octets = tt
+sound_by scenario topology events.Settle is octets = tt
+sound_by scenario topology events.Drain is octets = tt
+sound_by scenario topology events.State is octets = tt
+sound_by scenario topology (events.Cost a b cost) is octets = (is.1, is.2)
 
 pub sound_event : (scenario : Scenario) (event : Event) → Rules scenario → IsEventOf scenario event → EventHasOctets event → IsSoundEvent scenario event
-sound_event scenario event rules is octets = sound_by scenario rules event is octets
+sound_event scenario event rules is octets = sound_by scenario rules.core.topology event is octets
 
 -- ---- scripts
 

@@ -97,7 +97,7 @@ module _ (place : EdgePlace) (control : Control) (scenario_is : SoundScenario pl
       let of_vrf : VrfPattern × Selected → Bool = λ (entry : VrfPattern × Selected). entry.0.vrf.0 == own.id.0 in
       let each : AllByRecursion (λ (entry : VrfPattern × Selected). FitsEntry (selective_entry own entry)) all = all_entries pattern_total (λ (key : VrfPattern) (selected : Selected). FitsEntry (selective_entry own (key, selected))) control.selections
       (λ key selected h. (let is : SoundPattern key.pattern = control_is.selections key selected h in
-      (selective_fits own.vrf.rd key.pattern.source key.pattern.group (own_addr place) fits.rd is.0 is.1 is.2 host, tunnel_fits place own.vrf (tunnel_number own.vrf selected.number) host fits))) in
+      (selective_fits own.vrf.rd key.pattern.source key.pattern.group (own_addr place) fits.rd is host, tunnel_fits place own.vrf (tunnel_number own.vrf selected.number) host fits))) in
       each_map FitsEntry (selective_entry own) (filter of_vrf all) (each_filter (λ (entry : VrfPattern × Selected). FitsEntry (selective_entry own entry)) of_vrf all each)
 
   abbrev active_entry : OwnVrf → Note → Key × Value

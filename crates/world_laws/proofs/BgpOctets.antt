@@ -11,7 +11,7 @@ use Rattle.mv_base.specs.declared.addr.Addr.{Addr}
 use Rattle.mv_base.specs.declared.addr.Addr.TheVariants.{V4, V6}
 use Rattle.route_targets.specs.declared.communities.ExtComm.{ExtComm}
 use Rattle.bgp_update.specs.Written.{attribute_head, attribute, comms_octets}
-use Rattle.world_laws.specs.Sound.{IsHost, IsCustomer, AreEight}
+use Rattle.world_laws.specs.Sound.{IsHost, AreEight}
 
 -- ---- lists of octets
 
@@ -55,10 +55,6 @@ host_octets (V6 octets) h = absurd h
 pub host_length : (addr : Addr) → IsHost addr → length (addr_octets addr) ≡ 4
 host_length (V4 octets) h = h.0
 host_length (V6 octets) h = absurd h
-
-pub customer_octets : (addr : Addr) → IsCustomer addr → IsOctets (addr_octets addr)
-customer_octets (V4 octets) h = h.1
-customer_octets (V6 octets) h = h.1
 
 pub comms_fit : (comms : List ExtComm) → AllByRecursion (λ (comm : ExtComm). AreEight comm.0) comms → IsOctets (comms_octets comms)
 comms_fit [] h = no_octets

@@ -4,7 +4,7 @@ use Rattle.std.specs.Prelude.{slice_get}
 use Rattle.std.specs.List.{All, AllByRecursion}
 use Rattle.std.proofs.lemmas.List.Elements.{All-get_or, recursion_from_All}
 use Rattle.std.proofs.lemmas.Option.{slice_get_cases}
-use Rattle.mv_base.specs.Address.{IsAddr, addr_octets}
+use Rattle.mv_base.specs.Address.{addr_octets}
 use Rattle.mv_base.specs.Octets.{IsOctets}
 use Rattle.mv_base.specs.declared.addr.Addr.{Addr}
 use Rattle.mv_base.specs.declared.addr.Addr.TheVariants.{V4, V6}
@@ -14,8 +14,7 @@ use Rattle.mv_base.specs.declared.ids.VrfId.{VrfId}
 use Rattle.mv_base.specs.declared.prefix.Prefix.{Prefix}
 use Rattle.route_targets.specs.declared.communities.Target.{Target}
 use Rattle.scenario_defs.specs.Home.{routes_of_site, routes_from, local_routes}
-use Rattle.bgp_update.specs.Written.{IsVpnPrefix}
-use Rattle.scenario_defs.specs.Rules.{IsIpv4, IsUnicast, IsTarget, IsVrf, IsSite, IsSitePrefix}
+use Rattle.scenario_defs.specs.Rules.{IsUnicast, IsTarget, IsVrf, IsSite, IsSitePrefix}
 use Rattle.scenario_defs.specs.Vpn.{is_attached_at}
 use Rattle.scenario_defs.specs.declared.scenario.Node.{Node}
 use Rattle.scenario_defs.specs.declared.scenario.Route.{Route}
@@ -94,21 +93,14 @@ own_fit place sound = those_fit place.me 0 place.scenario.vrfs (vrfs_fit place.s
 -- ---- local routes
 
 pub record FitsPrefix (prefix : Prefix) : Type 0 where
-  pub is : IsVpnPrefix prefix.addr prefix.bits
+  pub is : IsSitePrefix prefix
   pub octets : IsOctets (addr_octets prefix.addr)
 
 abbrev FitsSite : Site → Type 0
 FitsSite site = AllByRecursion FitsPrefix site.prefixes
 
-site_prefix : (prefix : Prefix) → IsSitePrefix prefix → IsVpnPrefix prefix.addr prefix.bits
-site_prefix prefix is = (of_addr prefix.addr is.ipv4, is.bits)
-  where
-    of_addr : (addr : Addr) → IsIpv4 addr → IsAddr addr
-    of_addr (V4 octets) four = four
-    of_addr (V6 octets) four = absurd four
-
 site_fits : (site : Site) → IsSite site → All (λ (prefix : Prefix). IsOctets (addr_octets prefix.addr)) site.prefixes → FitsSite site
-site_fits site is octets = all_both IsSitePrefix (λ (prefix : Prefix). IsOctets (addr_octets prefix.addr)) FitsPrefix (λ prefix a b. record { is = site_prefix prefix a; octets = b }) site.prefixes
+site_fits site is octets = all_both IsSitePrefix (λ (prefix : Prefix). IsOctets (addr_octets prefix.addr)) FitsPrefix (λ prefix a b. record { is = a; octets = b }) site.prefixes
     (recursion_from_All IsSitePrefix site.prefixes is.each) (recursion_from_All (λ (prefix : Prefix). IsOctets (addr_octets prefix.addr)) site.prefixes octets)
 
 sites_fit : (scenario : Scenario) → SoundScenario scenario → AllByRecursion FitsSite scenario.sites

@@ -18,7 +18,7 @@ use Rattle.pim_defs.specs.Mention.{entry_by, entry_of}
 use Rattle.pim_defs.specs.Entries.{Entries, expiry_at, expiry_then, named_in, with_expiries, applied, kept_at, asks}
 use Rattle.pim_defs.proofs.EntriesLemmas.{get-kept}
 use Rattle.pim_defs.proofs.KeyLemmas.{entry_cmp_total, entry_cmp_exact}
-use Rattle.world_laws.specs.Sound.{IsFlow, IsHost, IsGroupAddr, SoundEntry}
+use Rattle.world_laws.specs.Sound.{IsHost, IsGroupAddr, SoundEntry}
 use Rattle.world_laws.specs.Honest.{SoundGroup, SoundMessage}
 use Rattle.world_laws.proofs.Lists.{each_append, each_map, each_flat, each_weaker}
 use Rattle.world_laws.proofs.Maps.{Each, all_entries, made_meets}
@@ -28,18 +28,11 @@ SoundAt at expiry = SoundEntry at.entry
 
 -- ---- messages
 
-sound_entry_by : (kind : SourceKind) (group addr : Addr) → IsFlow addr group → SoundEntry (entry_by kind group addr)
-sound_entry_by kinds.Sg group addr h = h
-sound_entry_by kinds.Star group addr h = h.1
-sound_entry_by kinds.Rpt group addr h = h
-
 named_by_group : (iface : IfaceId) (group : Group) → SoundGroup group →
     AllByRecursion (λ (at : IfaceEntry). SoundEntry at.entry) (map (λ source. record { iface = iface; entry = entry_of group.group source }) (group.joins ++ group.prunes))
 named_by_group iface group sound =
     each_map (λ (at : IfaceEntry). SoundEntry at.entry) (λ (source : JpSource). record { iface = iface; entry = entry_of group.group source }) (group.joins ++ group.prunes)
-    (each_weaker (λ (source : JpSource). IsFlow source.addr group.group) (λ source. SoundEntry (entry_of group.group source))
-    (λ source h. sound_entry_by source.kind group.group source.addr h)
-    (group.joins ++ group.prunes) (each_append (λ (source : JpSource). IsFlow source.addr group.group) group.joins group.prunes sound.joins sound.prunes))
+    (each_append (λ (source : JpSource). SoundEntry (entry_of group.group source)) group.joins group.prunes sound.joins sound.prunes)
 
 named_sound : (iface : IfaceId) (message : JoinPrune) → SoundMessage message → AllByRecursion (λ (at : IfaceEntry). SoundEntry at.entry) (named_in iface message)
 named_sound iface message sound =
@@ -73,23 +66,3 @@ passed false o expiry e = absurd cc
 
 pub kept_sound : (old : Entries) (now : ℕ) → Each SoundAt old → Each SoundAt (kept_at old now)
 kept_sound old now sound at expiry e = sound at expiry (passed (counts now (maps.get old at)) (maps.get old at) expiry (sym (get-kept old now at) ∙ e))
-
--- ---- what an interface asks for
-
-counted : (now : ℕ) (o : Option Expiry) → counts now o ≡ true → (expiry : Expiry) × (o ≡ Some expiry)
-counted now None h = absurd cc
-counted now (Some expiry) h = (expiry, refl)
-
-pub asked_group : (old : Entries) (iface : IfaceId) (source group : Addr) (active : Bool) (now : ℕ) → Each SoundAt old → asks old iface source group active now ≡ true → IsGroupAddr group
-asked_group old iface source group active now sound h =
-    elim (or_cases (counts now (expiry_at old iface (entries.Source source group)))
-    (counts now (expiry_at old iface (entries.Star group)) && not (counts now (expiry_at old iface (entries.Rpt source group))) && active) h) [
-      | inl e ↦
-          let found = counted now (expiry_at old iface (entries.Source source group)) e in
-          (sound (record { iface = iface; entry = entries.Source source group }) found.0 found.1).1
-      | inr e ↦
-          let front = (and_parts (counts now (expiry_at old iface (entries.Star group)) && not (counts now (expiry_at old iface (entries.Rpt source group)))) active e).0 in
-          let both = and_parts (counts now (expiry_at old iface (entries.Star group))) (not (counts now (expiry_at old iface (entries.Rpt source group)))) front in
-          let found = counted now (expiry_at old iface (entries.Star group)) both.0 in
-          sound (record { iface = iface; entry = entries.Star group }) found.0 found.1
-    ]

@@ -5,13 +5,14 @@ use Rattle.std.specs.Int.{w16, to_be_bytes}
 use Rattle.std.specs.List.{AllByRecursion}
 use Rattle.std.proofs.lemmas.Option.{slice_get_cases}
 use Rattle.framing.proofs.Cuts.{IsOctets-before, IsOctets-behind}
-use Rattle.mv_base.specs.Address.{addr_octets}
+use Rattle.mv_base.specs.Address.{addr_octets, IsAddr}
 use Rattle.mv_base.specs.Octets.{IsOctets}
 use Rattle.mv_base.specs.declared.addr.Addr.{Addr}
 use Rattle.mv_base.specs.declared.addr.Addr.TheVariants.{V4, V6}
 use Rattle.mv_base.specs.declared.ids.IfaceId.{IfaceId}
-use Rattle.pim_joinprune.specs.Families.{family_octet, mask_len, family_of, IsOf}
+use Rattle.mvpn_nlri.specs.Spelling.{IsMulticast}
 use Rattle.pim_joinprune.specs.Fields.{AreAll}
+use Rattle.pim_joinprune.specs.Families.{family_octet, mask_len, family_of, IsOf}
 use Rattle.pim_joinprune.specs.Reading.{decoded}
 use Rattle.pim_joinprune.specs.Spelling as pim
 use Rattle.pim_joinprune.specs.Spelling.{masked, unicast, SpellsSource, SpellsGroup, SpellsFields, Spells}
@@ -19,20 +20,20 @@ use Rattle.pim_joinprune.specs.declared.fault.PimFault.{PimFault}
 use Rattle.pim_joinprune.specs.declared.group.Group.{Group}
 use Rattle.pim_joinprune.specs.declared.message.JoinPrune.{JoinPrune}
 use Rattle.pim_joinprune.specs.declared.source.JpSource.{JpSource}
+use Rattle.pim_joinprune.specs.declared.source.SourceKind.{SourceKind}
+use Rattle.pim_joinprune.specs.declared.source.SourceKind.TheVariants as kinds
 use Rattle.pim_joinprune.proofs.Calls.{is_spelled}
-use Rattle.pim_defs.specs.Mention.{group_of}
+use Rattle.pim_defs.specs.Mention.{entry_by, entry_of, group_of}
 use Rattle.pim_defs.specs.Single.{source_of, join_of, prune_of}
 use Rattle.mvpn_model.specs.Messages.{own_addr, read_at}
 use Rattle.mvpn_model.specs.declared.message.Given.{Given}
-use Rattle.scenario_defs.proofs.RuleLemmas.{all_at, iface_rules_at}
-use Rattle.scenario_defs.specs.Rules.{IsIpv4}
 use Rattle.scenario_defs.specs.declared.event.JoinEntry.{JoinEntry}
 use Rattle.scenario_defs.specs.declared.event.JoinEntry.TheVariants as entries
 use Rattle.scenario_defs.specs.declared.scenario.Iface.{Iface}
 use Rattle.scenario_defs.specs.declared.scenario.Scenario.{Scenario}
-use Rattle.world_laws.specs.Honest.{SoundGroup, SoundMessage, IsSoundAt}
-use Rattle.world_laws.proofs.Lists.{each_weaker}
-use Rattle.world_laws.specs.Sound.{IsCustomer, IsGroupAddr, AreOneFamily, IsFlow, SoundScenario, SoundEntry}
+use Rattle.edge_defs.specs.Originated.{afi_of}
+use Rattle.world_laws.specs.Honest.{SoundGroup, SoundMessage}
+use Rattle.world_laws.specs.Sound.{IsGroupAddr, SoundEntry}
 
 -- a message that is handed, if one is
 abbrev pub IsSoundGiven : Option Given → Type 0
@@ -41,69 +42,42 @@ IsSoundGiven (Some given) = SoundMessage given.message
 
 -- ---- messages of one entry
 
-customer : (addr : Addr) → IsIpv4 addr → IsOctets (addr_octets addr) → IsCustomer addr
-customer (V4 octets) is fits = (is, fits)
-customer (V6 octets) is fits = absurd is
+-- The source that names an entry names it again.
+named_again : (own : Addr) (entry : JoinEntry) → SoundEntry entry → SoundEntry (entry_of (group_of entry) (source_of own entry))
+named_again own (entries.Star group) sound = sound
+named_again own (entries.Source source group) sound = sound
+named_again own (entries.Rpt source group) sound = sound
 
-own_addr_host : (scenario : Scenario) → SoundScenario scenario → (iface : IfaceId) → iface.0 < length scenario.ifaces → IsCustomer (own_addr scenario iface)
-own_addr_host scenario sound iface lt = by (slice_get scenario.ifaces iface.0) refl
-  where
-    by : (o : Option Iface) → slice_get scenario.ifaces iface.0 ≡ o → IsCustomer (elim o [ None ↦ V4 (0 ∷ 0 ∷ 0 ∷ 0 ∷ []) | Some found ↦ found.addr ])
-    by (Some found) e = customer found.addr (iface_rules_at scenario sound.rules iface.0 found e).ipv4 (all_at (λ (own : Iface). IsOctets (addr_octets own.addr)) scenario.ifaces sound.octets.ifaces iface.0 found e)
-    by None e = elim (slice_get_cases scenario.ifaces iface.0).1 [
-      | inl there ↦ (let found = there.2 in absurd cc)
-      | inr past ↦ absurd (omega (arith, past.0, lt))
-    ]
+pub join_is_sound : (scenario : Scenario) (iface : IfaceId) (entry : JoinEntry) → SoundEntry entry → SoundMessage (join_of (own_addr scenario iface) entry)
+join_is_sound scenario iface entry sound = (record { joins = (named_again (own_addr scenario iface) entry sound, tt); prunes = tt }, tt)
 
-source_flow : (own : Addr) (entry : JoinEntry) → IsCustomer own → SoundEntry entry → AreOneFamily own (group_of entry) → IsFlow (source_of own entry).addr (group_of entry)
-source_flow own (entries.Star group) host sound family = (host, sound, family)
-source_flow own (entries.Source source group) host sound family = sound
-source_flow own (entries.Rpt source group) host sound family = sound
-
-group_is_sound : (entry : JoinEntry) → SoundEntry entry → IsGroupAddr (group_of entry)
-group_is_sound (entries.Star group) sound = sound
-group_is_sound (entries.Source source group) sound = sound.1
-group_is_sound (entries.Rpt source group) sound = sound.1
-
-pub join_is_sound : (scenario : Scenario) → SoundScenario scenario → (iface : IfaceId) (entry : JoinEntry) → IsSoundAt scenario iface entry → SoundMessage (join_of (own_addr scenario iface) entry)
-join_is_sound scenario s iface entry is =
-    let flow = source_flow (own_addr scenario iface) entry (own_addr_host scenario s iface is.known) is.sound is.family in
-    (record { group_addr = group_is_sound entry is.sound; joins = (flow, tt); prunes = tt }, tt)
-
-pub prune_is_sound : (scenario : Scenario) → SoundScenario scenario → (iface : IfaceId) (entry : JoinEntry) → IsSoundAt scenario iface entry → SoundMessage (prune_of (own_addr scenario iface) entry)
-prune_is_sound scenario s iface entry is =
-    let flow = source_flow (own_addr scenario iface) entry (own_addr_host scenario s iface is.known) is.sound is.family in
-    (record { group_addr = group_is_sound entry is.sound; joins = tt; prunes = (flow, tt) }, tt)
+pub prune_is_sound : (scenario : Scenario) (iface : IfaceId) (entry : JoinEntry) → SoundEntry entry → SoundMessage (prune_of (own_addr scenario iface) entry)
+prune_is_sound scenario iface entry sound = (record { joins = tt; prunes = (named_again (own_addr scenario iface) entry sound, tt) }, tt)
 
 -- ---- messages that octets spell
 
-spelled_customer : (own : Addr) (addr : Addr) → IsOf (family_of own) addr → IsOctets (addr_octets addr) → IsCustomer addr
-spelled_customer (V4 own) (V4 octets) is fits = (is, fits)
-spelled_customer (V6 own) (V6 octets) is fits = (is, fits)
-spelled_customer (V4 own) (V6 octets) is fits = absurd is
-spelled_customer (V6 own) (V4 octets) is fits = absurd is
+spelled_addr : (own addr : Addr) → IsOf (family_of own) addr → IsAddr addr
+spelled_addr (V4 own) (V4 octets) is = is
+spelled_addr (V6 own) (V6 octets) is = is
+spelled_addr (V4 own) (V6 octets) is = absurd is
+spelled_addr (V6 own) (V4 octets) is = absurd is
 
-spelled_group : (own : Addr) (addr : Addr) → pim.IsMulticast (family_of own) addr → IsOctets (addr_octets addr) → IsGroupAddr addr
-spelled_group (V4 own) (V4 octets) is fits = ((is.0, fits), is.1)
-spelled_group (V6 own) (V6 octets) is fits = ((is.0, fits), is.1)
-spelled_group (V4 own) (V6 octets) is fits = absurd is.0
-spelled_group (V6 own) (V4 octets) is fits = absurd is.0
+spelled_multicast : (addr : Addr) → pim.BeginsMulticast addr → IsMulticast addr
+spelled_multicast (V4 octets) is = is
+spelled_multicast (V6 octets) is = is
 
-of_one_family : (own : Addr) (addr other : Addr) → IsOf (family_of own) addr → IsOf (family_of own) other → AreOneFamily addr other
-of_one_family (V4 own) (V4 octets) (V4 others) is also = tt
-of_one_family (V6 own) (V6 octets) (V6 others) is also = tt
-of_one_family (V4 own) (V6 octets) other is also = absurd is
-of_one_family (V6 own) (V4 octets) other is also = absurd is
-of_one_family (V4 own) (V4 octets) (V6 others) is also = absurd also
-of_one_family (V6 own) (V6 octets) (V4 others) is also = absurd also
-
--- what stands in front of a masked address
-abbrev mask_front : Addr → ℕ → List ℕ
-mask_front own flags = family_octet (family_of own) ∷ 0 ∷ flags ∷ mask_len (family_of own) ∷ []
+-- Addresses of one message are of one family.
+one_family : (own a b : Addr) → IsOf (family_of own) a → IsOf (family_of own) b → afi_of a ≡ afi_of b
+one_family (V4 own) (V4 a) (V4 b) p q = refl
+one_family (V4 own) (V4 a) (V6 b) p q = absurd q
+one_family (V4 own) (V6 a) b p q = absurd p
+one_family (V6 own) (V6 a) (V6 b) p q = refl
+one_family (V6 own) (V6 a) (V4 b) p q = absurd q
+one_family (V6 own) (V4 a) b p q = absurd p
 
 -- the address behind its family, encoding, flags and mask length
 masked_octets : (own : Addr) (flags : ℕ) (addr : Addr) (rest : List ℕ) → IsOctets (masked (family_of own) flags addr ++ rest) → IsOctets (addr_octets addr)
-masked_octets own flags addr rest fits = IsOctets-behind (mask_front own flags) (addr_octets addr) (IsOctets-before (masked (family_of own) flags addr) rest fits)
+masked_octets own flags addr rest fits = IsOctets-behind (family_octet (family_of own) ∷ 0 ∷ flags ∷ mask_len (family_of own) ∷ []) (addr_octets addr) (IsOctets-before (masked (family_of own) flags addr) rest fits)
 
 -- What octets that spell elements end to end make of each.
 all_spelled : {A : Type 0} (S : A → List ℕ → Type 0) (P : A → Type 0) → ((x : A) (text : List ℕ) → S x text → IsOctets text → P x) → (all : List A) (text : List ℕ) → AreAll S all text → IsOctets text → AllByRecursion P all
@@ -112,19 +86,18 @@ all_spelled S P meets (x ∷ more) text (first, others, spells, rest, parts) fit
     let both : IsOctets (first ++ others) = subst IsOctets parts fits in
     (meets x first spells (IsOctets-before first others both), all_spelled S P meets more others rest (IsOctets-behind first others both))
 
-source_spelled : (own : Addr) (source : JpSource) (text : List ℕ) → SpellsSource (family_of own) source text → IsOctets text → IsOf (family_of own) source.addr × IsCustomer source.addr
-source_spelled own source text s fits = (
-  s.addr,
-  spelled_customer own source.addr s.addr (IsOctets-behind (mask_front own s.flags) (addr_octets source.addr) (subst IsOctets s.octets fits)),
-)
+-- a source of the family of that address
+abbrev IsSpelled : Addr → JpSource → Type 0
+IsSpelled own source = IsOf (family_of own) source.addr × IsOctets (addr_octets source.addr)
 
--- the sources of a group are of its family
-sources_are : (own : Addr) (group : Addr) → pim.IsMulticast (family_of own) group → IsGroupAddr group → (sources : List JpSource) (text : List ℕ) → AreAll (SpellsSource (family_of own)) sources text → IsOctets text
-    → AllByRecursion (λ (source : JpSource). IsFlow source.addr group) sources
-sources_are own group multicast sound sources text are fits =
-    each_weaker (λ (source : JpSource). IsOf (family_of own) source.addr × IsCustomer source.addr) (λ source. IsFlow source.addr group)
-    (λ source h. (h.1, sound, of_one_family own source.addr group h.0 multicast.0)) sources
-    (all_spelled (SpellsSource (family_of own)) (λ source. IsOf (family_of own) source.addr × IsCustomer source.addr) (source_spelled own) sources text are fits)
+source_spelled : (own : Addr) (source : JpSource) (text : List ℕ) → SpellsSource (family_of own) source text → IsOctets text → IsSpelled own source
+source_spelled own source text s fits = (s.addr, IsOctets-behind (family_octet (family_of own) ∷ 0 ∷ s.flags ∷ mask_len (family_of own) ∷ []) (addr_octets source.addr) (subst IsOctets s.octets fits))
+
+-- the entry that a source and a group of that family name
+named_entry : (own : Addr) (kind : SourceKind) (addr group : Addr) → IsOf (family_of own) addr → IsOctets (addr_octets addr) → IsOf (family_of own) group → IsGroupAddr group → SoundEntry (entry_by kind group addr)
+named_entry own kinds.Star addr group is fits of_group sound = sound
+named_entry own kinds.Sg addr group is fits of_group sound = ((spelled_addr own addr is, fits), sound, one_family own addr group is of_group)
+named_entry own kinds.Rpt addr group is fits of_group sound = ((spelled_addr own addr is, fits), sound, one_family own addr group is of_group)
 
 group_spelled : (own : Addr) (group : Group) (text : List ℕ) → SpellsGroup (family_of own) group text → IsOctets text → SoundGroup group
 group_spelled own group text s fits =
@@ -133,11 +106,14 @@ group_spelled own group text s fits =
     let whole : IsOctets (masked (family_of own) s.flags group.group ++ (joined ++ (pruned ++ (s.joins ++ s.prunes)))) = subst IsOctets s.octets fits in
     let behind : IsOctets (joined ++ (pruned ++ (s.joins ++ s.prunes))) = IsOctets-behind (masked (family_of own) s.flags group.group) (joined ++ (pruned ++ (s.joins ++ s.prunes))) whole in
     let both : IsOctets (s.joins ++ s.prunes) = IsOctets-behind pruned (s.joins ++ s.prunes) (IsOctets-behind joined (pruned ++ (s.joins ++ s.prunes)) behind) in
-    let sound : IsGroupAddr group.group = spelled_group own group.group s.is.multicast (masked_octets own s.flags group.group (joined ++ (pruned ++ (s.joins ++ s.prunes))) whole) in
+    let is = s.is.multicast in
+    let octets = masked_octets own s.flags group.group (joined ++ (pruned ++ (s.joins ++ s.prunes))) whole in
+    let sound : IsGroupAddr group.group = ((spelled_addr own group.group is.0, octets), spelled_multicast group.group is.1) in
+    let named : (source : JpSource) → IsSpelled own source → SoundEntry (entry_of group.group source) = λ source spelled. named_entry own source.kind source.addr group.group spelled.0 spelled.1 is.0 sound in
+    let meets : (source : JpSource) (front : List ℕ) → SpellsSource (family_of own) source front → IsOctets front → SoundEntry (entry_of group.group source) = λ source front spells octets. named source (source_spelled own source front spells octets) in
     record {
-      group_addr = sound;
-      joins = sources_are own group.group s.is.multicast sound group.joins s.joins s.joined (IsOctets-before s.joins s.prunes both);
-      prunes = sources_are own group.group s.is.multicast sound group.prunes s.prunes s.pruned (IsOctets-behind s.joins s.prunes both);
+      joins = all_spelled (SpellsSource (family_of own)) (λ source. SoundEntry (entry_of group.group source)) meets group.joins s.joins s.joined (IsOctets-before s.joins s.prunes both);
+      prunes = all_spelled (SpellsSource (family_of own)) (λ source. SoundEntry (entry_of group.group source)) meets group.prunes s.prunes s.pruned (IsOctets-behind s.joins s.prunes both);
     }
 
 fields_spelled : (message : JoinPrune) (text : List ℕ) → SpellsFields message text → IsOctets text → SoundMessage message

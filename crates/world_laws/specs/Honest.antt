@@ -2,29 +2,25 @@
 use Rattle.std.specs.Prelude.{◌<◌, ◌≤◌, ℕ, length}
 use Rattle.std.specs.List.{AllByRecursion}
 use Rattle.mv_base.specs.Octets.{IsOctets}
-use Rattle.mv_base.specs.declared.ids.IfaceId.{IfaceId}
 use Rattle.mv_base.specs.declared.ids.NodeId.{NodeId}
 use Rattle.core_walks.specs.Walks.{IsLinked}
 use Rattle.pim_joinprune.specs.declared.group.Group.{Group}
 use Rattle.pim_joinprune.specs.declared.message.JoinPrune.{JoinPrune}
 use Rattle.pim_joinprune.specs.declared.source.JpSource.{JpSource}
+use Rattle.pim_defs.specs.Mention.{entry_of}
 use Rattle.scenario_defs.specs.declared.event.Event.{Event}
 use Rattle.scenario_defs.specs.declared.event.Event.TheVariants as events
-use Rattle.scenario_defs.specs.declared.event.JoinEntry.{JoinEntry}
 use Rattle.scenario_defs.specs.declared.scenario.Scenario.{Scenario}
-use Rattle.pim_defs.specs.Mention.{group_of}
-use Rattle.mvpn_model.specs.Messages.{own_addr}
 use Rattle.session_defs.specs.System.{System}
 use Rattle.edge_defs.specs.Steps as steps
 use Rattle.world_defs.specs.Nodes.{Nodes}
 use Rattle.world_defs.specs.System.{NodeCall, Own, Elapse, Reset, Price, Follow, system}
-use Rattle.world_laws.specs.Sound.{IsGroupAddr, AreOneFamily, IsFlow, SoundEntry, SoundPattern}
+use Rattle.world_laws.specs.Sound.{IsFlow, SoundEntry, SoundPattern}
 
--- a group of a Join/Prune message is multicast, and its sources are of the group's family
+-- the entries that a group of a Join/Prune message names are sound
 pub record SoundGroup (group : Group) : Type 0 where
-  pub group_addr : IsGroupAddr group.group
-  pub joins : AllByRecursion (λ (source : JpSource). IsFlow source.addr group.group) group.joins
-  pub prunes : AllByRecursion (λ (source : JpSource). IsFlow source.addr group.group) group.prunes
+  pub joins : AllByRecursion (λ (source : JpSource). SoundEntry (entry_of group.group source)) group.joins
+  pub prunes : AllByRecursion (λ (source : JpSource). SoundEntry (entry_of group.group source)) group.prunes
 
 abbrev pub SoundMessage : JoinPrune → Type 0
 SoundMessage message = AllByRecursion SoundGroup message.groups
@@ -71,20 +67,13 @@ pub record IsLinkPlace (scenario : Scenario) (from to : NodeId) (place : ℕ) : 
   pub linked : IsLinked scenario.links from.0 to.0 cost
   pub counted : 1 ≤ place
 
--- An entry with sound values at an interface of the scenario, whose address is of the group's family.
-pub record IsSoundAt (scenario : Scenario) (iface : IfaceId) (entry : JoinEntry) : Type 0 where
-  pub known : iface.0 < length scenario.ifaces
-  pub sound : SoundEntry entry
-  pub family : AreOneFamily (own_addr scenario iface) (group_of entry)
-
--- An event of sound values. The costs of links are 1 to 65535. The node whose timers are run, or whose end notices a loss, and the
--- interface of a join or a prune are those of the scenario, and the group is of the family of the interface's address; a copy hops or is
--- dropped on a link.
+-- An event of sound values. The costs of links are 1 to 65535. The node whose timers are run, or whose end notices a loss, and the interface of a join or a prune are those
+-- of the scenario; a copy hops or is dropped on a link.
 abbrev pub IsSoundEvent : Scenario → Event → Type 0
 IsSoundEvent scenario (events.Timers node) = node.0 < length scenario.nodes
 IsSoundEvent scenario (events.Notice kind a b) = a.0 < length scenario.nodes
-IsSoundEvent scenario (events.Join iface entry) = IsSoundAt scenario iface entry
-IsSoundEvent scenario (events.Prune iface entry) = IsSoundAt scenario iface entry
+IsSoundEvent scenario (events.Join iface entry) = (iface.0 < length scenario.ifaces) × SoundEntry entry
+IsSoundEvent scenario (events.Prune iface entry) = (iface.0 < length scenario.ifaces) × SoundEntry entry
 IsSoundEvent scenario (events.Pim iface bytes) = IsOctets bytes
 IsSoundEvent scenario (events.Active iface source group) = IsFlow source group
 IsSoundEvent scenario (events.Select vrf pattern) = SoundPattern pattern

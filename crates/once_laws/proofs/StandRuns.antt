@@ -43,7 +43,7 @@ use Rattle.session_defs.specs.System.{Stepped, with_earlier}
 use Rattle.session_defs.specs.declared.direction.Direction.{Direction}
 use Rattle.edge_defs.specs.Edge as edges
 use Rattle.edge_defs.specs.Edge.{Control}
-use Rattle.edge_defs.specs.Place.{Core}
+use Rattle.world_defs.specs.Costs.{Cores}
 use Rattle.edge_defs.specs.Steps as steps
 use Rattle.edge_defs.specs.Steps.{EdgeStepped, edge_step, control_step}
 use Rattle.world_defs.specs.Acts.{At, with_network}
@@ -349,8 +349,8 @@ runs_tell scenario rules refused [] st old number trace new a t run = subst (Tel
 runs_tell scenario rules refused (timed ∷ more) st old number trace new a t run =
     runs_tell scenario rules refused more (one_after scenario refused timed st) run.1 (number + 1) run.2 new (a.1 run.0 run.1 run.3) (one_tells scenario rules refused st old timed run.0 run.1 a.0 t run.3) run.5
 
-start_tells : (scenario : Scenario) (core : Core) → Tells scenario (λ iface entry. record { clock = 0; expiry = None }) (start scenario core)
-start_tells scenario core = record {
+start_tells : (scenario : Scenario) (cores : Cores) → Tells scenario (λ iface entry. record { clock = 0; expiry = None }) (start scenario cores)
+start_tells scenario cores = record {
   clock = 0;
   stands = record {
     same = refl;
@@ -365,13 +365,13 @@ start_tells scenario core = record {
 }
 
 -- Behind every run the entries that count are those of the events.
-pub entries_told : (core : Core) (scenario : Scenario) (all : List Timed) (trace : List Traced) (world : World) → Rules scenario → Rises 0 all → Runs (start scenario core) 0 all trace world → EntriesAreTold (record { scenario = scenario; events = all; refused = refused_lines (report_of trace) }) world
-entries_told core scenario all trace world rules rises run =
+pub entries_told : (cores : Cores) (scenario : Scenario) (all : List Timed) (trace : List Traced) (world : World) → Rules scenario → Rises 0 all → Runs (start scenario cores) 0 all trace world → EntriesAreTold (record { scenario = scenario; events = all; refused = refused_lines (report_of trace) }) world
+entries_told cores scenario all trace world rules rises run =
     let refused = refused_lines (report_of trace) in
     let past : Past = record { scenario = scenario; events = all; refused = refused } in
     let now : ℕ = world.network.state.clock in
-    let accepted = tells_accepted all (start scenario core) 0 trace world 0 [] refused rises (λ line less. refl) refl run in
-    let t = runs_tell scenario rules refused all (λ iface entry. record { clock = 0; expiry = None }) (start scenario core) 0 trace world accepted (start_tells scenario core) run in
+    let accepted = tells_accepted all (start scenario cores) 0 trace world 0 [] refused rises (λ line less. refl) refl run in
+    let t = runs_tell scenario rules refused all (λ iface entry. record { clock = 0; expiry = None }) (start scenario cores) 0 trace world accepted (start_tells scenario cores) run in
     record {
       clock = λ iface entry. t.clocks iface entry ∙ sym t.stands.now;
       counted = λ iface n entry at.
@@ -387,10 +387,10 @@ asks_by_counts : (c : ℕ) (active : Bool) (x y z u v w : Option Expiry) → cou
 asks_by_counts c active x y z u v w p q r = λ i. p i || (q i && not (r i) && active)
 
 -- Behind every run interfaces ask by the entries of their edges, given which sources the events note.
-pub asks_told : (core : Core) (scenario : Scenario) (all : List Timed) (trace : List Traced) (world : World) → Rules scenario → Rises 0 all → Runs (start scenario core) 0 all trace world → AsksAreTold (record { scenario = scenario; events = all; refused = refused_lines (report_of trace) }) world
-asks_told core scenario all trace world rules rises run =
+pub asks_told : (cores : Cores) (scenario : Scenario) (all : List Timed) (trace : List Traced) (world : World) → Rules scenario → Rises 0 all → Runs (start scenario cores) 0 all trace world → AsksAreTold (record { scenario = scenario; events = all; refused = refused_lines (report_of trace) }) world
+asks_told cores scenario all trace world rules rises run =
     let past : Past = record { scenario = scenario; events = all; refused = refused_lines (report_of trace) } in
-    let e = entries_told core scenario all trace world rules rises run in
+    let e = entries_told cores scenario all trace world rules rises run in
     let now : ℕ = clock_of world in
     λ iface n source group at.
     let active : Bool = is_active_at past iface source group in

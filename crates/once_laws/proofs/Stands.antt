@@ -27,11 +27,11 @@ use Rattle.label_defs.specs.Steps.{label_step}
 use Rattle.label_defs.proofs.KeyLemmas.{node_equal}
 use Rattle.session_defs.specs.System.{Stepped}
 use Rattle.edge_defs.specs.Edge.{Taken, Control, EdgeData}
-use Rattle.edge_defs.specs.Place.{EdgePlace, label_place}
+use Rattle.edge_defs.specs.Place.{EdgePlace}
 use Rattle.edge_defs.specs.Steps as steps
 use Rattle.edge_defs.specs.Steps.{EdgeStepped, LabelStep, edge_step, own_label_call, changed_leaves, one_call, control_step, label_row, part_after}
 use Rattle.edge_defs.specs.Tunnels.{leaves}
-use Rattle.world_defs.specs.Nodes.{NodeState, Edge, CoreNode, Nodes, is_edge, with_node, place_of}
+use Rattle.world_defs.specs.Nodes.{NodeState, Edge, CoreNode, Nodes, is_edge, with_node, place_of, label_place_of}
 use Rattle.world_defs.specs.Refusals.{control_of}
 use Rattle.world_defs.specs.System.{NodeCall, Own, Elapse, Reset, node_called, core_called, nodes_called}
 use Rattle.ready_laws.proofs.Ends.{Holds}
@@ -201,8 +201,8 @@ called_stands scenario clock told nodes n call w s = by (nodes.node n) refl
     core : (part : LabelData) → nodes.node n ≡ CoreNode part → (o : Option label_steps.Call) → Holds (λ (new : Stepped Nodes). Stands scenario clock told new.state) (core_called nodes n part o)
     core part e None = s
     core part e (Some own) =
-        holds_then (λ (new : settling.Stepped). ⊤) (λ (new : Stepped Nodes). Stands scenario clock told new.state) (label_step (label_place nodes.scenario nodes.core n) nodes.clock part own) _
-        (holds_from (λ (new : settling.Stepped). ⊤) (label_step (label_place nodes.scenario nodes.core n) nodes.clock part own) (λ new is. tt))
+        holds_then (λ (new : settling.Stepped). ⊤) (λ (new : Stepped Nodes). Stands scenario clock told new.state) (label_step (label_place_of nodes n) nodes.clock part own) _
+        (holds_from (λ (new : settling.Stepped). ⊤) (label_step (label_place_of nodes n) nodes.clock part own) (λ new is. tt))
         (λ new p. same_kept scenario clock told nodes n (CoreNode new.part) s (λ kind. subst IsEdgeNode e kind) (λ iface entry. ap (λ (state : NodeState). remaining clock (kept_of (control_of state) iface entry)) (sym e)))
 
     by : (state : NodeState) → nodes.node n ≡ state → Holds (λ (new : Stepped Nodes). Stands scenario clock told new.state) (node_called nodes n state call)

@@ -144,7 +144,7 @@ module _ (scenario : Scenario) (nodes : Nodes) (s : Sound scenario nodes) where
   ]
 
 -- the node takes over the present costs
-followed : (scenario : Scenario) (nodes : Nodes) (n : NodeId) → Sound scenario nodes → Sound scenario (following nodes n)
+pub followed : (scenario : Scenario) (nodes : Nodes) (n : NodeId) → Sound scenario nodes → Sound scenario (following nodes n)
 followed scenario nodes n s = record {
   same = s.same;
   lines = s.lines;

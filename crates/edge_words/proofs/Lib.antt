@@ -1,0 +1,4 @@
+pub mod Members
+pub mod Flows
+pub mod Leaves
+pub mod Goes

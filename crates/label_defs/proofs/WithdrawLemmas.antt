@@ -13,10 +13,10 @@ use Rattle.label_defs.specs.LabelData.{Place, LabelData, use_of, has_tree}
 use Rattle.label_defs.specs.Settling.{Stepped, with_use}
 use Rattle.label_defs.specs.Steps.{Call, Taken, Want, Unwant, Raised, Noticed, Timers, Rerouted, released, effect, counted, label_step}
 use Rattle.label_defs.specs.Settled.{Maps}
-use Rattle.label_defs.specs.Laws.{WithdrawIs, WithdrawnThen, MappedThen, withdraw_to}
+use Rattle.label_defs.specs.Laws.{WithdrawIs, MappedThen, withdraw_to}
 use Rattle.label_defs.proofs.KeyLemmas.{node_equal}
 use Rattle.label_defs.proofs.UseLemmas.{used, map_some, set_here, set_there}
-use Rattle.label_defs.proofs.TreeLemmas.{not_both, one_tree}
+use Rattle.label_defs.proofs.TreeLemmas.{one_tree}
 use Rattle.label_defs.proofs.EffectLemmas.{released_maps}
 use Rattle.label_defs.proofs.LossLemmas.{freed_maps}
 use Rattle.label_defs.proofs.TimerLemmas.{woken_maps}

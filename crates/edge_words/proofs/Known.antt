@@ -74,21 +74,21 @@ one_node scenario rules a b low high same =
 -- ---- a route that is known
 
 -- a route that was taken from a peer, with what its value says for a Source Tree Join
-record FromPeer (place : EdgePlace) (control : Control) (route : KnownRoute) : Type 0 where
-  peer : NodeId
-  rd : Rd
-  taken : TakenRoute
-  by : JoinBy
-  up : is_some (maps.get control.peers peer) ≡ true
-  at : maps.get (taken_from control peer) (Unicast rd route.prefix) ≡ Some taken
-  joins : join_by (addr_of place.scenario peer) taken.value ≡ Some by
-  is : route.origin ≡ origins.Remote peer (addr_of place.scenario peer) rd
+pub record FromPeer (place : EdgePlace) (control : Control) (route : KnownRoute) : Type 0 where
+  pub peer : NodeId
+  pub rd : Rd
+  pub taken : TakenRoute
+  pub by : JoinBy
+  pub up : is_some (maps.get control.peers peer) ≡ true
+  pub at : maps.get (taken_from control peer) (Unicast rd route.prefix) ≡ Some taken
+  pub joins : join_by (addr_of place.scenario peer) taken.value ≡ Some by
+  pub is : route.origin ≡ origins.Remote peer (addr_of place.scenario peer) rd
 
 abbrev KnownIs : EdgePlace → Control → KnownRoute → Type 0
 KnownIs place control route = ((site : SiteId) × (route.origin ≡ origins.Local site)) ⊎ FromPeer place control route
 
 module _ (place : EdgePlace) (control : Control) (own : OwnVrf) where
-  peer_known : (peer : NodeId) (table : Taken) (key : Key) (taken : TakenRoute) (route : KnownRoute) → Among (peer, table) (maps.entries control.peers) → Among (key, taken) (maps.entries table)
+  pub peer_known : (peer : NodeId) (table : Taken) (key : Key) (taken : TakenRoute) (route : KnownRoute) → Among (peer, table) (maps.entries control.peers) → Among (key, taken) (maps.entries table)
       → known_route place own.vrf peer (key, taken) ≡ Some route → FromPeer place control route
   peer_known peer table (Mcast afi other) taken route a b h = absurd cc
   peer_known peer table (Unicast rd prefix) taken route a b h =
@@ -116,6 +116,19 @@ module _ (place : EdgePlace) (control : Control) (own : OwnVrf) where
             (let peer = flat_map_among (known_from place own.vrf) route (maps.entries control.peers) b in
             let by = found_among (known_route place own.vrf peer.0.0) route (maps.entries peer.0.1) peer.2 in
             inr (peer_known peer.0.0 peer.0.1 by.0.0 by.0.1 route peer.1 by.1 by.2))
+      ]
+
+  -- a local one is a route of the VRF's sites
+  pub local_is : (route : KnownRoute) (site : SiteId) → choice.Among route (known_routes place control own) → route.origin ≡ origins.Local site
+      → (local : Route) × Among local (local_routes place.scenario own.id) × (route ≡ of_site local)
+  local_is route site a h =
+      elim (among_either route (map of_site (local_routes place.scenario own.id)) (flat_map (known_from place own.vrf) (maps.entries control.peers)) (among_choice route (known_routes place control own) a)) [
+        | inl b ↦ map_among of_site route (local_routes place.scenario own.id) b
+        | inr b ↦
+            (let peer = flat_map_among (known_from place own.vrf) route (maps.entries control.peers) b in
+            let by = found_among (known_route place own.vrf peer.0.0) route (maps.entries peer.0.1) peer.2 in
+            let far = peer_known peer.0.0 peer.0.1 by.0.0 by.0.1 route peer.1 by.1 by.2 in
+            absurd (let bad : origins.Local site ≡ origins.Remote far.peer (addr_of place.scenario far.peer) far.rd = sym h ∙ far.is in cc))
       ]
 
   -- ---- edges

@@ -98,8 +98,7 @@ pub call_parts : (scenario : Scenario) (network : MessageNetwork Nodes) (copies 
 call_parts scenario network copies datagrams base n call new e good room sound up first =
     let nodes : Nodes = network.state in
     let old : LabelData = part_of (nodes.node n) in
-    let c = called_row nodes n (nodes.node n) call new refl (trees_behind scenario nodes base.sound n call good) e in
-    (
+    let c = called_row nodes n (nodes.node n) call new refl (trees_behind scenario nodes base.sound n call good) e in (
       c,
       record {
         sound = sound;

@@ -2,3 +2,4 @@ pub mod Members
 pub mod Flows
 pub mod Leaves
 pub mod Goes
+pub mod Quiet

@@ -11,13 +11,17 @@ ghost use Rattle.label_defs.specs.declared.branch.Branch.{Branch};
 ghost use Rattle.selective_defs.specs.Selective.{Among};
 ghost use Rattle.selective_defs.specs.declared.learned_route.LearnedRoute.{LearnedRoute};
 ghost use Rattle.edge_defs.specs.Edge.{Control, EdgeData, Upstream, VrfFlow};
+ghost use Rattle.label_defs.specs.Steps as label_steps;
 ghost use Rattle.edge_defs.specs.Datagrams.{arriving_fate, entering_fate};
+ghost use Rattle.edge_defs.specs.Due.{due};
 ghost use Rattle.edge_defs.specs.Flows.{flows_at};
-ghost use Rattle.edge_defs.specs.Place.{EdgePlace, OwnVrf};
+ghost use Rattle.edge_defs.specs.Place.{EdgePlace, OwnVrf, label_place};
+ghost use Rattle.edge_defs.specs.Steps.{timed};
 ghost use Rattle.edge_defs.specs.Tunnels.{leaves, learned_routes};
 ghost use Rattle.edge_words.specs.Asked.{IsAsked};
 ghost use Rattle.edge_words.specs.Goes.{ArrivesOn, ArrivesOut, EntersOn, EntersOut};
 ghost use Rattle.edge_words.specs.Leaf.{IsInclusive, IsSelective, IsLearned};
+ghost use Rattle.edge_words.specs.Quiet.{NoneDue};
 
 /// The flows of an edge at a clock are exactly those that some interface of a VRF asks for then, each with the upstream that the VRF
 /// chooses for it.
@@ -53,4 +57,16 @@ pub fn arriving_goes()
     ensures branches { (place : EdgePlace) (now : ℕ) (edge : EdgeData) (from : NodeId) (label : ℕ) (source group : Addr)
         (branch : Branch) → Among branch (arriving_fate place now edge from label source group).branches ↔
         ArrivesOn edge from label branch }
+{}
+
+/// No timer of an edge is due exactly where none is due entry by entry: no label has rested to its moment, each hold and each delay was
+/// run or its end is to come, and each entry ends later.
+pub fn none_is_due()
+    ensures { (place : EdgePlace) (now : ℕ) (edge : EdgeData) → (due place now edge ≡ 0) ↔ NoneDue place now edge }
+{}
+
+/// A run of the timers leaves none of them due.
+pub fn timers_leave_none_due()
+    ensures { (place : EdgePlace) (now : ℕ) (edge : EdgeData) → NoneDue place now
+        (record { control = timed place now edge.control; part = label_steps.timed (label_place place.scenario place.core place.me) now edge.part }) }
 {}

@@ -4,4 +4,6 @@
 
 mod laws;
 
-pub use laws::{arriving_goes, entering_goes, flows_are_asked, leaves_are_tunnels};
+pub use laws::{
+    arriving_goes, entering_goes, flows_are_asked, leaves_are_tunnels, none_is_due, timers_leave_none_due,
+};

@@ -31,7 +31,7 @@ pub fn zeros_are_calm()
     ensures { (world : World) → state_line world ≡ lines.State 0 0 0 0 0 → Zeros world }
 {}
 
-/// Behind a run of a sound scenario, by its core and by sound events, and where `state` tells of zeros alone: the labels of each tree
+/// Behind a run of a sound scenario, by its cores and by sound events, and where `state` tells of zeros alone: the labels of each tree
 /// that has a node of the scenario as its root are calm.
 pub fn labels_are_calm()
     ensures { (cores : Cores) (script : Script) (events : List Timed) (trace : List Traced) (world : World) →
@@ -79,7 +79,7 @@ pub fn choices_are_calm()
         CalmChoice world.network (receives_datagram (past_of script.scenario events trace) datagram) datagram }
 {}
 
-/// In every run of a sound scenario, by its core and by sound events: each datagram that is accepted in a window leaves once at each
+/// In every run of a sound scenario, by its cores and by sound events: each datagram that is accepted in a window leaves once at each
 /// interface that receives it, and nowhere else, over the whole report.
 pub fn runs_deliver_once()
     ensures { (cores : Cores) (script : Script) (events : List Timed) (trace : List Traced) (new : World) →
@@ -87,7 +87,7 @@ pub fn runs_deliver_once()
         Once script.scenario events (refused_lines (report_of trace)) (report_of trace) }
 {}
 
-/// In every run of a sound scenario, by its core and by sound events: each `out` line names a datagram that was accepted by then, with
+/// In every run of a sound scenario, by its cores and by sound events: each `out` line names a datagram that was accepted by then, with
 /// its octets, and an interface whose VRF admits the sender's.
 pub fn each_run_is_safe()
     ensures { (cores : Cores) (script : Script) (events : List Timed) (trace : List Traced) (new : World) →
@@ -95,7 +95,7 @@ pub fn each_run_is_safe()
         Safe script.scenario events (refused_lines (report_of trace)) (report_of trace) }
 {}
 
-/// Where a run of a sound scenario, by its core and by sound events, halts for want of a label: each datagram that is accepted in a
+/// Where a run of a sound scenario, by its cores and by sound events, halts for want of a label: each datagram that is accepted in a
 /// window of the events before leaves once at each interface that receives it, and nowhere else, over the report of those events.
 pub fn halting_runs_deliver_once()
     ensures { (cores : Cores) (script : Script) (report : List Entry) (node : NodeId) →

@@ -1,6 +1,6 @@
 -- Events that a scenario allows are of sound values.
 use Rattle.std.specs.Prelude.{IfSome}
-use Rattle.std.proofs.Common.{ℕ, ◌<◌, List, [], ◌∷◌, ◌++◌, take, drop, length, Option, None, Some, subst}
+use Rattle.std.proofs.Common.{◌≡◌, refl, ℕ, ◌<◌, List, [], ◌∷◌, ◌++◌, take, drop, length, Option, None, Some, subst}
 use Rattle.std.specs.List.{AllByRecursion}
 use Rattle.std.proofs.lemmas.Option.{slice_get_within}
 use Rattle.mv_base.specs.Address.{addr_octets}

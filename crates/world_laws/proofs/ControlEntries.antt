@@ -1,24 +1,19 @@
--- The entries of an edge stay sound, and a group that an interface asks for is that of a sound entry.
-use Rattle.std.proofs.Common.{◌≡◌, ℕ, Bool, true, false, cond, not, ◌&&◌, inl, inr, List, [], ◌∷◌, ◌++◌, map, Option, Some, None, refl, sym, ◌∙◌}
+-- The entries of an edge stay sound.
+use Rattle.std.proofs.Common.{◌≡◌, ℕ, Bool, true, false, cond, List, [], ◌∷◌, ◌++◌, map, Option, Some, None, sym, ◌∙◌}
 use Rattle.std.specs.List.{AllByRecursion}
 use Rattle.std.specs.FinMap as maps
-use Rattle.std.proofs.lemmas.Bool.{or_cases, and_parts}
-use Rattle.mv_base.specs.declared.addr.Addr.{Addr}
 use Rattle.mv_base.specs.declared.ids.IfaceId.{IfaceId}
 use Rattle.pim_joinprune.specs.declared.group.Group.{Group}
 use Rattle.pim_joinprune.specs.declared.message.JoinPrune.{JoinPrune}
 use Rattle.pim_joinprune.specs.declared.source.JpSource.{JpSource}
-use Rattle.pim_joinprune.specs.declared.source.SourceKind.{SourceKind}
-use Rattle.pim_joinprune.specs.declared.source.SourceKind.TheVariants as kinds
 use Rattle.scenario_defs.specs.declared.event.IfaceEntry.{IfaceEntry}
-use Rattle.scenario_defs.specs.declared.event.JoinEntry.TheVariants as entries
 use Rattle.pim_defs.specs.declared.expiry.Expiry.{Expiry}
 use Rattle.pim_defs.specs.Expiry.{counts}
-use Rattle.pim_defs.specs.Mention.{entry_by, entry_of}
-use Rattle.pim_defs.specs.Entries.{Entries, expiry_at, expiry_then, named_in, with_expiries, applied, kept_at, asks}
+use Rattle.pim_defs.specs.Mention.{entry_of}
+use Rattle.pim_defs.specs.Entries.{Entries, expiry_then, named_in, with_expiries, applied, kept_at}
 use Rattle.pim_defs.proofs.EntriesLemmas.{get-kept}
 use Rattle.pim_defs.proofs.KeyLemmas.{entry_cmp_total, entry_cmp_exact}
-use Rattle.world_laws.specs.Sound.{IsHost, IsGroupAddr, SoundEntry}
+use Rattle.world_laws.specs.Sound.{SoundEntry}
 use Rattle.world_laws.specs.Honest.{SoundGroup, SoundMessage}
 use Rattle.world_laws.proofs.Lists.{each_append, each_map, each_flat, each_weaker}
 use Rattle.world_laws.proofs.Maps.{Each, all_entries, made_meets}

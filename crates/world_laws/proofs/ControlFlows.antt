@@ -29,18 +29,18 @@ use Rattle.pim_defs.proofs.KeyLemmas.{entry_cmp_total}
 use Rattle.label_defs.proofs.KeyLemmas.{node_cmp_total}
 use Rattle.label_defs.proofs.MemberLemmas.{each_in_order}
 use Rattle.label_defs.specs.Members.{in_order}
-use Rattle.choice_defs.specs.Choice.{cost_by, best_route}
+use Rattle.choice_defs.specs.Choice.{best_route}
 use Rattle.choice_defs.specs.declared.origin.Origin.{Origin}
 use Rattle.choice_defs.specs.declared.origin.Origin.TheVariants as origins
 use Rattle.edge_defs.specs.Edge.{Note, VrfFlow, Import, Upstream, Site, Remote, TakenRoute, Taken, Control}
-use Rattle.edge_defs.specs.Flows.{flows_at, vrf_flows, with_upstream, possible_flows, joined_by, active_flows, active_from, noted_flow, is_active, is_flow, is_asking, ifaces_of}
+use Rattle.edge_defs.specs.Flows.{flows_at, vrf_flows, with_upstream, possible_flows, joined_by, active_flows, active_from, noted_flow, is_flow}
 use Rattle.edge_defs.specs.Imported.{FlowRoute, JoinBy, active_of, imported_active, import_in, source_as_in, found_in, only_one, join_by, taken_from, is_admitted}
 use Rattle.edge_defs.specs.Keys.{Value, key_cmp}
 use Rattle.edge_defs.specs.Originated.{is_iface_of, notes_of}
 use Rattle.edge_defs.specs.Place.{EdgePlace, OwnVrf, own_vrfs}
 use Rattle.edge_defs.specs.Upstream.{costs_of, known_routes, upstream_by, upstream_for}
 use Rattle.world_laws.specs.Sound.{IsHost, IsFlow, AreEight, SoundEntry, SoundUpstream, SoundKey, SoundValue, SoundTaken}
-use Rattle.world_laws.proofs.Lists.{each_append, each_of, each_map, each_flat, each_weaker, each_filtered, each_found, only_meets, passing}
+use Rattle.world_laws.proofs.Lists.{each_append, each_of, each_map, each_flat, each_weaker, each_filtered, each_found, only_meets}
 use Rattle.world_laws.proofs.Maps.{Each, AllEntries, all_entries, made_meets}
 use Rattle.edge_defs.proofs.KeyLemmas.{key_total, note_total, flow_total, flow_exact}
 use Rattle.world_laws.proofs.ControlEntries.{SoundAt}

@@ -1,9 +1,8 @@
 -- The Join/Prune messages that events hand to an edge are sound.
-use Rattle.std.proofs.Common.{◌≡◌, ◌<◌, ℕ, List, [], ◌∷◌, ◌++◌, length, Option, Some, None, inl, inr, refl, subst, arith}
-use Rattle.std.specs.Prelude.{slice_get, Result, Ok, Err}
+use Rattle.std.proofs.Common.{◌≡◌, ℕ, List, [], ◌∷◌, ◌++◌, length, Option, Some, None, refl, subst}
+use Rattle.std.specs.Prelude.{Result, Ok, Err}
 use Rattle.std.specs.Int.{w16, to_be_bytes}
 use Rattle.std.specs.List.{AllByRecursion}
-use Rattle.std.proofs.lemmas.Option.{slice_get_cases}
 use Rattle.framing.proofs.Cuts.{IsOctets-before, IsOctets-behind}
 use Rattle.mv_base.specs.Address.{addr_octets, IsAddr}
 use Rattle.mv_base.specs.Octets.{IsOctets}
@@ -29,7 +28,6 @@ use Rattle.mvpn_model.specs.Messages.{own_addr, read_at}
 use Rattle.mvpn_model.specs.declared.message.Given.{Given}
 use Rattle.scenario_defs.specs.declared.event.JoinEntry.{JoinEntry}
 use Rattle.scenario_defs.specs.declared.event.JoinEntry.TheVariants as entries
-use Rattle.scenario_defs.specs.declared.scenario.Iface.{Iface}
 use Rattle.scenario_defs.specs.declared.scenario.Scenario.{Scenario}
 use Rattle.edge_defs.specs.Originated.{afi_of}
 use Rattle.world_laws.specs.Honest.{SoundGroup, SoundMessage}

@@ -1,5 +1,5 @@
 -- How the uses of labels are kept: what is owned is held by a binding, which is found by its label.
-use Rattle.std.specs.Prelude.{◌≡◌, ℕ, suc, ◌+◌, Bool, true, false, List, [], ◌∷◌, Option, None, Some, is_some, if◌then◌else◌}
+use Rattle.std.specs.Prelude.{◌≡◌, ◌⊎◌, ℕ, suc, ◌+◌, Bool, true, false, List, [], ◌∷◌, Option, None, Some, is_some, if◌then◌else◌}
 use Rattle.mv_base.specs.declared.ids.NodeId.{NodeId}
 use Rattle.mv_base.specs.contracts.ids.NodeIdPartialEq.TheImpl as nodes_equal
 use Rattle.mldp_fec.specs.declared.fec.Fec.{Fec}
@@ -15,6 +15,7 @@ use Rattle.tunnel_bindings.specs.declared.state.LabelState.TheVariants as states
 use Rattle.tunnel_bindings.specs.Labels.{Space, set_label}
 use Rattle.tunnel_bindings.specs.States.{label_of, with_free}
 use Rattle.label_uses.specs.declared.held.Held.{Held}
+use Rattle.label_uses.specs.declared.table.Waiting.{Waiting}
 
 -- whether both are one FEC, and one node, as `==` tells it
 abbrev pub is_fec : Fec → Fec → Bool
@@ -80,12 +81,29 @@ pub record IsMapping (held : ℕ → Option Held) (label : ℕ) (fec : Fec) : Ty
   pub mapped : own.leaving ≡ false
   pub is : own.fec ≡ fec
 
--- Exactly the labels that are owned are held, each by a binding of its own, and nothing else is kept. A tree leads to the label
--- that is mapped to it.
-pub record Holds (state : ℕ → Option LabelState) (held : ℕ → Option Held) (kept : BindingName → Option AnyBinding) (session : NodeId → Option Incarnation) (mapped : Fec → Option ℕ) : Type 0 where
+-- the binding of a tree that waits
+abbrev pub waiting_binding : Fec → Waiting → AnyBinding
+waiting_binding fec own = bindings.Wanted (record { fec = fec; upstream = own.upstream; state = record {} })
+
+-- a tree waits under that name
+pub record IsAwaited (waiting : Fec → Option Waiting) (name : BindingName) : Type 0 where
+  pub fec : Fec
+  pub own : Waiting
+  pub at : waiting fec ≡ Some own
+  pub is : own.name ≡ name
+
+-- the trees that wait, each with the neighbour towards which
+abbrev pub towards : List (Fec × Waiting) → List (Fec × NodeId)
+towards [] = []
+towards (own ∷ more) = (own.0, own.1.upstream) ∷ towards more
+
+-- Exactly the labels that are owned are held, each by a binding of its own. Each tree that waits has a binding of its own. Nothing
+-- else is kept. A tree leads to the label that is mapped to it.
+pub record Holds (state : ℕ → Option LabelState) (held : ℕ → Option Held) (kept : BindingName → Option AnyBinding) (session : NodeId → Option Incarnation) (mapped : Fec → Option ℕ) (waiting : Fec → Option Waiting) : Type 0 where
   pub owned : (label : ℕ) (own : Held) → held label ≡ Some own → state label ≡ Some states.Owned
   pub all : (label : ℕ) → state label ≡ Some states.Owned → is_some (held label) ≡ true
   pub bound : (label : ℕ) (own : Held) → held label ≡ Some own → IsBound kept session label own
-  pub named : (name : BindingName) → is_some (kept name) ≡ true → IsNamed held name
+  pub named : (name : BindingName) → is_some (kept name) ≡ true → IsNamed held name ⊎ IsAwaited waiting name
   pub found : (label : ℕ) (own : Held) → held label ≡ Some own → own.leaving ≡ false → mapped own.fec ≡ Some label
   pub listed : (fec : Fec) (label : ℕ) → mapped fec ≡ Some label → IsMapping held label fec
+  pub waits : (fec : Fec) (own : Waiting) → waiting fec ≡ Some own → kept own.name ≡ Some (waiting_binding fec own)

@@ -1,5 +1,5 @@
 -- What is kept of held labels, behind a label that comes to be held, one that is held no longer, and a session.
-use Rattle.std.proofs.Common.{inl, inr, ◌⊎◌, ◌≡◌, ℕ, Bool, true, false, cond, Option, Some, None, is_some, refl, sym, ap, subst, ◌∙◌}
+use Rattle.std.proofs.Common.{inl, inr, ◌⊎◌, ◌≡◌, ℕ, Bool, true, false, cond, Option, Some, None, is_some, refl, sym, ap, ◌∙◌}
 use Rattle.std.proofs.lemmas.Bool.{cases_eq}
 use Rattle.std.proofs.lemmas.Option.{same_Some}
 use Rattle.mv_base.specs.declared.ids.NodeId.{NodeId}
@@ -221,8 +221,11 @@ pub holds_unwait : (st : ℕ → Option LabelState) (f : ℕ → Option Held) (k
 holds_unwait st f k k' s g w w' fec own old at kept gone = record {
   owned = old.owned;
   all = old.all;
-  bound = λ q o e. (let b = old.bound q o e in record { raise = b.raise; present = b.present;
-    is = kept.others o.name (λ same. not_waiting q o b.raise fec own (same_own (k o.name) (binding_of q o b.raise) (waiting_binding fec own) b.is (ap k same ∙ old.waits fec own at))) ∙ b.is });
+  bound = λ q o e. (let b = old.bound q o e in record {
+    raise = b.raise;
+    present = b.present;
+    is = kept.others o.name (λ same. not_waiting q o b.raise fec own (same_own (k o.name) (binding_of q o b.raise) (waiting_binding fec own) b.is (ap k same ∙ old.waits fec own at))) ∙ b.is;
+  });
   named = λ name e. elim (one_name name own.name) [
     | inl is ↦ (let x = there (k' name) e in absurd (not_none (k' name) x.0 x.1 (ap k' is ∙ kept.here)))
     | inr ne ↦ either name ne (old.named name (sym (ap is_some (kept.others name ne)) ∙ e))
@@ -253,8 +256,11 @@ pub holds_wait : (st : ℕ → Option LabelState) (f : ℕ → Option Held) (k k
 holds_wait st f k k' s g w w' fec own old none fresh kept comes = record {
   owned = old.owned;
   all = old.all;
-  bound = λ q o e. (let b = old.bound q o e in record { raise = b.raise; present = b.present;
-    is = kept.others o.name (λ same. not_none (k o.name) (binding_of q o b.raise) b.is (ap k same ∙ fresh)) ∙ b.is });
+  bound = λ q o e. (let b = old.bound q o e in record {
+    raise = b.raise;
+    present = b.present;
+    is = kept.others o.name (λ same. not_none (k o.name) (binding_of q o b.raise) b.is (ap k same ∙ fresh)) ∙ b.is;
+  });
   named = λ name e. elim (one_name name own.name) [
     | inl is ↦ inr (record { fec = fec; own = own; at = comes.here; is = sym is })
     | inr ne ↦ either name (old.named name (sym (ap is_some (kept.others name ne)) ∙ e))

@@ -1,8 +1,8 @@
 -- The labels of a session that is lost, one after another and all at once.
-use Rattle.std.proofs.Common.{inl, inr, ◌≡◌, ℕ, zero, suc, ◌+◌, ◌-◌, ◌≤◌, ◌||◌, Bool, true, false, cond, nat_eq, List, [], ◌∷◌, map, length, slice_get, slice_set, Option, Some, None, option_map, refl, sym, ap, subst, ◌∙◌, arith}
+use Rattle.std.proofs.Common.{inl, inr, ◌≡◌, ℕ, suc, ◌+◌, ◌-◌, ◌≤◌, ◌||◌, Bool, true, false, cond, nat_eq, List, [], ◌∷◌, map, slice_get, slice_set, Option, Some, None, option_map, refl, sym, ap, subst, ◌∙◌, arith}
 use Rattle.std.specs.List.{list_any}
 use Rattle.std.specs.Map.{lookup}
-use Rattle.std.proofs.lemmas.Bool.{cases_eq, cases_lt, cases_Bool, eq-eqb, ne_eqb}
+use Rattle.std.proofs.lemmas.Bool.{cases_eq, cases_lt, eq-eqb, ne_eqb}
 use Rattle.std.proofs.lemmas.Option.{slice_get-map, slice_get_within, same_Some, none-some}
 use Rattle.indexmap.specs.IndexMap.{get}
 use Rattle.mv_base.specs.declared.ids.NodeId.{NodeId}
@@ -17,7 +17,7 @@ use Rattle.tunnel_bindings.specs.Labels.{Space, state_of}
 use Rattle.tunnel_bindings.proofs.NumbersLemmas.{get-set_same, get-set_other}
 use Rattle.label_uses.specs.declared.held.Held.{Held}
 use Rattle.label_uses.specs.declared.table.Waiting.{Waiting}
-use Rattle.label_uses.specs.Uses.{use_in, set_use, lost_at, lost_all}
+use Rattle.label_uses.specs.Uses.{use_in, lost_at, lost_all}
 use Rattle.label_uses.specs.Held.{is_node, use_held, uses_from, labels_toward, Holds}
 use Rattle.label_uses.proofs.ListLemmas.{use_low, use_high, use_of_held}
 use Rattle.label_uses.proofs.StepLemmas.{HeldMap, freed_own, lost_use, Idle, idle, idle_freed}

@@ -1,11 +1,11 @@
 -- What is seen of the labels of a node: their rests, their bindings, and its sessions.
-use Rattle.std.proofs.Common.{Bor, inl, inr, ◌⊎◌, nat_lt, ◌-◌, ◌≡◌, ℕ, zero, suc, ◌+◌, Bool, true, false, cond, nat_eq, nat_le, List, [], ◌∷◌, map, replicate, slice_get, count_by, Option, Some, None, option_map, is_some, refl, sym, ap, subst, ◌∙◌, arith}
+use Rattle.std.proofs.Common.{Bor, inl, inr, ◌⊎◌, nat_lt, ◌-◌, ◌≡◌, ℕ, zero, suc, ◌+◌, Bool, true, false, cond, nat_eq, nat_le, List, [], ◌∷◌, map, replicate, slice_get, count_by, Option, Some, None, option_map, is_some, refl, sym, ap, ◌∙◌}
 use Rattle.std.specs.FinMap as maps
 use Rattle.std.specs.FinMap.{FinMap, find, same_map}
 use Rattle.std.specs.Ordering.{eq_by_cmp}
 use Rattle.std.specs.Map.{lookup}
 use Rattle.std.specs.Option.{option_copied}
-use Rattle.std.proofs.lemmas.Bool.{cases_eq, cases_Bool, eq-eqb, ne_eqb}
+use Rattle.std.proofs.lemmas.Bool.{cases_eq, eq-eqb, ne_eqb}
 use Rattle.std.proofs.lemmas.List.Sums.{sum_by-cons}
 use Rattle.std.proofs.lemmas.Option.{same_Some, none-some}
 use Rattle.indexmap.specs.IndexMap.{get}
@@ -26,7 +26,7 @@ use Rattle.tunnel_bindings.specs.declared.any_binding.AnyBinding.{AnyBinding}
 use Rattle.tunnel_bindings.specs.declared.any_binding.AnyBinding.TheVariants as bindings
 use Rattle.tunnel_bindings.specs.declared.state.LabelState.{LabelState}
 use Rattle.tunnel_bindings.specs.declared.state.LabelState.TheVariants as states
-use Rattle.tunnel_bindings.specs.Bindings.{name_cmp, Named}
+use Rattle.tunnel_bindings.specs.Bindings.{Named}
 use Rattle.tunnel_bindings.specs.Labels.{Space, state_of, is_due, IsOwned}
 use Rattle.tunnel_bindings.specs.Labels as labels
 use Rattle.tunnel_bindings.specs.States.{label_of, label_in}
@@ -35,7 +35,7 @@ use Rattle.label_uses.specs.declared.table.Waiting.{Waiting}
 use Rattle.label_forwarding.proofs.SlotLemmas.{fec_equal, fec_itself, fec-ties, fec_flips}
 use Rattle.label_uses.specs.Uses.{Uses, use_in, mapped_in, binding_for, awaiting, IsOfLabel, IsOfTree, AreBindings}
 use Rattle.label_uses.specs.Held.{is_fec, is_node, use_held, use_by, uses_from, binding_of, waiting_binding, towards, IsNamed, IsAwaited, Holds}
-use Rattle.label_uses.proofs.HoldLemmas.{there, same_own, not_waiting, tree_of}
+use Rattle.label_uses.proofs.HoldLemmas.{same_own, not_waiting, tree_of}
 use Rattle.label_uses.proofs.ListLemmas.{use_of_held, held_of_use}
 use Rattle.label_uses.proofs.StepLemmas.{HeldMap, WaitingMap, SessionMap, session_seen, node-ties, binding_label, Idle, NoLabel, IsFree, Rests}
 
@@ -278,11 +278,14 @@ module _ (space : Space) (h : HeldMap) (named : Named) (sessions : SessionMap) (
           → (session : Incarnation) × (name : BindingName) × (maps.get (maps.from_entries {R = node_cmp} sessions.entries) upstream ≡ Some session) × (maps.get named.kept name ≡ binding_for label usage session)
       carried label usage upstream e up =
           let x = held_of_use space (get nat_eq h) (maps.get named.kept) (get is_node sessions) g (get is_fec w) holds label usage e
-              (λ free. none-some upstream (ap (λ (u : LabelUse). upstream_of (Some u)) (sym free) ∙ up)) (λ until rests. none-some upstream (ap (λ (u : LabelUse). upstream_of (Some u)) (sym rests) ∙ up)) in
+          (λ free. none-some upstream (ap (λ (u : LabelUse). upstream_of (Some u)) (sym free) ∙ up)) (λ until rests. none-some upstream (ap (λ (u : LabelUse). upstream_of (Some u)) (sym rests) ∙ up)) in
           let bound = holds.bound label x.0 x.1 in
-          let toward : x.0.upstream ≡ upstream = same_Some x.0.upstream upstream (sym (held_upstream x.0) ∙ (ap (λ (u : LabelUse). upstream_of (Some u)) (sym x.2) ∙ up)) in
-          (bound.raise, x.0.name, session_seen sessions upstream ∙ (ap (get is_node sessions) (sym toward) ∙ bound.present),
-          bound.is ∙ (sym (for_held label x.0 bound.raise) ∙ ap (λ (u : LabelUse). binding_for label u bound.raise) (sym x.2)))
+          let toward : x.0.upstream ≡ upstream = same_Some x.0.upstream upstream (sym (held_upstream x.0) ∙ (ap (λ (u : LabelUse). upstream_of (Some u)) (sym x.2) ∙ up)) in (
+            bound.raise,
+            x.0.name,
+            session_seen sessions upstream ∙ (ap (get is_node sessions) (sym toward) ∙ bound.present),
+            bound.is ∙ (sym (for_held label x.0 bound.raise) ∙ ap (λ (u : LabelUse). binding_for label u bound.raise) (sym x.2)),
+          )
 
       awaited : (fec : Fec) (upstream : NodeId) (o : Option Waiting) → get is_fec w fec ≡ o → option_map (λ own. own.upstream) (get is_fec w fec) ≡ Some upstream → (name : BindingName) × (maps.get named.kept name ≡ Some (awaiting fec upstream))
       awaited fec upstream None at e = absurd (none-some upstream (ap (option_map (λ (own : Waiting). own.upstream)) (sym at) ∙ e))

@@ -1,5 +1,5 @@
 -- The calls on the labels of a node, each as a change of what is kept and of what is seen.
-use Rattle.std.proofs.Common.{inl, inr, ◌⊎◌, ◌≡◌, ℕ, ◌+◌, ◌&&◌, Bool, true, false, not, cond, nat_eq, List, [], ◌∷◌, Option, Some, None, option_map, is_some, refl, sym, ap, subst, ◌∙◌, arith}
+use Rattle.std.proofs.Common.{inl, inr, ◌⊎◌, ◌≡◌, ℕ, ◌+◌, ◌&&◌, Bool, true, false, not, cond, nat_eq, List, [], ◌∷◌, Option, Some, None, option_map, refl, sym, ap, subst, ◌∙◌}
 use Rattle.std.specs.Prelude.{IfSome}
 use Rattle.std.specs.Map.{lookup}
 use Rattle.std.specs.FinMap as maps
@@ -8,8 +8,8 @@ use Rattle.std.specs.Ordering.{eq_by_cmp, is_eq}
 use Rattle.std.specs.Cmp.{tied_itself, Equal-is}
 use Rattle.std.specs.declared.hash.FoldHasher.{FoldHasher}
 use Rattle.std.specs.declared.hash.BuildHasherDefault.{BuildHasherDefault}
-use Rattle.std.proofs.lemmas.Bool.{cases_eq, cases_Bool, eq-eqb, ne_eqb}
-use Rattle.std.proofs.lemmas.Option.{same_Some, none-some}
+use Rattle.std.proofs.lemmas.Bool.{cases_eq, eq-eqb, ne_eqb}
+use Rattle.std.proofs.lemmas.Option.{same_Some}
 use Rattle.indexmap.specs.IndexMap.{IndexMap, get}
 use Rattle.mv_base.specs.declared.ids.NodeId.{NodeId}
 use Rattle.mldp_fec.specs.declared.fec.Fec.{Fec}
@@ -17,7 +17,6 @@ use Rattle.label_defs.specs.declared.label_use.LabelUse.{LabelUse}
 use Rattle.label_defs.specs.declared.label_use.LabelUse.TheVariants as uses
 use Rattle.label_defs.specs.Keys.{node_cmp}
 use Rattle.label_defs.specs.Steps.{freed, released}
-use Rattle.label_defs.specs.Settling.{upstream_of}
 use Rattle.label_defs.proofs.KeyLemmas.{node_cmp_total, node_cmp_exact}
 use Rattle.tunnel_bindings.specs.declared.binding.Incarnation.{Incarnation}
 use Rattle.tunnel_bindings.specs.declared.binding.Binding.{Binding}
@@ -38,8 +37,8 @@ use Rattle.label_uses.specs.declared.table.Waiting.{Waiting}
 use Rattle.label_uses.specs.Uses.{use_in, set_use, lost_at, with_released}
 use Rattle.label_uses.specs.Held.{is_fec, is_node, use_held, use_by, uses_from, binding_of, left, rested, Holds}
 use Rattle.label_uses.proofs.TableLemmas.{Sets, sets_at, sets_label, sets_fec, name_kept, name_gone, state_set, one_fec}
-use Rattle.label_uses.proofs.HoldLemmas.{Leads, Leaves, same_own, not_none, holds_more, holds_less, holds_states, holds_sessions}
-use Rattle.label_uses.proofs.ListLemmas.{use_is, use_set, use_change, use_of_held, held_of_use, set_used}
+use Rattle.label_uses.proofs.HoldLemmas.{Leaves, same_own, not_none, holds_more, holds_less, holds_states}
+use Rattle.label_uses.proofs.ListLemmas.{use_is, use_set, held_of_use, set_used}
 
 abbrev pub HeldMap : Type 0
 HeldMap = IndexMap ℕ Held (BuildHasherDefault FoldHasher)
@@ -103,15 +102,15 @@ map_holds space space' h h' k k' s m m' w label own raise b holds least spaces h
     let free = none_held (get nat_eq h label) refl in
     let sets = subst (λ (x : Space). Sets (state_of space) (state_of x) label (Some states.Owned)) (sym spaces) (state_set space label states.Free states.Owned least.free) in
     let names = subst (λ (x : Kept). Sets (maps.get k) (maps.get x) own.name (Some (binding_of label own raise))) (sym kept)
-        (subst (λ (x : AnyBinding). Sets (maps.get k) (maps.get (maps.insert k own.name b)) own.name (Some x)) binding (name_kept k own.name b)) in
+    (subst (λ (x : AnyBinding). Sets (maps.get k) (maps.get (maps.insert k own.name b)) own.name (Some x)) binding (name_kept k own.name b)) in
     let tree = sets_fec (get is_fec m) (get is_fec m') own.fec (Some label) trees in
     holds_more (state_of space) (state_of space') (get nat_eq h) (get nat_eq h') (maps.get k) (maps.get k') s (get is_fec m) (get is_fec m') w label own raise
-        holds free fresh up sets (sets_label (get nat_eq h) (get nat_eq h') label (Some own) held) names
-        (record {
-          more = λ fec other e. more tree fec other e;
-          still = λ fec other e. tree.others fec (λ is. not_none (get is_fec m fec) other e (ap (get is_fec m) is ∙ unmapped)) ∙ e;
-          mine = λ l. tree.here;
-        })
+    holds free fresh up sets (sets_label (get nat_eq h) (get nat_eq h') label (Some own) held) names
+    (record {
+      more = λ fec other e. more tree fec other e;
+      still = λ fec other e. tree.others fec (λ is. not_none (get is_fec m fec) other e (ap (get is_fec m) is ∙ unmapped)) ∙ e;
+      mine = λ l. tree.here;
+    })
   where
     none_held : (o : Option Held) → get nat_eq h label ≡ o → o ≡ None
     none_held None e = refl
@@ -168,7 +167,7 @@ less_holds space space' h h' k k' s g g' w label own new holds at free spaces he
     let sets = subst (λ (x : Space). Sets (state_of space) (state_of x) label (Some new)) (sym spaces) (state_set space label states.Owned new (holds.owned label own at)) in
     let names = subst (λ (x : Kept). Sets (maps.get k) (maps.get x) own.name None) (sym kept) (name_gone k own.name) in
     holds_less (state_of space) (state_of space') (get nat_eq h) (get nat_eq h') (maps.get k) (maps.get k') s g g' w label own (Some new) holds at free sets
-        (sets_label (get nat_eq h) (get nat_eq h') label None held) names leaves
+    (sets_label (get nat_eq h) (get nat_eq h') label None held) names leaves
 
 pub less_labels : (space space' : Space) (h h' : HeldMap) (label : ℕ) (old new : LabelState) → state_of space label ≡ Some old → space' ≡ set_label space label new
     → ((other : ℕ) → get nat_eq h' other ≡ cond (nat_eq label other) None (get nat_eq h other))
@@ -366,11 +365,11 @@ leave_holds space h h' k k1 k' s m m' w label own new raise b holds at mapped go
     let less = sets_at (get nat_eq h) f1 label None (λ l. refl) in
     let names = subst (λ (x : Kept). Sets (maps.get k) (maps.get x) own.name None) (sym one) (name_gone k own.name) in
     let middle = holds_less (state_of space) st1 (get nat_eq h) f1 (maps.get k) (maps.get k1) s (get is_fec m) (get is_fec m') w label own None holds at (λ e. absurd cc) down less names
-        (leaves_cut (state_of space) (get nat_eq h) (maps.get k) s (get is_fec m) w holds (get is_fec m') label own at mapped (sets_fec (get is_fec m) (get is_fec m') own.fec None trees)) in
+    (leaves_cut (state_of space) (get nat_eq h) (maps.get k) s (get is_fec m) w holds (get is_fec m') label own at mapped (sets_fec (get is_fec m) (get is_fec m') own.fec None trees)) in
     let again = subst (λ (x : Kept). Sets (maps.get k1) (maps.get x) new.name (Some (binding_of label new raise))) (sym two)
-        (subst (λ (x : AnyBinding). Sets (maps.get k1) (maps.get (maps.insert k1 new.name b)) new.name (Some x)) binding (name_kept k1 new.name b)) in
+    (subst (λ (x : AnyBinding). Sets (maps.get k1) (maps.get (maps.insert k1 new.name b)) new.name (Some x)) binding (name_kept k1 new.name b)) in
     let more = sets_at (get nat_eq h) (get nat_eq h') label (Some new) held in
     holds_more st1 (state_of space) f1 (get nat_eq h') (maps.get k1) (maps.get k') s (get is_fec m') (get is_fec m') w label new raise middle less.here fresh up
-        (record { here = holds.owned label own at; others = λ other ne. sym (down.others other ne) })
-        (record { here = more.here; others = λ other ne. more.others other ne ∙ sym (less.others other ne) })
-        again (record { more = λ fec other e. inl e; still = λ fec other e. e; mine = λ l. absurd (let no : true ≡ false = sym gone ∙ l in cc) })
+    (record { here = holds.owned label own at; others = λ other ne. sym (down.others other ne) })
+    (record { here = more.here; others = λ other ne. more.others other ne ∙ sym (less.others other ne) })
+    again (record { more = λ fec other e. inl e; still = λ fec other e. e; mine = λ l. absurd (let no : true ≡ false = sym gone ∙ l in cc) })

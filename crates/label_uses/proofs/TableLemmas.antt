@@ -4,7 +4,7 @@ use Rattle.std.specs.Ordering.{eq_by_cmp}
 use Rattle.std.specs.Cmp.{Equal-is}
 use Rattle.std.specs.FinMap as maps
 use Rattle.std.specs.FinMap.{FinMap}
-use Rattle.std.proofs.lemmas.Bool.{cases_Bool, cases_eq, eq-eqb, ne_eqb}
+use Rattle.std.proofs.lemmas.Bool.{cases_Bool, eq-eqb, ne_eqb}
 use Rattle.mldp_fec.specs.declared.fec.Fec.{Fec}
 use Rattle.tunnel_bindings.specs.declared.name.BindingName.{BindingName}
 use Rattle.tunnel_bindings.specs.declared.any_binding.AnyBinding.{AnyBinding}

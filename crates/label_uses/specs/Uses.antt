@@ -35,8 +35,10 @@ incarnation_code = code_by ℕ coded_ℕ (λ s. s.0) (λ n. record { 0 = n }) (�
 
 abbrev pub uses_code : Coded Uses
 uses_code = code_by (ℕ × (List LabelUse × (FinMap fec_cmp NodeId × FinMap node_cmp Incarnation)))
-    (coded× coded_ℕ (coded× (coded_list label_uses.the_row.coded) (coded× (maps.code fecs.the_row.coded node_code) (maps.code node_code incarnation_code))))
-    (λ u. (u.life, (u.labels, (u.waiting, u.sessions)))) (λ p. record { life = p.0; labels = p.1.0; waiting = p.1.1.0; sessions = p.1.1.1 }) (λ _. refl)
+    (coded× coded_ℕ
+    (coded× (coded_list label_uses.the_row.coded) (coded× (maps.code fecs.the_row.coded node_code) (maps.code node_code incarnation_code))))
+    (λ u. (u.life, (u.labels, (u.waiting, u.sessions))))
+    (λ p. record { life = p.0; labels = p.1.0; waiting = p.1.1.0; sessions = p.1.1.1 }) (λ _. refl)
 
 -- nothing is mapped or waits, and no session is up
 abbrev pub unused : ℕ → ℕ → Uses
@@ -65,11 +67,15 @@ with_mapping labels (Some label) fec upstream = set_use labels label (uses.Mappe
 
 -- the same, and the tree waits no longer
 abbrev pub with_mapped : Uses → Option ℕ → Fec → NodeId → Uses
-with_mapped old label fec upstream = record old { labels = with_mapping old.labels label fec upstream; waiting = maps.remove old.waiting fec }
+with_mapped old label fec upstream =
+    record old { labels = with_mapping old.labels label fec upstream; waiting = maps.remove old.waiting fec }
 
 -- the labels behind a release by the neighbour of the label for the tree
 abbrev pub with_released : List LabelUse → NodeId → Fec → ℕ → ℕ → List LabelUse
-with_released labels from fec label until = elim (use_in labels label) [ None ↦ labels | Some usage ↦ set_use labels label (released from fec until usage) ]
+with_released labels from fec label until = elim (use_in labels label) [
+  | None ↦ labels
+  | Some usage ↦ set_use labels label (released from fec until usage)
+]
 
 -- the labels and sessions behind the loss of the session with the neighbour
 abbrev pub without : NodeId → Uses → Uses
@@ -88,8 +94,10 @@ lost_all peer labels (label ∷ more) = lost_all peer (lost_at peer labels label
 
 -- the binding that carries a label which is used so, where that raise of its session is the present one
 abbrev pub binding_for : ℕ → LabelUse → Incarnation → Option AnyBinding
-binding_for label (uses.Mapped fec upstream) session = Some (bindings.Mapped (record { fec = fec; upstream = upstream; state = record { label = label; session = session } }))
-binding_for label (uses.Leaving fec upstream) session = Some (bindings.Leaving (record { fec = fec; upstream = upstream; state = record { label = label; session = session } }))
+binding_for label (uses.Mapped fec upstream) session =
+    Some (bindings.Mapped (record { fec = fec; upstream = upstream; state = record { label = label; session = session } }))
+binding_for label (uses.Leaving fec upstream) session =
+    Some (bindings.Leaving (record { fec = fec; upstream = upstream; state = record { label = label; session = session } }))
 binding_for label other session = None
 
 -- the binding of a tree that waits
@@ -118,9 +126,17 @@ pub record IsOfTree (own : Uses) (binding : AnyBinding) : Type 0 where
 -- present raise of the session with it. Each tree that waits has a binding that waits. There is no other binding: no two carry one
 -- label, and no two wait for one tree.
 pub record AreBindings (own : Uses) (named : Named) : Type 0 where
-  pub carried : (label : ℕ) (usage : LabelUse) (upstream : NodeId) → use_in own.labels label ≡ Some usage → upstream_of (Some usage) ≡ Some upstream →
-      (session : Incarnation) × (name : BindingName) × (maps.get own.sessions upstream ≡ Some session) × (maps.get named.kept name ≡ binding_for label usage session)
-  pub awaited : (fec : Fec) (upstream : NodeId) → maps.get own.waiting fec ≡ Some upstream → (name : BindingName) × (maps.get named.kept name ≡ Some (awaiting fec upstream))
-  pub each : (name : BindingName) (binding : AnyBinding) → maps.get named.kept name ≡ Some binding → IsOfLabel own binding ⊎ IsOfTree own binding
+  pub carried :
+      (label : ℕ) (usage : LabelUse) (upstream : NodeId) → use_in own.labels label ≡ Some usage → upstream_of (Some usage) ≡ Some upstream →
+      (session : Incarnation) × (name : BindingName) × (maps.get own.sessions upstream ≡ Some session)
+      × (maps.get named.kept name ≡ binding_for label usage session)
+  pub awaited :
+      (fec : Fec) (upstream : NodeId) → maps.get own.waiting fec ≡ Some upstream →
+      (name : BindingName) × (maps.get named.kept name ≡ Some (awaiting fec upstream))
+  pub each :
+      (name : BindingName) (binding : AnyBinding) → maps.get named.kept name ≡ Some binding →
+      IsOfLabel own binding ⊎ IsOfTree own binding
   pub apart : AreApart named
-  pub once : (name other : BindingName) (fec : Fec) (upstream toward : NodeId) → maps.get named.kept name ≡ Some (awaiting fec upstream) → maps.get named.kept other ≡ Some (awaiting fec toward) → name ≡ other
+  pub once :
+      (name other : BindingName) (fec : Fec) (upstream toward : NodeId) → maps.get named.kept name ≡ Some (awaiting fec upstream) →
+      maps.get named.kept other ≡ Some (awaiting fec toward) → name ≡ other

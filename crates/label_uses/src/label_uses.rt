@@ -38,18 +38,19 @@ impl Model for LabelUses {
     ghost use Rattle.std.specs.Prelude.{nat_eq};
     ghost use Rattle.std.specs.FinMap as maps;
     ghost use Rattle.indexmap.specs.IndexMap.{get};
-    ghost use Rattle.label_defs.specs.LabelData.{first_label};
     ghost use Rattle.tunnel_bindings.specs.Labels.{state_of};
     ghost use Rattle.label_uses.specs.Uses.{Uses, uses_code};
-    ghost use Rattle.label_uses.specs.Held.{Holds, uses_from, towards, is_fec, is_node};
+    ghost use Rattle.label_uses.specs.Held.{Holds, seen, is_fec, is_node};
 
     ghost Value = { Uses };
 
     ghost coded = { uses_code };
 
-    ghost view = { λ u. record { life = u.space.life; labels = uses_from first_label (get nat_eq u.held) u.space.states; waiting = maps.from_entries (towards u.waiting.entries); sessions = maps.from_entries u.sessions.entries } };
+    ghost view = { λ u. seen u.space (get nat_eq u.held) u.waiting.entries u.sessions.entries };
 
-    ghost invariant = { λ u. Holds (state_of u.space) (get nat_eq u.held) (maps.get u.bindings.kept) (get is_node u.sessions) (get is_fec u.mapped) (get is_fec u.waiting) };
+    ghost invariant = { λ u.
+        Holds (state_of u.space) (get nat_eq u.held) (maps.get u.bindings.kept) (get is_node u.sessions) (get is_fec u.mapped)
+        (get is_fec u.waiting) };
 }
 
 /// The binding behind its withdraw.

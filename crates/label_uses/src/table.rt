@@ -30,21 +30,24 @@ pub(crate) type Sessions = IndexMap<NodeId, Incarnation>;
 /// Notes the label of the tree. There is room for it.
 pub(crate) fn note(mapped: &mut MappedTrees, fec: &Fec, label: u32)
     requires { 0 < spare mapped.old }
-    ensures each { (other : Fec) → get is_fec mapped.new other ≡ (if is_fec fec.now other then Some label else get is_fec mapped.old other) }
+    ensures each { (other : Fec) →
+        get is_fec mapped.new other ≡ (if is_fec fec.now other then Some label else get is_fec mapped.old other) }
 {
     mapped.insert(*fec, label).unwrap();
 }
 
 /// Forgets the label of the tree.
 pub(crate) fn forget(mapped: &mut MappedTrees, fec: &Fec)
-    ensures each { (other : Fec) → get is_fec mapped.new other ≡ (if is_fec fec.now other then None else get is_fec mapped.old other) }
+    ensures each { (other : Fec) →
+        get is_fec mapped.new other ≡ (if is_fec fec.now other then None else get is_fec mapped.old other) }
 {
     mapped.swap_remove(fec);
 }
 
 /// Forgets that the label which is held so is mapped, where it is.
 pub(crate) fn forget_of(mapped: &mut MappedTrees, own: &Held)
-    ensures each { (other : Fec) → get is_fec mapped.new other ≡ (if not own.now.leaving && is_fec own.now.fec other then None else get is_fec mapped.old other) }
+    ensures each { (other : Fec) →
+        get is_fec mapped.new other ≡ (if not own.now.leaving && is_fec own.now.fec other then None else get is_fec mapped.old other) }
 {
     if !own.leaving {
         forget(mapped, &own.fec);
@@ -54,14 +57,16 @@ pub(crate) fn forget_of(mapped: &mut MappedTrees, own: &Held)
 /// Notes that the tree waits. There is room for it.
 pub(crate) fn note_waiting(waiting: &mut WaitingTrees, fec: &Fec, own: Waiting)
     requires { 0 < spare waiting.old }
-    ensures each { (other : Fec) → get is_fec waiting.new other ≡ (if is_fec fec.now other then Some own else get is_fec waiting.old other) }
+    ensures each { (other : Fec) →
+        get is_fec waiting.new other ≡ (if is_fec fec.now other then Some own else get is_fec waiting.old other) }
 {
     waiting.insert(*fec, own).unwrap();
 }
 
 /// Forgets that the tree waits.
 pub(crate) fn forget_waiting(waiting: &mut WaitingTrees, fec: &Fec)
-    ensures each { (other : Fec) → get is_fec waiting.new other ≡ (if is_fec fec.now other then None else get is_fec waiting.old other) }
+    ensures each { (other : Fec) →
+        get is_fec waiting.new other ≡ (if is_fec fec.now other then None else get is_fec waiting.old other) }
 {
     waiting.swap_remove(fec);
 }

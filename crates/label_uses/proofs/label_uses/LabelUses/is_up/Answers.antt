@@ -1,7 +1,5 @@
-use Rattle.std.proofs.Common.{◌≡◌, ◌∙◌, Bool, Option, Some, None, is_some, refl, sym, ap, Bor}
+use Rattle.std.proofs.Common.{◌∙◌, is_some, sym, ap}
 use Rattle.std.specs.FinMap as maps
-use Rattle.std.specs.Option.{option_copied}
-use Rattle.tunnel_bindings.specs.declared.binding.Incarnation.{Incarnation}
 use Rattle.label_uses.specs.Uses.{Uses}
 use Rattle.label_uses.proofs.StepLemmas.{session_seen}
 use Rattle.label_uses.proofs.SeenLemmas.{copied_some}

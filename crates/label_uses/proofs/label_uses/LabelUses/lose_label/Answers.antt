@@ -1,8 +1,6 @@
-use Rattle.std.proofs.Common.{◌≡◌, ◌∙◌, ℕ, nat_eq, Option, Some, None, is_some, refl, sym, ap, subst}
+use Rattle.std.proofs.Common.{◌≡◌, ◌∙◌, nat_eq, is_some, sym, ap, subst}
 use Rattle.std.specs.FinMap as maps
 use Rattle.indexmap.specs.IndexMap.{get}
-use Rattle.label_defs.specs.declared.label_use.LabelUse.TheVariants as uses
-use Rattle.tunnel_bindings.specs.declared.any_binding.AnyBinding.{AnyBinding}
 use Rattle.tunnel_bindings.specs.declared.state.LabelState.TheVariants as states
 use Rattle.tunnel_bindings.specs.Bindings.{Named}
 use Rattle.tunnel_bindings.specs.Labels.{Space}
@@ -34,8 +32,8 @@ invariant_of-self c =
     let is = same_own c.take.result c.unwrap-binding.result (binding_of c.args.label c.in-Some.own bound.raise) c.unwrap-binding.ensures (c.take.ensures.binding ∙ bound.is) in
     let label = ap label_of is ∙ binding_label c.args.label c.in-Some.own bound.raise in
     less_holds c.self.inside.space c.end.new.space c.self.inside.held c.forget.new.held c.self.inside.bindings.kept c.take.new.self.kept (get is_node c.self.inside.sessions) (get is_fec c.self.inside.mapped) (get is_fec c.forget_of.new.mapped) (get is_fec c.self.inside.waiting)
-        c.args.label c.in-Some.own states.Free c.self.invariant at (λ e. absurd cc) (c.end.ensures ∙ ap (with_free c.self.inside.space) label) c.forget.ensures.each (ap (λ (n : Named). n.kept) c.take.ensures.taken)
-        (leaves_of _ (get nat_eq c.self.inside.held) (maps.get c.self.inside.bindings.kept) (get is_node c.self.inside.sessions) (get is_fec c.self.inside.mapped) (get is_fec c.self.inside.waiting) c.self.invariant (get is_fec c.forget_of.new.mapped) c.args.label c.in-Some.own at c.forget_of.ensures.each)
+    c.args.label c.in-Some.own states.Free c.self.invariant at (λ e. absurd cc) (c.end.ensures ∙ ap (with_free c.self.inside.space) label) c.forget.ensures.each (ap (λ (n : Named). n.kept) c.take.ensures.taken)
+    (leaves_of _ (get nat_eq c.self.inside.held) (maps.get c.self.inside.bindings.kept) (get is_node c.self.inside.sessions) (get is_fec c.self.inside.mapped) (get is_fec c.self.inside.waiting) c.self.invariant (get is_fec c.forget_of.new.mapped) c.args.label c.in-Some.own at c.forget_of.ensures.each)
 
 pub returns-then-eq : goal.returns-then-eq
 returns-then-eq c =
@@ -47,7 +45,7 @@ returns-then-eq c =
     let life = ap (λ (x : Space). x.life) space in
     let used = use_of_held c.self.inside.space (get nat_eq c.self.inside.held) (maps.get c.self.inside.bindings.kept) (get is_node c.self.inside.sessions) (get is_fec c.self.inside.mapped) (get is_fec c.self.inside.waiting) c.self.invariant c.args.label c.in-Some.own at in
     let labels = less_labels c.self.inside.space c.end.new.space c.self.inside.held c.forget.new.held c.args.label states.Owned states.Free (c.self.invariant.owned c.args.label c.in-Some.own at) space c.forget.ensures.each
-        ∙ sym (lost_here c.args.peer (uses_from 16 (get nat_eq c.self.inside.held) c.self.inside.space.states) c.args.label c.in-Some.own used (sym c.eq.ensures ∙ c.if-eq.true)) in
+    ∙ sym (lost_here c.args.peer (uses_from 16 (get nat_eq c.self.inside.held) c.self.inside.space.states) c.args.label c.in-Some.own used (sym c.eq.ensures ∙ c.if-eq.true)) in
     (λ i. record { life = life i; labels = labels i; waiting = maps.from_entries (towards c.self.inside.waiting.entries); sessions = maps.from_entries c.self.inside.sessions.entries })
     ∙ ap (λ (u : Uses). record u { labels = lost_at c.args.peer u.labels c.args.label }) c.self.view_is
 

@@ -1,13 +1,9 @@
-use Rattle.std.proofs.Common.{◌≡◌, ◌∙◌, ℕ, nat_eq, false, List, Option, Some, None, is_some, refl, sym, ap, subst}
+use Rattle.std.proofs.Common.{◌≡◌, ◌∙◌, ℕ, nat_eq, false, List, Some, None, is_some, refl, sym, ap, subst}
 use Rattle.std.specs.Map.{lookup}
 use Rattle.std.specs.FinMap as maps
-use Rattle.mldp_fec.specs.declared.fec.Fec.{Fec}
 use Rattle.tunnel_bindings.specs.declared.state.LabelState.TheVariants as states
-use Rattle.mv_base.specs.declared.ids.NodeId.{NodeId}
 use Rattle.indexmap.specs.IndexMap.{get}
-use Rattle.label_defs.specs.declared.label_use.LabelUse.{LabelUse}
 use Rattle.label_defs.specs.declared.label_use.LabelUse.TheVariants as uses
-use Rattle.tunnel_bindings.specs.declared.binding.Incarnation.{Incarnation}
 use Rattle.tunnel_bindings.specs.declared.any_binding.AnyBinding.{AnyBinding}
 use Rattle.tunnel_bindings.specs.declared.any_binding.AnyBinding.TheVariants as bindings
 use Rattle.tunnel_bindings.specs.Labels.{Space, IsOwned, IsLeastFree, state_of, set_label}
@@ -57,16 +53,16 @@ invariant_of-self-in-Ok-keep c =
     let own : Held = record { fec = c.args.fec.now; upstream = c.args.upstream; leaving = false; name = c.in-Ok-keep.name } in
     let up : get is_node c.self.inside.sessions c.args.upstream ≡ Some c.unwrap-session.result = sym c.get.ensures.value ∙ sym c.copied.ensures ∙ c.unwrap-session.ensures in
     let unmapped : get is_fec c.self.inside.mapped c.args.fec.now ≡ None =
-        mapped_agrees c.self.inside.space (get nat_eq c.self.inside.held) (maps.get c.self.inside.bindings.kept) (get is_node c.self.inside.sessions) (get is_fec c.self.inside.mapped) (get is_fec c.self.inside.waiting) c.self.invariant c.args.fec.now
-        ∙ (ap (λ (u : Uses). mapped_in u.labels c.args.fec.now) (c.self.view_is ∙ c.unwait.ensures) ∙ c.requires.unmapped) in
+    mapped_agrees c.self.inside.space (get nat_eq c.self.inside.held) (maps.get c.self.inside.bindings.kept) (get is_node c.self.inside.sessions) (get is_fec c.self.inside.mapped) (get is_fec c.self.inside.waiting) c.self.invariant c.args.fec.now
+    ∙ (ap (λ (u : Uses). mapped_in u.labels c.args.fec.now) (c.self.view_is ∙ c.unwait.ensures) ∙ c.requires.unmapped) in
     let trees = same_tables c.self.inside.space c.self.inside.held c.reserve.new.self (maps.get c.self.inside.bindings.kept) (get is_node c.self.inside.sessions) c.self.inside.mapped c.reserve-2.new.self (get is_fec c.self.inside.waiting)
-        c.reserve.ensures.entries c.reserve-2.ensures.entries c.self.invariant in
+    c.reserve.ensures.entries c.reserve-2.ensures.entries c.self.invariant in
     map_holds c.self.inside.space c.map.new.space c.reserve.new.self c.note.new.held c.self.inside.bindings.kept c.keep.new.self.kept (get is_node c.self.inside.sessions) c.reserve-2.new.self c.note-in-Ok-keep.new.mapped (get is_fec c.self.inside.waiting)
-        c.label-label.result own c.unwrap-session.result (bindings.Mapped c.in-Ok.mapped)
-        trees (subst (λ (l : ℕ). IsLeastFree c.self.inside.space l) (sym label) c.in-Ok.ensures.least) (c.in-Ok.ensures.owned ∙ ap (λ (l : ℕ). set_label c.self.inside.space l states.Owned) (sym label))
-        c.note.ensures.each c.in-Ok-keep.ensures.absent c.in-Ok-keep.ensures.kept
-        (mapped_binding c.new-wanted.result c.in-Ok.mapped c.args.fec.now c.args.upstream c.in-Ok-keep.name c.unwrap-session.result c.label-label.result c.new-wanted.ensures c.in-Ok.ensures.mapped label)
-        up (ap (lookup (is_fec c.args.fec.now)) c.reserve-2.ensures.entries ∙ unmapped) c.note-in-Ok-keep.ensures.each refl
+    c.label-label.result own c.unwrap-session.result (bindings.Mapped c.in-Ok.mapped)
+    trees (subst (λ (l : ℕ). IsLeastFree c.self.inside.space l) (sym label) c.in-Ok.ensures.least) (c.in-Ok.ensures.owned ∙ ap (λ (l : ℕ). set_label c.self.inside.space l states.Owned) (sym label))
+    c.note.ensures.each c.in-Ok-keep.ensures.absent c.in-Ok-keep.ensures.kept
+    (mapped_binding c.new-wanted.result c.in-Ok.mapped c.args.fec.now c.args.upstream c.in-Ok-keep.name c.unwrap-session.result c.label-label.result c.new-wanted.ensures c.in-Ok.ensures.mapped label)
+    up (ap (lookup (is_fec c.args.fec.now)) c.reserve-2.ensures.entries ∙ unmapped) c.note-in-Ok-keep.ensures.each refl
 
 pub returns-in-Err-clause-least : goal.returns-in-Err-clause-least
 returns-in-Err-clause-least c =
@@ -85,7 +81,7 @@ returns-in-Ok-keep-clause-mapped c =
     let label : c.label-label.result ≡ c.in-Ok.mapped.state.label = c.label-label.ensures in
     let life = ap (λ (x : Space). x.life) c.in-Ok.ensures.owned in
     let labels = map_labels c.self.inside.space c.map.new.space c.reserve.new.self c.note.new.held c.label-label.result own
-        (subst (λ (l : ℕ). IsLeastFree c.self.inside.space l) (sym label) c.in-Ok.ensures.least) (c.in-Ok.ensures.owned ∙ ap (λ (l : ℕ). set_label c.self.inside.space l states.Owned) (sym label)) c.note.ensures.each
-        ∙ ap (λ (es : List (ℕ × Held)). set_use (uses_from 16 (λ q. lookup (nat_eq q) es) c.self.inside.space.states) c.label-label.result (uses.Mapped c.args.fec.now c.args.upstream)) c.reserve.ensures.entries in
+    (subst (λ (l : ℕ). IsLeastFree c.self.inside.space l) (sym label) c.in-Ok.ensures.least) (c.in-Ok.ensures.owned ∙ ap (λ (l : ℕ). set_label c.self.inside.space l states.Owned) (sym label)) c.note.ensures.each
+    ∙ ap (λ (es : List (ℕ × Held)). set_use (uses_from 16 (λ q. lookup (nat_eq q) es) c.self.inside.space.states) c.label-label.result (uses.Mapped c.args.fec.now c.args.upstream)) c.reserve.ensures.entries in
     (λ i. record { life = life i; labels = labels i; waiting = maps.from_entries (towards c.self.inside.waiting.entries); sessions = maps.from_entries c.self.inside.sessions.entries })
     ∙ ap (λ (u : Uses). record u { labels = set_use u.labels c.label-label.result (uses.Mapped c.args.fec.now c.args.upstream) }) (c.self.view_is ∙ c.unwait.ensures)

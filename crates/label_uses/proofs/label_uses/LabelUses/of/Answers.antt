@@ -1,4 +1,4 @@
-use Rattle.std.proofs.Common.{◌≡◌, ◌∙◌, nat_eq, ℕ, List, ap}
+use Rattle.std.proofs.Common.{◌∙◌, nat_eq, ℕ, List, ap}
 use Rattle.std.specs.Map.{lookup}
 use Rattle.std.specs.FinMap as maps
 use Rattle.indexmap.specs.IndexMap.{get}

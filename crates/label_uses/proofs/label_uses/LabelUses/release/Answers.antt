@@ -1,7 +1,6 @@
-use Rattle.std.proofs.Common.{◌≡◌, ◌∙◌, ℕ, ◌+◌, nat_eq, Option, Some, None, is_some, refl, sym, ap, subst}
+use Rattle.std.proofs.Common.{◌≡◌, ◌∙◌, ◌+◌, nat_eq, is_some, refl, sym, ap, subst}
 use Rattle.std.specs.FinMap as maps
 use Rattle.indexmap.specs.IndexMap.{get}
-use Rattle.tunnel_bindings.specs.declared.any_binding.AnyBinding.{AnyBinding}
 use Rattle.tunnel_bindings.specs.declared.state.LabelState.TheVariants as states
 use Rattle.tunnel_bindings.specs.Bindings.{Named}
 use Rattle.tunnel_bindings.specs.Labels.{Space}
@@ -33,9 +32,9 @@ invariant_of-self c =
     let is = same_own c.take.result c.unwrap-binding.result (binding_of c.args.label c.in-Some.own bound.raise) c.unwrap-binding.ensures (c.take.ensures.binding ∙ bound.is) in
     let gone = leaves_leaving c.in-Some.own c.args.fec.now c.args.from (sym c.is_leaving_to.ensures ∙ c.if-is_leaving_to.true) in
     less_holds c.self.inside.space c.rest.new.space c.self.inside.held c.forget.new.held c.self.inside.bindings.kept c.take.new.self.kept (get is_node c.self.inside.sessions) (get is_fec c.self.inside.mapped) (get is_fec c.self.inside.mapped) (get is_fec c.self.inside.waiting)
-        c.args.label c.in-Some.own (states.Resting (c.args.now + c.self.inside.space.life + 1)) c.self.invariant at (λ e. absurd cc)
-        (c.rest.ensures ∙ rested_is c.self.inside.space c.args.now c.args.label c.in-Some.own bound.raise c.unwrap-binding.result is gone) c.forget.ensures.each (ap (λ (n : Named). n.kept) c.take.ensures.taken)
-        (leaves_alike _ (get nat_eq c.self.inside.held) (maps.get c.self.inside.bindings.kept) (get is_node c.self.inside.sessions) (get is_fec c.self.inside.mapped) (get is_fec c.self.inside.waiting) c.self.invariant (get is_fec c.self.inside.mapped) c.args.label c.in-Some.own at gone (λ fec. refl))
+    c.args.label c.in-Some.own (states.Resting (c.args.now + c.self.inside.space.life + 1)) c.self.invariant at (λ e. absurd cc)
+    (c.rest.ensures ∙ rested_is c.self.inside.space c.args.now c.args.label c.in-Some.own bound.raise c.unwrap-binding.result is gone) c.forget.ensures.each (ap (λ (n : Named). n.kept) c.take.ensures.taken)
+    (leaves_alike _ (get nat_eq c.self.inside.held) (maps.get c.self.inside.bindings.kept) (get is_node c.self.inside.sessions) (get is_fec c.self.inside.mapped) (get is_fec c.self.inside.waiting) c.self.invariant (get is_fec c.self.inside.mapped) c.args.label c.in-Some.own at gone (λ fec. refl))
 
 pub returns-then-is_leaving_to : goal.returns-then-is_leaving_to
 returns-then-is_leaving_to c =
@@ -48,7 +47,7 @@ returns-then-is_leaving_to c =
     let life = ap (λ (x : Space). x.life) space in
     let used = use_of_held c.self.inside.space (get nat_eq c.self.inside.held) (maps.get c.self.inside.bindings.kept) (get is_node c.self.inside.sessions) (get is_fec c.self.inside.mapped) (get is_fec c.self.inside.waiting) c.self.invariant c.args.label c.in-Some.own at in
     let labels = less_labels c.self.inside.space c.rest.new.space c.self.inside.held c.forget.new.held c.args.label states.Owned (states.Resting (c.args.now + c.self.inside.space.life + 1)) (c.self.invariant.owned c.args.label c.in-Some.own at) space c.forget.ensures.each
-        ∙ sym (released_here c.args.from c.args.fec.now (c.args.now + c.self.inside.space.life + 1) (uses_from 16 (get nat_eq c.self.inside.held) c.self.inside.space.states) c.args.label c.in-Some.own used test) in
+    ∙ sym (released_here c.args.from c.args.fec.now (c.args.now + c.self.inside.space.life + 1) (uses_from 16 (get nat_eq c.self.inside.held) c.self.inside.space.states) c.args.label c.in-Some.own used test) in
     (λ i. record { life = life i; labels = labels i; waiting = maps.from_entries (towards c.self.inside.waiting.entries); sessions = maps.from_entries c.self.inside.sessions.entries })
     ∙ ap (λ (u : Uses). record u { labels = with_released u.labels c.args.from c.args.fec.now c.args.label (c.args.now + u.life + 1) }) c.self.view_is
 

@@ -1,4 +1,4 @@
-use Rattle.std.proofs.Common.{◌≡◌, ◌∙◌, nat_eq, is_some, None, refl, sym, ap, subst}
+use Rattle.std.proofs.Common.{◌≡◌, ◌∙◌, nat_eq, is_some, None, sym, ap, subst}
 use Rattle.std.specs.FinMap as maps
 use Rattle.std.specs.Prelude.{IfSome}
 use Rattle.indexmap.specs.IndexMap.{get}
@@ -7,7 +7,7 @@ use Rattle.tunnel_bindings.specs.Bindings.{Named}
 use Rattle.tunnel_bindings.specs.Labels.{Space, IsOwned, state_of}
 use Rattle.tunnel_bindings.specs.States.{label_of, with_free}
 use Rattle.label_uses.specs.Uses.{Uses}
-use Rattle.label_uses.specs.Held.{Holds, is_fec, is_node, waiting_binding, towards, uses_from}
+use Rattle.label_uses.specs.Held.{Holds, is_fec, is_node, waiting_binding, uses_from}
 use Rattle.label_uses.proofs.TableLemmas.{Sets, sets_tree, name_gone}
 use Rattle.label_uses.proofs.HoldLemmas.{same_own, holds_unwait}
 use Rattle.label_uses.proofs.SeenLemmas.{waiting_goes, waiting_none}

@@ -4,7 +4,7 @@ use Rattle.indexmap.specs.IndexMap.{get}
 use Rattle.label_defs.specs.Steps.{woken}
 use Rattle.tunnel_bindings.specs.Labels.{Space}
 use Rattle.label_uses.specs.Uses.{Uses}
-use Rattle.label_uses.specs.Held.{is_fec, towards, uses_from}
+use Rattle.label_uses.specs.Held.{towards, uses_from}
 use Rattle.label_uses.proofs.SeenLemmas.{uses_woken}
 use Rattle.label_uses.proofs.label_uses.LabelUses.wake.Goals as goal
 

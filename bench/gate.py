@@ -1,14 +1,14 @@
 #!/usr/bin/env python3
 """Measures what the gate costs: processor seconds of proof, tests and must-fail edits, crate by crate.
 
-    python3 bench/gate.py                  runs `rt ci --anew` here, writes bench/gate.json and the table in docs/PROVING.md
-    python3 bench/gate.py COMMAND WORD..   the same with another command, as `rt ci NAME`; what it proves and tries replaces
-                                           the numbers of these crates, and all others stay
+    python3 bench/gate.py                  runs `rt ci` from nothing here, writes bench/gate.json and the table in docs/PROVING.md
+    python3 bench/gate.py COMMAND WORD..   the same with another command, as `rt verdict` of one crate; what it proves and tries
+                                           replaces the numbers of these crates, and all others stay
     python3 bench/gate.py --table          writes the table alone, from bench/gate.json
 
 The kit proves each crate in processes of its own. Every fifth of a second this reads from /proc what each process below the
-command has used; a process that ends in between counts as it was last seen. A crate that an earlier run proved costs a run
-of `rt ci` nothing, so only `--anew`, or a machine that has proved nothing, gives all rows.
+command has used; a process that ends in between counts as it was last seen. Some kits keep what an earlier run of `rt ci`
+proved, and prove everything from nothing only with `--anew`: there this word is added.
 """
 
 import json
@@ -98,6 +98,12 @@ def measure(command):
     return run.returncode, costs
 
 
+def whole_gate():
+    """The command of the kit here that proves everything from nothing."""
+    told = subprocess.run(['rt', 'help'], capture_output=True, text=True)
+    return ['rt', 'ci', '--anew'] if '--anew' in told.stdout + told.stderr else ['rt', 'ci']
+
+
 def crate_names():
     with open(os.path.join(HERE, 'crates.txt')) as file:
         lines = [line for line in file if line.strip() and not line.startswith('#')]
@@ -169,7 +175,7 @@ def main():
             costs = json.load(file)
     status = 0
     if sys.argv[1:] != ['--table']:
-        status, measured = measure(sys.argv[1:] or ['rt', 'ci', '--anew'])
+        status, measured = measure(sys.argv[1:] or whole_gate())
         costs = {crate: merged(crate, costs.get(crate, {}), measured.get(crate, {})) for crate in crate_names()}
         with open(COSTS, 'w') as file:
             json.dump(costs, file, indent=1)

@@ -44,7 +44,7 @@ def is_outside(scenario, site, iface):
 
 
 def entering_fate(place, now, edge, own, site, source, group):
-    if not is_from_site(site, upstream_for(place, edge.control, own, source)):
+    if not is_from_site(site, upstream_for(place, edge.control, own, source, group)):
         return DISCARDED
     outs = tuple(iface for iface in asking_ifaces(place, now, edge.control, own, source, group) if is_outside(place.scenario, site, iface))
     is_sent_on = is_joined_in(place, edge.control, own, source, group)
@@ -72,7 +72,7 @@ def is_imported_from(place, own, fec, peer, taken):
 
 def outs_from(place, now, control, own, fec, source, group, peer, taken):
     """Delivered at a VRF that imports a route of the tunnel, where its upstream for the source is the tunnel's root."""
-    if is_imported_from(place, own, fec, peer, taken) and is_from_edge(peer, upstream_for(place, control, own, source)):
+    if is_imported_from(place, own, fec, peer, taken) and is_from_edge(peer, upstream_for(place, control, own, source, group)):
         return asking_ifaces(place, now, control, own, source, group)
     return ()
 

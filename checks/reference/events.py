@@ -7,7 +7,7 @@ from .base import flat_map
 from .octets import packet
 from .pim import message_of
 from .refusals import edge_of_vrf, group_in, refusal, source_in
-from .scenario import core_of, edge_of, entered, sessions
+from .scenario import edge_of, entered, sessions
 from .world import Acted, Datagram, World, act, all_nodes, directions, is_joined, is_up, link_ways, scenario_of, start
 
 
@@ -135,6 +135,8 @@ def done(world, event):
             return row([(event.word, a)], world)
         case 'move':
             return row([('move', kind, a, b, count)], world)
+        case 'cost':
+            return row([('set cost', a, b, count)] + [('reroute', number) for number in all_nodes(scenario)], world)
         case 'lose' | 'notice':
             return row([(event.word, kind, a, b)], world)
         case 'raise':
@@ -172,7 +174,7 @@ def outcome(world, timed):
 
 def run(script):
     """The lines of the report, and whether the run halts: then its last line says where."""
-    world, lines = start(script.scenario, core_of(script.scenario)), ()
+    world, lines = start(script.scenario), ()
     for timed in script.events:
         new = outcome(world, timed)
         lines += flat_map(lambda act_lines: act_lines, new.acts)

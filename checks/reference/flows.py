@@ -3,7 +3,7 @@ Flows)."""
 
 from dataclasses import dataclass
 
-from .base import Prefix, addr_part, covers, flat_map, found_in, from_entries, same_addr
+from .base import Prefix, addr_octets, addr_part, covers, flat_map, found_in, from_entries, same_addr
 from .octets import Unicast
 from .pim import asks
 from .place import Remote, Site, VrfFlow, addr_of, flow_key, own_vrfs
@@ -32,8 +32,37 @@ class KnownRoute:
     origin: object
 
 
-def cost_by(rule, cost):
-    return cost if rule == 'nearest' else lambda edge: 0
+def hash_of(source, group):
+    """The exclusive or of all octets of a flow's source and group."""
+    found = 0
+    for octet in addr_octets(source) + addr_octets(group):
+        found ^= octet
+    return found
+
+
+def candidate_edges(routes, source):
+    """The edges of the longest routes that cover the source, each once, by rising address."""
+    covering = [route for route in routes if covers(route.prefix, source)]
+    longest = max((route.prefix.bits for route in covering), default=0)
+    origins = [route.origin for route in covering if route.prefix.bits == longest and isinstance(route.origin, RemoteOrigin)]
+    return [edge for _, edge in sorted({(addr_part(origin.address), origin.edge) for origin in origins})]
+
+
+def hashed_edge(routes, source, group):
+    edges = candidate_edges(routes, source)
+    return edges[hash_of(source, group) % len(edges)] if edges else None
+
+
+def cost_by(rule, cost, routes, source, group):
+    """What a rule compares before addresses: the cost by `nearest`; by `hash` whether it is the edge that the hash names."""
+    match rule:
+        case 'nearest':
+            return cost
+        case 'hash':
+            chosen = hashed_edge(routes, source, group)
+            return lambda edge: 0 if edge == chosen else 1
+        case _:
+            return lambda edge: 0
 
 
 def negated(parts):
@@ -93,9 +122,10 @@ def upstream_by(control, route):
             return None if by is None else Remote(edge, rd, by.route_import, by.source_as)
 
 
-def upstream_for(place, control, own, source):
-    cost = cost_by(own.vrf.rule, lambda edge: place.core.cost(place.me, edge))
-    route = best_route(cost, known_routes(place, control, own), source)
+def upstream_for(place, control, own, source, group):
+    routes = known_routes(place, control, own)
+    cost = cost_by(own.vrf.rule, lambda edge: place.core.cost(place.me, edge), routes, source, group)
+    route = best_route(cost, routes, source)
     return None if route is None else upstream_by(control, route)
 
 
@@ -148,7 +178,7 @@ def possible_flows(place, control, own):
 
 
 def with_upstream(place, control, own, flow):
-    return (VrfFlow(own.id, flow.source, flow.group), upstream_for(place, control, own, flow.source))
+    return (VrfFlow(own.id, flow.source, flow.group), upstream_for(place, control, own, flow.source, flow.group))
 
 
 def vrf_flows(place, now, control, own):

@@ -2,8 +2,8 @@
 
 from .base import FinMap, found_in, from_entries
 from .octets import Advert, Mcast, Reach, SourceJoin, Unreach
-from .place import Remote, Value, key_parts, own_addr, same_value
-from .routes import afi_of, import_target, originated
+from .place import Remote, Value, afi_of, key_parts, own_addr, same_value
+from .routes import import_target, originated
 
 
 def join_route(place, peer, flow, upstream):

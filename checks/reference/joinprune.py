@@ -1,8 +1,8 @@
-"""PIM Join/Prune messages of IPv4, and their reading with the first fault that is met (pim_joinprune: Reading)."""
+"""PIM Join/Prune messages of IPv4 and IPv6, and their reading with the first fault that is met (pim_joinprune: Reading)."""
 
 from dataclasses import dataclass
 
-from .base import V4, checksum, from_be_bytes
+from .base import V4, V6, checksum, from_be_bytes
 
 
 @dataclass(frozen=True)
@@ -29,6 +29,17 @@ class JoinPrune:
 class PimFault:
     place: int
     word: str
+
+
+@dataclass(frozen=True)
+class Family:
+    octet: int
+    addr: type
+    addr_len: int
+    mask_len: int
+
+
+FAMILIES = (Family(1, V4, 4, 32), Family(2, V6, 16, 128))
 
 
 class Stop(Exception):
@@ -61,17 +72,24 @@ def number_at(octets):
     return from_be_bytes(octets[:2]), octets[2:]
 
 
-def four_at(octets):
-    if len(octets) < 4:
+def address_at(family, octets):
+    if len(octets) < family.addr_len:
         raise Stop(len(octets), 'short')
-    return octets[:4], octets[4:]
+    return family.addr(octets[:family.addr_len]), octets[family.addr_len:]
+
+
+def family_at(octets):
+    octet, rest = octet_at(octets)
+    for family in FAMILIES:
+        if family.octet == octet:
+            return family, rest
+    raise Stop(len(octets), 'family')
 
 
 def unicast_at(octets):
-    octets = known_at(1, 'family', octets)
+    family, octets = family_at(octets)
     octets = known_at(0, 'encoding', octets)
-    addr, octets = four_at(octets)
-    return V4(addr), octets
+    return address_at(family, octets)
 
 
 def kind_at(octets):
@@ -82,45 +100,54 @@ def kind_at(octets):
     return kind, rest
 
 
-def source_at(octets):
-    octets = known_at(1, 'family', octets)
+def source_at(family, octets):
+    octets = known_at(family.octet, 'family', octets)
     octets = known_at(0, 'encoding', octets)
     kind, octets = kind_at(octets)
-    octets = known_at(32, 'mask-length', octets)
-    addr, octets = four_at(octets)
-    return JpSource(kind, V4(addr)), octets
+    octets = known_at(family.mask_len, 'mask-length', octets)
+    addr, octets = address_at(family, octets)
+    return JpSource(kind, addr), octets
 
 
-def multicast_at(octets):
-    addr, rest = four_at(octets)
-    if addr[0] // 16 != 14:
+def is_multicast(addr):
+    first = addr.octets[0]
+    return first // 16 == 14 if isinstance(addr, V4) else first == 255
+
+
+def multicast_at(family, octets):
+    addr, rest = address_at(family, octets)
+    if not is_multicast(addr):
         raise Stop(len(octets), 'not-multicast')
-    return V4(addr), rest
+    return addr, rest
 
 
-def group_address_at(octets):
-    octets = known_at(1, 'family', octets)
+def group_address_at(family, octets):
+    octets = known_at(family.octet, 'family', octets)
     octets = known_at(0, 'encoding', octets)
     _, octets = octet_at(octets)
-    octets = known_at(32, 'mask-length', octets)
-    return multicast_at(octets)
+    octets = known_at(family.mask_len, 'mask-length', octets)
+    return multicast_at(family, octets)
 
 
-def all_at(read, count, octets):
+def all_at(read, family, count, octets):
     found = []
     for _ in range(count):
-        one, octets = read(octets)
+        one, octets = read(family, octets)
         found.append(one)
     return tuple(found), octets
 
 
-def group_at(octets):
-    group, octets = group_address_at(octets)
+def group_at(family, octets):
+    group, octets = group_address_at(family, octets)
     joined, octets = number_at(octets)
     pruned, octets = number_at(octets)
-    joins, octets = all_at(source_at, joined, octets)
-    prunes, octets = all_at(source_at, pruned, octets)
+    joins, octets = all_at(source_at, family, joined, octets)
+    prunes, octets = all_at(source_at, family, pruned, octets)
     return Group(group, joins, prunes), octets
+
+
+def family_of(addr):
+    return next(family for family in FAMILIES if isinstance(addr, family.addr))
 
 
 def fields_at(octets):
@@ -128,7 +155,7 @@ def fields_at(octets):
     _, octets = octet_at(octets)
     count, octets = octet_at(octets)
     holdtime, octets = number_at(octets)
-    groups, octets = all_at(group_at, count, octets)
+    groups, octets = all_at(group_at, family_of(neighbour), count, octets)
     return JoinPrune(neighbour, holdtime, groups), octets
 
 
@@ -141,13 +168,28 @@ def whole_of(octets):
 
 # ---- the message
 
+ROUTER = (0xFE, 0x80) + (0,) * 13 + (1,)
+ALL_PIM_ROUTERS = (0xFF, 2) + (0,) * 13 + (0x0D,)
+
+
+def pseudo_of(fields):
+    """What the checksum covers in front of a message with these octets behind it."""
+    if not fields or fields[0] != 2:
+        return ()
+    return ROUTER + ALL_PIM_ROUTERS + tuple((4 + len(fields)).to_bytes(4, 'big')) + (0, 0, 0, 103)
+
+
+def sum_of(first, reserved, fields):
+    return checksum(pseudo_of(fields) + (first, reserved, 0, 0) + fields)
+
+
 def headed(octets):
     first, reserved, rest = octets[0], octets[1], octets[4:]
     if first // 16 != 2:
         raise Stop(len(octets), 'version')
     if first % 16 != 3:
         raise Stop(len(octets), 'pim-type')
-    if checksum((first, reserved, 0, 0) + rest) != from_be_bytes(octets[2:4]):
+    if sum_of(first, reserved, rest) != from_be_bytes(octets[2:4]):
         raise Stop(2 + len(rest), 'checksum')
     return whole_of(rest)
 

@@ -2,7 +2,7 @@
 
 from dataclasses import dataclass, replace
 
-from .base import from_entries
+from .base import flat_map, from_entries
 from .labels import (FIRST_LABEL, Branch, End, Free, LabelData, Leaving, Mapped, Resting, free_label, has_tree, is_hold_due, is_ready, is_rested,
                      mapped_label, node_key, same_fec, trees, use_of)
 from .octets import Mapping, Release, Withdraw
@@ -34,14 +34,14 @@ def change_by(on_tree, mapped, holder, upstream, ready, free):
     """What a tree needs: ('keep',), ('map', upstream, label), ('withdraw', upstream, label), ('wait',), ('cancel',) or ('no label',)."""
     match (on_tree, mapped, upstream, ready, free):
         case (True, None, None, _, _):
-            return ('keep',)
+            return ('cancel',)
         case (True, None, _, True, None):
             return ('no label',)
         case (True, None, _, True, _):
             return ('map', upstream, free)
         case (True, None, _, False, _):
             return ('wait',)
-        case (True, _, _, _, _):
+        case (True, _, _, _, _) if holder == upstream:
             return ('keep',)
         case (False, None, _, _, _):
             return ('cancel',)
@@ -97,7 +97,7 @@ def settle_all(place, fecs, old):
     return old
 
 
-# ---- steps: the calls Taken, Want, Unwant, Raised, Noticed and Timers are tuples of their word and fields
+# ---- steps: the calls Taken, Want, Unwant, Raised, Noticed, Timers and Rerouted are tuples of their word and fields
 
 def released(sender, fec, until, usage):
     match usage:
@@ -141,8 +141,7 @@ def without_session(part, node):
         part,
         labels=tuple(freed(node, usage) for usage in part.labels),
         branches=part.branches.retain(lambda branch: branch.node != node),
-        ends=part.ends.remove(node),
-        ids=part.ids.remove(node))
+        ends=part.ends.remove(node))
 
 
 def woken(now, usage):
@@ -171,27 +170,29 @@ def effect(place, now, part, call):
         case ('unwant', fec):
             return Stepped(replace(part, leaves=part.leaves.remove(fec)), ()), (fec,)
         case ('raised', peer):
-            return Stepped(replace(part, ends=part.ends.insert(peer, End(now, False)), ids=part.ids.insert(peer, 1)), ()), ()
+            return Stepped(replace(part, ends=part.ends.insert(peer, End(now, False, 1))), ()), ()
         case ('noticed', peer):
             return Stepped(without_session(part, peer), ()), trees(part)
         case ('timers',):
             return Stepped(timed(place, now, part), ()), part.waiting.items
+        case ('rerouted',):
+            return Stepped(part, ()), flat_map(lambda fec: (fec, fec), trees(part))
 
 
 def next_id(number):
     return 1 if number == 4294967295 else number + 1
 
 
-def ids_after(ids, puts):
+def ends_after(ends, puts):
     for put in puts:
-        number = ids.get(put.to)
-        if number is not None:
-            ids = ids.insert(put.to, next_id(number))
-    return ids
+        end = ends.get(put.to)
+        if end is not None:
+            ends = ends.insert(put.to, replace(end, next=next_id(end.next)))
+    return ends
 
 
 def label_step(place, now, part, call):
     """A label step; None where the trees that settle need more labels than are free."""
     own, fecs = effect(place, now, part, call)
     new = settle_all(place, fecs, own)
-    return None if new is None else Stepped(replace(new.part, ids=ids_after(new.part.ids, new.puts)), new.puts)
+    return None if new is None else Stepped(replace(new.part, ends=ends_after(new.part.ends, new.puts)), new.puts)

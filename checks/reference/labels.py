@@ -37,8 +37,11 @@ class Branch:
 
 @dataclass(frozen=True)
 class End:
+    """The end of an LDP session that is up: when it came up, whether its hold was run, and the id of the next message."""
+
     raised: int
     held: bool
+    next: int
 
 
 @dataclass(frozen=True)
@@ -79,14 +82,13 @@ class LabelData:
     leaves: FinSet
     waiting: FinSet
     ends: FinMap
-    ids: FinMap
 
 
 FIRST_LABEL = 16
 
 
 def fresh(count):
-    return LabelData((Free(),) * count, FinSet(branch_key), FinSet(fec_key), FinSet(fec_key), FinMap(node_key), FinMap(node_key))
+    return LabelData((Free(),) * count, FinSet(branch_key), FinSet(fec_key), FinSet(fec_key), FinMap(node_key))
 
 
 def use_of(part, label):

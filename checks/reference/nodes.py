@@ -9,15 +9,18 @@ from .held import put_to
 from .label_steps import effect, label_step, next_id
 from .octets import Update, Other, pdu_written, update_written
 from .place import EdgeData, EdgePlace, addr_of, label_place
-from .scenario import Core, Scenario, edges
+from .scenario import Scenario, core_of, edges, with_cost
 from .sessions import Direction, Put, Stepped, System
 from .steps import LabelStep, edge_step, own_label_call
 
 
 @dataclass(frozen=True)
 class Nodes:
+    """All nodes of a scenario: the links at their present costs, the links at the costs that each node has acted on, the clock."""
+
     scenario: Scenario
-    core: Core
+    links: tuple
+    known: tuple
     clock: int
     node: tuple
 
@@ -31,16 +34,22 @@ def fresh_node(scenario, number):
     return edge_place.fresh(scenario.labels) if is_edge(scenario, number) else labels.fresh(scenario.labels)
 
 
-def start_nodes(scenario, core):
-    return Nodes(scenario, core, 0, tuple(fresh_node(scenario, number) for number in range(len(scenario.nodes))))
+def start_nodes(scenario):
+    every = range(len(scenario.nodes))
+    return Nodes(scenario, scenario.links, tuple(scenario.links for _ in every), 0, tuple(fresh_node(scenario, number) for number in every))
 
 
 def with_node(nodes, at, new):
     return replace(nodes, node=nodes.node[:at] + (new,) + nodes.node[at + 1:])
 
 
+def core_at(nodes, number):
+    """The core by the costs that the node has acted on."""
+    return core_of(len(nodes.scenario.nodes), nodes.known[number])
+
+
 def place_of(nodes, number):
-    return EdgePlace(nodes.scenario, nodes.core, number)
+    return EdgePlace(nodes.scenario, core_at(nodes, number), number)
 
 
 def part_of(state):
@@ -56,26 +65,26 @@ def bgp_puts(place, old, new):
         edges(place.scenario))
 
 
-def numbered_puts(me, addr, ids, puts):
+def numbered_puts(me, addr, ends, puts):
     """Each label message goes in a PDU of its own; the ids to each neighbour grow by one."""
     found = ()
     for put in puts:
-        number = ids.get(put.to)
-        if number is not None:
-            found += (Put(Direction('ldp', me, put.to), pdu_written(addr, number, put.message)),)
-            ids = ids.insert(put.to, next_id(number))
+        end = ends.get(put.to)
+        if end is not None:
+            found += (Put(Direction('ldp', me, put.to), pdu_written(addr, end.next, put.message)),)
+            ends = ends.insert(put.to, replace(end, next=next_id(end.next)))
     return found
 
 
 def label_puts(me, addr, place, now, step):
     own, _ = effect(place, now, step.old, step.call)
-    return numbered_puts(me, addr, own.part.ids, step.new.puts)
+    return numbered_puts(me, addr, own.part.ends, step.new.puts)
 
 
 # ---- steps of a node
 
 def puts_of(nodes, number, row):
-    at = label_place(nodes.scenario, nodes.core, number)
+    at = label_place(nodes.scenario, core_at(nodes, number), number)
     return flat_map(lambda step: label_puts(number, addr_of(nodes.scenario, number), at, nodes.clock, step), row)
 
 
@@ -88,7 +97,7 @@ def edge_stepped(nodes, number, edge, call):
 
 
 def core_stepped(nodes, number, part, call):
-    new = label_step(label_place(nodes.scenario, nodes.core, number), nodes.clock, part, call)
+    new = label_step(label_place(nodes.scenario, core_at(nodes, number), number), nodes.clock, part, call)
     return None if new is None else Stepped(with_node(nodes, number, new.part), puts_of(nodes, number, (LabelStep(part, call, new),)))
 
 
@@ -105,7 +114,7 @@ def call_of(sender, message):
 
 
 def nodes_called(call, nodes):
-    """Calls are 'own' node call, 'elapse' ticks, and 'reset' node."""
+    """Calls are 'own' node call, 'elapse' ticks, 'reset' node, 'set cost' a b cost, and 'reroute' node."""
     match call:
         case ('own', number, own):
             return node_called(nodes, number, own)
@@ -113,6 +122,10 @@ def nodes_called(call, nodes):
             return Stepped(replace(nodes, clock=nodes.clock + ticks), ())
         case ('reset', number):
             return Stepped(with_node(nodes, number, fresh_node(nodes.scenario, number)), ())
+        case ('set cost', a, b, cost):
+            return Stepped(replace(nodes, links=with_cost(a, b, cost, nodes.links)), ())
+        case ('reroute', number):
+            return node_called(replace(nodes, known=nodes.known[:number] + (nodes.links,) + nodes.known[number + 1:]), number, ('rerouted',))
 
 
 SYSTEM = System(lambda direction, message, nodes: node_called(nodes, direction.end, call_of(direction.start, message)), nodes_called)

@@ -10,6 +10,9 @@ from .scenario import Core, Scenario, Vrf
 
 # ---- the order of keys
 
+def afi_of(addr):
+    return 1 if isinstance(addr, V4) else 2
+
 
 def route_parts(route):
     match route:
@@ -27,7 +30,7 @@ def key_parts(key):
     """Unicast keys before multicast keys, those of AFI 1 before those of AFI 2, and then the octets that spell them."""
     if isinstance(key, Mcast):
         return ((1, key.afi), route_written(key.route)) + route_parts(key.route)
-    return ((0,), vpn_text((), key.rd, key.prefix), key.rd, addr_part(key.prefix.addr), (key.prefix.bits,))
+    return ((0, afi_of(key.prefix.addr)), vpn_text((), key.rd, key.prefix), key.rd, addr_part(key.prefix.addr), (key.prefix.bits,))
 
 
 @dataclass(frozen=True)

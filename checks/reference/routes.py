@@ -4,7 +4,7 @@ from dataclasses import dataclass, replace
 
 from .base import V4, FinMap, addr_octets, flat_map, found_in, from_be_bytes, same_addr, slice_get, to_be_bytes
 from .octets import Active, Intra, Mcast, Mldp, Pmsi, Selective, SourceJoin, Unicast
-from .place import Import, Value, is_lsp_opaque, key_parts, lsp, own_addr, own_vrfs, tunnel_number
+from .place import Import, Value, afi_of, is_lsp_opaque, key_parts, lsp, own_addr, own_vrfs, tunnel_number
 from .scenario import is_of_vrf, local_routes
 
 # ---- communities
@@ -27,10 +27,6 @@ def own_import(place, vrf):
 
 
 # ---- keys and values
-
-def afi_of(addr):
-    return 1 if isinstance(addr, V4) else 2
-
 
 def afi_by(source, group):
     if source is not None:

@@ -1,6 +1,7 @@
 """Scenarios (scenario_defs: Vpn, Home), the sessions of a network (net_defs: Sessions), and its core (core_walks)."""
 
-from dataclasses import dataclass
+import functools
+from dataclasses import dataclass, replace
 
 from .base import Prefix, flat_map, slice_get
 
@@ -141,30 +142,37 @@ class Core:
         return self.firsts.get((start, end))
 
 
-def steps_from(scenario, node):
+def with_cost(a, b, cost, links):
+    """The links, that between the two nodes at that cost."""
+    return tuple(replace(link, cost=cost) if (link.a, link.b) in ((a, b), (b, a)) else link for link in links)
+
+
+def steps_from(links, node):
     """The neighbours of a node, each with the cost of the link to it."""
-    return [(link.b, link.cost) for link in scenario.links if link.a == node] + [(link.a, link.cost) for link in scenario.links if link.b == node]
+    return [(link.b, link.cost) for link in links if link.a == node] + [(link.a, link.cost) for link in links if link.b == node]
 
 
-def least_costs(scenario, end):
+def least_costs(count, links, end):
     """The least cost of a walk from each node to that end: as many rounds as there are nodes, each with one more link."""
     found = {end: 0}
-    for _ in scenario.nodes:
+    for _ in range(count):
         longer = dict(found)
-        for node in range(len(scenario.nodes)):
-            for other, cost in steps_from(scenario, node):
+        for node in range(count):
+            for other, cost in steps_from(links, node):
                 if other in found:
                     longer[node] = min(longer.get(node, cost + found[other]), cost + found[other])
         found = longer
     return found
 
 
-def core_of(scenario):
+@functools.lru_cache(maxsize=64)
+def core_of(count, links):
+    """The core of so many nodes and these links at their costs."""
     costs, firsts = {}, {}
-    for end in range(len(scenario.nodes)):
-        least = least_costs(scenario, end)
+    for end in range(count):
+        least = least_costs(count, links, end)
         for node, cost in least.items():
             costs[node, end] = cost
             if node != end:
-                firsts[node, end] = min(other for other, first in steps_from(scenario, node) if other in least and first + least[other] == cost)
+                firsts[node, end] = min(other for other, first in steps_from(links, node) if other in least and first + least[other] == cost)
     return Core(costs, firsts)

@@ -2,7 +2,7 @@
 
 from dataclasses import dataclass
 
-from .base import V4, Pattern, Prefix, to_be_bytes
+from .base import V4, V6, Pattern, Prefix, flat_map, to_be_bytes
 from .scenario import Iface, Link, Node, Scenario, Site, Vrf
 
 
@@ -58,6 +58,8 @@ class Rpt:
 # ---- words
 
 def addr_in(word):
+    if ':' in word:
+        return V6(flat_map(lambda group: to_be_bytes(2, int(group, 16)), word.split(':')))
     return V4(tuple(int(number) for number in word.split('.')))
 
 
@@ -151,8 +153,8 @@ class Draft:
                 return Event(word, site=self.number('site', site), octets=octets_in(octets))
             case [vrf, source, group] if word in ('select', 'unselect'):
                 return Event(word, vrf=self.number('vrf', vrf), entry=Pattern(addr_or_any(source), addr_or_any(group)))
-            case [a, b, place] if word in ('hop', 'drop'):
-                return Event(word, a=self.number('node', a), b=self.number('node', b), count=int(place))
+            case [a, b, number] if word in ('hop', 'drop', 'cost'):
+                return Event(word, a=self.number('node', a), b=self.number('node', b), count=int(number))
             case [] if word in ('heal', 'settle', 'drain', 'state'):
                 return Event(word)
         raise ValueError(' '.join(words))

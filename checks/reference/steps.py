@@ -1,6 +1,6 @@
 """The steps of an edge (edge_defs: Steps). A call is a tuple of its word and its fields: 'update' peer message, 'label' neighbour
 message, 'pim' iface message, 'active' and 'idle' iface source group, 'select' and 'unselect' vrf pattern, 'raised' and
-'noticed' kind peer, 'timers'."""
+'noticed' kind peer, 'timers', 'rerouted'."""
 
 from dataclasses import dataclass, replace
 
@@ -112,7 +112,7 @@ def effect(place, now, old, call):
             return replace(old, peers=old.peers.insert(peer, FinMap(key_parts)))
         case ('noticed', 'bgp', peer):
             return replace(old, peers=old.peers.remove(peer))
-        case ('raised', 'ldp', _) | ('noticed', 'ldp', _):
+        case ('raised', 'ldp', _) | ('noticed', 'ldp', _) | ('rerouted',):
             return old
         case ('timers',):
             return timed(place, now, old)
@@ -139,7 +139,7 @@ def own_label_call(call):
             return ('taken', neighbour, message)
         case ('raised' | 'noticed' as word, 'ldp', peer):
             return (word, peer)
-        case ('timers',):
+        case ('timers',) | ('rerouted',):
             return call
         case _:
             return None

@@ -7,7 +7,7 @@ from . import datagrams, labels, report
 from .base import flat_map, slice_get
 from .datagrams import DISCARDED, Fate, arriving_fate, branches_of, entering_fate, tree_of
 from .labels import use_of
-from .nodes import SYSTEM, part_of, place_of, start_nodes
+from .nodes import SYSTEM, core_at, part_of, place_of, start_nodes
 from .place import EdgeData, OwnVrf, label_place
 from .scenario import sessions
 from .sessions import Direction, OctetNetwork, octet_run, octets_over, started
@@ -58,8 +58,8 @@ def link_ways(scenario):
     return flat_map(lambda link: ((link.a, link.b), (link.b, link.a)), scenario.links)
 
 
-def start(scenario, core):
-    return World(started(start_nodes(scenario, core), directions(scenario)), {way: () for way in link_ways(scenario)}, ())
+def start(scenario):
+    return World(started(start_nodes(scenario), directions(scenario)), {way: () for way in link_ways(scenario)}, ())
 
 
 def is_joined(world, session):
@@ -100,7 +100,7 @@ def node_due(nodes, number):
     state = nodes.node[number]
     if isinstance(state, EdgeData):
         return datagrams.due(place_of(nodes, number), nodes.clock, state)
-    return labels.due(label_place(nodes.scenario, nodes.core, number), nodes.clock, state)
+    return labels.due(label_place(nodes.scenario, core_at(nodes, number), number), nodes.clock, state)
 
 
 def all_nodes(scenario):
@@ -258,6 +258,10 @@ def act(world, one):
             return at_node(world, b, (), [('call', ('own', b, ('raised', kind, a)))])
         case ('restart', node):
             return at_node(world, node, (), [('lose', is_at(node)), ('forget', leads_to(node)), ('call', ('reset', node))])
+        case ('set cost', a, b, cost):
+            return at_node(world, a, (), [('call', ('set cost', a, b, cost))])
+        case ('reroute', node):
+            return at_node(world, node, (), [('call', ('reroute', node))])
         case ('at', node, call):
             return at_node(world, node, (), [('call', ('own', node, call))])
         case ('enter', vrf):

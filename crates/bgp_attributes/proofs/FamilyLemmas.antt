@@ -7,7 +7,7 @@ use Rattle.mv_base.specs.Octets.{IsOctets}
 use Rattle.mv_base.proofs.Fields.{octets_before, octets_behind, wide16, chosen}
 use Rattle.mvpn_nlri.specs.declared.route.Afi.TheVariants.{Ipv4, Ipv6}
 use Rattle.bgp_attributes.specs.declared.family.Family.{Family}
-use Rattle.bgp_attributes.specs.declared.family.Family.TheVariants.{Mcast, VpnIpv4}
+use Rattle.bgp_attributes.specs.declared.family.Family.TheVariants.{Mcast, Vpn}
 use Rattle.bgp_attributes.specs.Spelling.{afi_of, safi_of, pair, IsUnread}
 use Rattle.bgp_attributes.specs.Reading.{family_of}
 
@@ -25,8 +25,11 @@ family_taken afi safi f e =
       | inr a ↦ elim (chosen (eqb afi 2 && eqb safi 5) _ _ _ a.1) [
         | inl b ↦ is (Mcast Ipv6) b.1 (both_are afi safi 2 5 b.0)
         | inr b ↦ elim (chosen (eqb afi 1 && eqb safi 128) _ _ _ b.1) [
-          | inl d ↦ is VpnIpv4 d.1 (both_are afi safi 1 128 d.0)
-          | inr d ↦ absurd cc
+          | inl d ↦ is (Vpn Ipv4) d.1 (both_are afi safi 1 128 d.0)
+          | inr d ↦ elim (chosen (eqb afi 2 && eqb safi 128) _ _ _ d.1) [
+            | inl k ↦ is (Vpn Ipv6) k.1 (both_are afi safi 2 128 k.0)
+            | inr k ↦ absurd cc
+          ]
         ]
       ]
     ]
@@ -38,7 +41,8 @@ family_taken afi safi f e =
 pub family_again : (f : Family) → family_of (afi_of f) (safi_of f) ≡ Some f
 family_again (Mcast Ipv4) = refl
 family_again (Mcast Ipv6) = refl
-family_again VpnIpv4 = refl
+family_again (Vpn Ipv4) = refl
+family_again (Vpn Ipv6) = refl
 
 -- None is read exactly where none has them.
 pub family_none : (afi safi : ℕ) → family_of afi safi ≡ None → IsUnread afi safi
@@ -56,7 +60,8 @@ none_family afi safi unread = none_by afi safi unread (family_of afi safi) refl
 pub afi_fits : (f : Family) → afi_of f < 2 ^ 16
 afi_fits (Mcast Ipv4) = omega arith
 afi_fits (Mcast Ipv6) = omega arith
-afi_fits VpnIpv4 = omega arith
+afi_fits (Vpn Ipv4) = omega arith
+afi_fits (Vpn Ipv6) = omega arith
 
 -- ---- the octets of AFI and SAFI
 

@@ -1,6 +1,7 @@
 -- Next hop, reserved octet and NLRI: read exactly where they are spelled, with their first fault.
 use Rattle.std.proofs.Common.{◌≡◌, ℕ, ◌+◌, ◌-◌, ◌<◌, ◌≤◌, Bool, true, false, eqb, ltb, ◌⊎◌, inl, inr, List, [], ◌∷◌, ◌++◌, length, take, drop, get_or, Result, Ok, Err, refl, sym, ap, subst, ◌∙◌, append_assoc, arith}
-use Rattle.std.specs.Prelude.{◌||◌}
+use Rattle.std.specs.Prelude.{◌||◌, nat_eq}
+use Rattle.std.specs.Cmp.Lexicographic.{pointwise, same_text, nat_list_eq_equiv}
 use Rattle.std.proofs.Math.Seq.{take-add}
 use Rattle.std.proofs.lemmas.Bool.{eqb-true, eq-eqb, ne_eqb, ltb-true, ltb-false, le-ltb, lt-ltb, or_cases, or_left, or_right}
 use Rattle.std.proofs.lemmas.List.{length-append, length-drop, length-take-le, take_at, drop_at, drop-drop, drop_more, take-append-drop}
@@ -10,16 +11,18 @@ use Rattle.mv_base.specs.Cursor.{◌>>=◌}
 use Rattle.mv_base.specs.declared.addr.Addr.{Addr}
 use Rattle.mv_base.specs.declared.addr.Addr.TheVariants.{V4, V6}
 use Rattle.mv_base.proofs.Fields.{octets_behind, bind_ok, bind_err, ok_is, err_is}
+use Rattle.mvpn_nlri.specs.declared.route.Afi.{Afi}
+use Rattle.mvpn_nlri.specs.declared.route.Afi.TheVariants.{Ipv4, Ipv6}
 use Rattle.bgp_attributes.specs.declared.fault.StreamFault.{StreamFault}
 use Rattle.bgp_attributes.specs.declared.fault.StreamFault.TheVariants as faults
 use Rattle.bgp_attributes.specs.declared.family.Family.{Family}
-use Rattle.bgp_attributes.specs.declared.family.Family.TheVariants.{Mcast, VpnIpv4}
+use Rattle.bgp_attributes.specs.declared.family.Family.TheVariants.{Mcast, Vpn}
 use Rattle.bgp_attributes.specs.declared.key.Key.{Key}
 use Rattle.bgp_attributes.specs.declared.attribute.Reachable.{Reachable}
-use Rattle.bgp_attributes.specs.Spelling.{pair, SpellsNextHop, AreKeys}
+use Rattle.bgp_attributes.specs.Spelling.{pair, mapped_front, IsMapped, SpellsMapped, SpellsHopAddr, SpellsNextHop, AreKeys}
 use Rattle.bgp_attributes.specs.FirstFault.{IsHopLen, KeysFault, ValueFault}
 use Rattle.bgp_attributes.specs.FirstFault as value_faults
-use Rattle.bgp_attributes.specs.Reading.{misfit, before_addr, is_hop_len, keys_at, addr_of, hop_at}
+use Rattle.bgp_attributes.specs.Reading.{misfit, before_addr, is_hop_len, keys_at, addr_of, is_mapped, unmapped, hop_addr, hop_at}
 use Rattle.bgp_attributes.proofs.NlriLemmas.{keys_taken, keys_again, keys_fail, fail_keys}
 
 -- ---- lengths
@@ -37,11 +40,11 @@ is_one n a b (inr q) = or_right (eqb n a) (eqb n b) (eq-eqb n b q)
 
 hop_len_is : (f : Family) (len : ℕ) → is_hop_len f len ≡ true → IsHopLen f len
 hop_len_is (Mcast afi) len e = one_of len 4 16 e
-hop_len_is VpnIpv4 len e = one_of len 12 24 e
+hop_len_is (Vpn afi) len e = one_of len 12 24 e
 
 is_hop : (f : Family) (len : ℕ) → IsHopLen f len → is_hop_len f len ≡ true
 is_hop (Mcast afi) len h = is_one len 4 16 h
-is_hop VpnIpv4 len h = is_one len 12 24 h
+is_hop (Vpn afi) len h = is_one len 12 24 h
 
 no_hop_len : (f : Family) (len : ℕ) → is_hop_len f len ≡ false → ¬ (IsHopLen f len)
 no_hop_len f len e h = let clash : true ≡ false = sym (is_hop f len h) ∙ e in absurd cc
@@ -64,39 +67,97 @@ addr_len : (addr : Addr) → IsAddr addr → (length (addr_octets addr) ≡ 4) �
 addr_len (V4 octets) len = inl len
 addr_len (V6 octets) len = inr len
 
+-- ---- IPv4-mapped addresses
+
+mapped_is : (octets : List ℕ) → is_mapped octets ≡ true → IsMapped octets
+mapped_is octets e = same_text (take 12 octets) mapped_front (sym e)
+
+is_mapped_by : (octets : List ℕ) → IsMapped octets → is_mapped octets ≡ true
+is_mapped_by octets is = ap (λ (xs : List ℕ). pointwise nat_eq xs mapped_front) is ∙ nat_list_eq_equiv.refl mapped_front
+
+no_mapped : (octets : List ℕ) (b : Bool) → ¬ (IsMapped octets) → is_mapped octets ≡ b → is_mapped octets ≡ false
+no_mapped octets true none e = absurd (none (mapped_is octets e))
+no_mapped octets false none e = e
+
+unmapped_yes : (octets : List ℕ) → is_mapped octets ≡ true → unmapped (V6 octets) ≡ V4 (drop 12 octets)
+unmapped_yes octets e = rw e refl
+
+unmapped_no : (octets : List ℕ) → is_mapped octets ≡ false → unmapped (V6 octets) ≡ V6 octets
+unmapped_no octets e = rw e refl
+
+mapped_by : (octets : List ℕ) (b : Bool) → is_mapped octets ≡ b → length octets ≡ 16 → SpellsMapped (unmapped (V6 octets)) octets
+mapped_by octets true e len =
+    let whole : octets ≡ mapped_front ++ drop 12 octets = sym (take-append-drop 12 octets) ∙ ap (λ (xs : List ℕ). xs ++ drop 12 octets) (mapped_is octets e) in
+    let four : length (drop 12 octets) ≡ 4 = omega (arith, len, length-drop 12 octets) in
+    subst (λ (a : Addr). SpellsMapped a octets) (sym (unmapped_yes octets e)) (four, inr whole)
+mapped_by octets false e len =
+    let none : ¬ (IsMapped octets) = λ is. let clash : true ≡ false = sym (is_mapped_by octets is) ∙ e in absurd cc in
+    subst (λ (a : Addr). SpellsMapped a octets) (sym (unmapped_no octets e)) (len, none, refl)
+
+-- What is read spells the address.
+mapped_spelled : (xs : List ℕ) → (length xs ≡ 4) ⊎ (length xs ≡ 16) → SpellsMapped (unmapped (addr_of xs)) xs
+mapped_spelled xs (inl four) = rw (eq-eqb (length xs) 4 four) (four, inl refl)
+mapped_spelled xs (inr more) = rw (ne_eqb (length xs) 4 (λ e. omega (arith, e, more))) (mapped_by xs (is_mapped xs) refl more)
+
+-- What spells an address is read as that.
+mapped_read : (addr : Addr) (text : List ℕ) → SpellsMapped addr text → ((length text ≡ 4) ⊎ (length text ≡ 16)) × (unmapped (addr_of text) ≡ addr)
+mapped_read (V4 octets) text (len, inl is) = (inl (ap (λ (xs : List ℕ). length xs) is ∙ len), ap (λ (xs : List ℕ). unmapped (addr_of xs)) is ∙ ap unmapped (addr_again (V4 octets) len))
+mapped_read (V4 octets) text (len, inr is) =
+    let whole : List ℕ = mapped_front ++ octets in
+    let size : length whole ≡ 16 = omega (arith, len, length-append mapped_front octets) in
+    let yes : is_mapped whole ≡ true = is_mapped_by whole (take_at mapped_front octets 12 refl) in
+    let read : unmapped (V6 whole) ≡ V4 octets = unmapped_yes whole yes ∙ ap (λ (xs : List ℕ). V4 xs) (drop_at mapped_front octets 12 refl) in (
+      inr (ap (λ (xs : List ℕ). length xs) is ∙ size),
+      ap (λ (xs : List ℕ). unmapped (addr_of xs)) is ∙ ap unmapped (addr_again (V6 whole) size) ∙ read,
+    )
+mapped_read (V6 octets) text (len, none, is) = (
+    inr (ap (λ (xs : List ℕ). length xs) is ∙ len),
+    ap (λ (xs : List ℕ). unmapped (addr_of xs)) is ∙ ap unmapped (addr_again (V6 octets) len) ∙ unmapped_no octets (no_mapped octets (is_mapped octets) none refl),
+  )
+
+-- ---- the address of a next hop
+
+vpn_hop_spelled : (afi : Afi) (xs : List ℕ) → (length xs ≡ 4) ⊎ (length xs ≡ 16) → SpellsHopAddr afi (hop_addr (Vpn afi) xs) xs
+vpn_hop_spelled Ipv4 xs h = addr_is xs h
+vpn_hop_spelled Ipv6 xs h = mapped_spelled xs h
+
+vpn_hop_read : (afi : Afi) (addr : Addr) (text : List ℕ) → SpellsHopAddr afi addr text → ((length text ≡ 4) ⊎ (length text ≡ 16)) × (hop_addr (Vpn afi) text ≡ addr)
+vpn_hop_read Ipv4 addr text (is, same) = (subst (λ (xs : List ℕ). (length xs ≡ 4) ⊎ (length xs ≡ 16)) (sym same) (addr_len addr is), ap addr_of same ∙ addr_again addr is)
+vpn_hop_read Ipv6 addr text s = mapped_read addr text s
+
 -- the address of a next hop of that many octets
-abbrev hop_addr : Family → ℕ → List ℕ → Addr
-hop_addr f len rest = addr_of (take (len - before_addr f) (drop (before_addr f) rest))
+abbrev hop_in : Family → ℕ → List ℕ → Addr
+hop_in f len rest = hop_addr f (take (len - before_addr f) (drop (before_addr f) rest))
 
 -- A next hop of a length that may be spells its address.
-hop_spelled : (f : Family) (len : ℕ) (rest : List ℕ) → IsHopLen f len → len ≤ length rest → SpellsNextHop f (hop_addr f len rest) (take len rest)
+hop_spelled : (f : Family) (len : ℕ) (rest : List ℕ) → IsHopLen f len → len ≤ length rest → SpellsNextHop f (hop_in f len rest) (take len rest)
 hop_spelled (Mcast afi) len rest h le =
     let size : length (take len rest) ≡ len = length-take-le len rest le in
     let all : len ≡ len - 0 = omega arith in
     subst (λ (n : ℕ). IsAddr (addr_of (take n rest)) × (take len rest ≡ addr_octets (addr_of (take n rest)))) all (addr_is (take len rest) (subst (λ (n : ℕ). (n ≡ 4) ⊎ (n ≡ 16)) (sym size) h))
-hop_spelled VpnIpv4 len rest h le =
+hop_spelled (Vpn afi) len rest h le =
     let least : 8 ≤ len = elim h [ inl e ↦ omega (arith, e) | inr e ↦ omega (arith, e) ] in
     let text : List ℕ = take (len - 8) (drop 8 rest) in
     let size : length text ≡ len - 8 = length-take-le (len - 8) (drop 8 rest) (omega (arith, length-drop 8 rest)) in
     let either : (length text ≡ 4) ⊎ (length text ≡ 16) = elim h [ inl e ↦ inl (omega (arith, size, e)) | inr e ↦ inr (omega (arith, size, e)) ] in
-    let (is, same) = addr_is text either in
     let count : len ≡ 8 + (len - 8) = omega arith in
     let whole : take len rest ≡ take 8 rest ++ text = ap (λ (n : ℕ). take n rest) count ∙ take-add 8 (len - 8) rest in
-    (is, (take 8 rest, length-take-le 8 rest (omega arith), whole ∙ ap (λ (xs : List ℕ). take 8 rest ++ xs) same))
+    (take 8 rest, text, length-take-le 8 rest (omega arith), vpn_hop_spelled afi text either, whole)
 
 -- A next hop that is spelled has such a length, and its address is read.
-hop_again : (f : Family) (addr : Addr) (hop after : List ℕ) → SpellsNextHop f addr hop → IsHopLen f (length hop) × (hop_addr f (length hop) (hop ++ after) ≡ addr)
+hop_again : (f : Family) (addr : Addr) (hop after : List ℕ) → SpellsNextHop f addr hop → IsHopLen f (length hop) × (hop_in f (length hop) (hop ++ after) ≡ addr)
 hop_again (Mcast afi) addr hop after (is, same) =
     let all : length hop - 0 ≡ length hop = omega arith in (
       subst (λ (xs : List ℕ). (length xs ≡ 4) ⊎ (length xs ≡ 16)) (sym same) (addr_len addr is),
       ap (λ (n : ℕ). addr_of (take n (hop ++ after))) all ∙ ap addr_of (take_at hop after (length hop) refl ∙ same) ∙ addr_again addr is,
     )
-hop_again VpnIpv4 addr hop after (is, (front, eight, same)) =
-    let size : length hop ≡ 8 + length (addr_octets addr) = omega (arith, eight, ap (λ (xs : List ℕ). length xs) same, length-append front (addr_octets addr)) in
-    let behind : drop 8 (hop ++ after) ≡ addr_octets addr ++ after = ap (λ (xs : List ℕ). drop 8 (xs ++ after)) same ∙ ap (λ (xs : List ℕ). drop 8 xs) (append_assoc front (addr_octets addr) after) ∙ drop_at front (addr_octets addr ++ after) 8 eight in
-    let read : take (length hop - 8) (drop 8 (hop ++ after)) ≡ addr_octets addr = ap (λ (xs : List ℕ). take (length hop - 8) xs) behind ∙ take_at (addr_octets addr) after (length hop - 8) (omega (arith, size)) in
-    let len : IsHopLen VpnIpv4 (length hop) = elim (addr_len addr is) [ inl e ↦ inl (omega (arith, size, e)) | inr e ↦ inr (omega (arith, size, e)) ] in
-    (len, ap addr_of read ∙ addr_again addr is)
+hop_again (Vpn afi) addr hop after (front, behind, eight, spells, same) =
+    let (sizes, read) = vpn_hop_read afi addr behind spells in
+    let size : length hop ≡ 8 + length behind = omega (arith, eight, ap (λ (xs : List ℕ). length xs) same, length-append front behind) in
+    let there : drop 8 (hop ++ after) ≡ behind ++ after = ap (λ (xs : List ℕ). drop 8 (xs ++ after)) same ∙ ap (λ (xs : List ℕ). drop 8 xs) (append_assoc front behind after) ∙ drop_at front (behind ++ after) 8 eight in
+    let text : take (length hop - 8) (drop 8 (hop ++ after)) ≡ behind = ap (λ (xs : List ℕ). take (length hop - 8) xs) there ∙ take_at behind after (length hop - 8) (omega (arith, size)) in
+    let len : IsHopLen (Vpn afi) (length hop) = elim sizes [ inl e ↦ inl (omega (arith, size, e)) | inr e ↦ inr (omega (arith, size, e)) ] in
+    (len, ap (hop_addr (Vpn afi)) text ∙ read)
 
 -- ---- next hop, reserved octet and NLRI
 
@@ -104,7 +165,7 @@ abbrev reachable : Addr → List Key → Reachable
 reachable next_hop ks = record { next_hop = next_hop; keys = ks }
 
 -- what is read behind a next hop of a length that may be, where there are octets enough
-hop_by : (f : Family) (place len : ℕ) (rest : List ℕ) → IsHopLen f len → len + 1 ≤ length rest → hop_at f place len rest ≡ (keys_at f (place + len + 2) (drop (len + 1) rest) >>= λ ks. Ok (reachable (hop_addr f len rest) ks))
+hop_by : (f : Family) (place len : ℕ) (rest : List ℕ) → IsHopLen f len → len + 1 ≤ length rest → hop_at f place len rest ≡ (keys_at f (place + len + 2) (drop (len + 1) rest) >>= λ ks. Ok (reachable (hop_in f len rest) ks))
 unfolding hop_at
 hop_by f place len rest h le = rw (is_hop f len h, le-ltb (length rest) (len + 1) le) refl
 
@@ -126,7 +187,7 @@ cut_behind len rest le = sym (take-append-drop len rest) ∙ ap (λ (xs : List �
 pub data HopIs (f : Family) (place len : ℕ) (rest : List ℕ) : Type 0 where
   wrong : ¬ (IsHopLen f len) → hop_at f place len rest ≡ Err (place, faults.NextHop) → HopIs f place len rest
   cut : IsHopLen f len → length rest < len + 1 → hop_at f place len rest ≡ Err misfit → HopIs f place len rest
-  stands : IsHopLen f len → len + 1 ≤ length rest → hop_at f place len rest ≡ (keys_at f (place + len + 2) (drop (len + 1) rest) >>= λ ks. Ok (reachable (hop_addr f len rest) ks)) → HopIs f place len rest
+  stands : IsHopLen f len → len + 1 ≤ length rest → hop_at f place len rest ≡ (keys_at f (place + len + 2) (drop (len + 1) rest) >>= λ ks. Ok (reachable (hop_in f len rest) ks)) → HopIs f place len rest
 
 pub hop_short : (f : Family) (place len : ℕ) (rest : List ℕ) → IsHopLen f len → length rest < len + 1 → hop_at f place len rest ≡ Err misfit
 unfolding hop_at
@@ -151,7 +212,7 @@ taken_by f place len rest r fits e (cut h lt is) = absurd cc
 taken_by f place len rest r fits e (stands h le is) =
     let (ks, read, made) = bind_ok (keys_at f (place + len + 2) (drop (len + 1) rest)) _ r (sym is ∙ e) in
     let nlri : List ℕ = drop (len + 1) rest in
-    let all : SpellsHop f (reachable (hop_addr f len rest) ks) len rest = record {
+    let all : SpellsHop f (reachable (hop_in f len rest) ks) len rest = record {
       hop = take len rest;
       reserved = get_or rest len 0;
       nlri = nlri;
@@ -160,7 +221,7 @@ taken_by f place len rest r fits e (stands h le is) =
       routes = keys_taken f (place + len + 2) nlri ks (octets_behind (len + 1) rest fits) read;
       parts = cut_behind len rest le;
     } in
-    subst (λ (s : Reachable). SpellsHop f s len rest) (ok_is (reachable (hop_addr f len rest) ks) r made) all
+    subst (λ (s : Reachable). SpellsHop f s len rest) (ok_is (reachable (hop_in f len rest) ks) r made) all
 
 pub hop_taken : (f : Family) (place len : ℕ) (rest : List ℕ) (r : Reachable) → IsOctets rest → hop_at f place len rest ≡ Ok r → SpellsHop f r len rest
 hop_taken f place len rest r fits e = taken_by f place len rest r fits e (hop_is f place len rest)
@@ -174,7 +235,7 @@ behind_hop f place addr hop reserved nlri s =
     let (h, is) = hop_again f addr hop (reserved ∷ nlri) s in
     let behind : drop (len + 1) rest ≡ nlri = sym (drop-drop 1 len rest) ∙ ap (λ (xs : List ℕ). drop 1 xs) (drop_at hop (reserved ∷ nlri) len refl) in
     hop_by f place len rest h (omega (arith, length-append hop (reserved ∷ nlri)))
-    ∙ ap (λ (xs : List ℕ). keys_at f (place + len + 2) xs >>= λ ks. Ok (reachable (hop_addr f len rest) ks)) behind
+    ∙ ap (λ (xs : List ℕ). keys_at f (place + len + 2) xs >>= λ ks. Ok (reachable (hop_in f len rest) ks)) behind
     ∙ ap (λ (a : Addr). keys_at f (place + len + 2) nlri >>= λ ks. Ok (reachable a ks)) is
 
 -- What is spelled is read.
@@ -205,7 +266,7 @@ fails_by f place len value rest at e fits parts h (stands is_len le is) =
     elim (bind_err (keys_at f (place + 3 + len + 2) nlri) _ (at, e) (sym is ∙ h)) [
       | inl fault ↦
           let (inner, there, in_keys) = keys_fail f (place + 3 + len + 2) nlri at e (octets_behind (len + 1) rest fits) fault in
-          value_faults.in_reach f (hop_addr f len rest) hop (get_or rest len 0) nlri inner refl (hop_spelled f len rest is_len (omega arith)) whole_value in_keys (omega (arith, there, size))
+          value_faults.in_reach f (hop_in f len rest) hop (get_or rest len 0) nlri inner refl (hop_spelled f len rest is_len (omega arith)) whole_value in_keys (omega (arith, there, size))
       | inr x ↦ absurd cc
     ]
 

@@ -12,16 +12,16 @@ use Rattle.bgp_attributes.specs.declared.fault.StreamFault.{StreamFault}
 use Rattle.bgp_attributes.specs.declared.fault.StreamFault.TheVariants.{AttributeList, AttributeLength, NextHop, Route, Pmsi, Prefix}
 use Rattle.bgp_attributes.specs.declared.key.Key.{Key}
 use Rattle.bgp_attributes.specs.declared.family.Family.{Family}
-use Rattle.bgp_attributes.specs.declared.family.Family.TheVariants.{Mcast, VpnIpv4}
+use Rattle.bgp_attributes.specs.declared.family.Family.TheVariants.{Mcast, Vpn}
 use Rattle.bgp_attributes.specs.declared.attribute.Attribute.{Attribute}
-use Rattle.bgp_attributes.specs.Spelling.{pair, SpellsNextHop, octets_for, AreKeys, FitsLen, len_field, SpellsAttribute, IsNewType, IsNew}
+use Rattle.bgp_attributes.specs.Spelling.{pair, SpellsNextHop, addr_bits, octets_for, AreKeys, FitsLen, len_field, SpellsAttribute, IsNewType, IsNew}
 
 -- the first octets, of which there are some, are no key
 pub data KeyFault (f : Family) (octets : List ℕ) (offset : ℕ) (e : StreamFault) : Type 0 where
   in_route : (afi : Afi) (g : RouteFault) → f ≡ Mcast afi → route_faults.FirstFault afi octets g → offset ≡ g.place → e ≡ Route g.reason → KeyFault f octets offset e
-  bits_few : (bits : ℕ) (rest : List ℕ) → f ≡ VpnIpv4 → octets ≡ bits ∷ rest → bits < 88 → offset ≡ 0 → e ≡ Prefix → KeyFault f octets offset e
-  bits_many : (bits : ℕ) (rest : List ℕ) → f ≡ VpnIpv4 → octets ≡ bits ∷ rest → 120 < bits → offset ≡ 0 → e ≡ Prefix → KeyFault f octets offset e
-  octets_few : (bits : ℕ) (rest : List ℕ) → f ≡ VpnIpv4 → octets ≡ bits ∷ rest → length rest < octets_for bits → offset ≡ 0 → e ≡ Prefix → KeyFault f octets offset e
+  bits_few : (afi : Afi) (bits : ℕ) (rest : List ℕ) → f ≡ Vpn afi → octets ≡ bits ∷ rest → bits < 88 → offset ≡ 0 → e ≡ Prefix → KeyFault f octets offset e
+  bits_many : (afi : Afi) (bits : ℕ) (rest : List ℕ) → f ≡ Vpn afi → octets ≡ bits ∷ rest → 88 + addr_bits afi < bits → offset ≡ 0 → e ≡ Prefix → KeyFault f octets offset e
+  octets_few : (afi : Afi) (bits : ℕ) (rest : List ℕ) → f ≡ Vpn afi → octets ≡ bits ∷ rest → length rest < octets_for bits → offset ≡ 0 → e ≡ Prefix → KeyFault f octets offset e
 
 -- whole keys stand first, and the next one has a fault
 pub record KeysFault (f : Family) (nlri : List ℕ) (offset : ℕ) (e : StreamFault) : Type 0 where
@@ -33,10 +33,10 @@ pub record KeysFault (f : Family) (nlri : List ℕ) (offset : ℕ) (e : StreamFa
   pub at : offset + length rest ≡ length nlri + inner
   pub faulty : KeyFault f rest inner e
 
--- the lengths of next hops: an address of either family, with a Route Distinguisher in front for VPN-IPv4
+-- the lengths of next hops: an address of either family, with a Route Distinguisher in front for VPN routes
 abbrev pub IsHopLen : Family → ℕ → Type 0
 IsHopLen (Mcast afi) len = (len ≡ 4) ⊎ (len ≡ 16)
-IsHopLen VpnIpv4 len = (len ≡ 12) ⊎ (len ≡ 24)
+IsHopLen (Vpn afi) len = (len ≡ 12) ⊎ (len ≡ 24)
 
 -- The value of an attribute of that type fails. The value stands at a place, and the fault at an offset, that count
 -- from the attribute's first octet.

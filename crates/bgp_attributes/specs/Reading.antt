@@ -1,7 +1,8 @@
 -- Reading the path attributes of an UPDATE message from left to right, with the first fault that is met.
-use Rattle.std.specs.Prelude.{ℕ, ◌+◌, ◌-◌, ◌/◌, ◌%◌, List, [], ◌∷◌, length, take, drop, map, fold, unwrap_or, Option, Some, None, Result, Ok, Err, nat_lt, ◌==◌, ◌&&◌, ◌||◌, not, Bool, false, is_some, if◌then◌else◌}
+use Rattle.std.specs.Prelude.{ℕ, ◌+◌, ◌-◌, ◌/◌, ◌%◌, List, [], ◌∷◌, length, take, drop, map, fold, nat_eq, unwrap_or, Option, Some, None, Result, Ok, Err, nat_lt, ◌==◌, ◌&&◌, ◌||◌, not, Bool, false, is_some, if◌then◌else◌}
 use Rattle.std.specs.Int.{w16, from_be_bytes}
 use Rattle.std.specs.List.{list_any}
+use Rattle.std.specs.Cmp.Lexicographic.{pointwise}
 use Rattle.std.specs.Simd.{first_chunks}
 use Rattle.mv_base.specs.Cursor.{◌>>=◌, checked}
 use Rattle.mv_base.specs.declared.addr.Addr.{Addr}
@@ -26,12 +27,12 @@ use Rattle.bgp_attributes.specs.declared.key.Key.TheVariants as keys
 use Rattle.bgp_attributes.specs.declared.update.Advert.{Advert}
 use Rattle.bgp_attributes.specs.declared.update.Update.{Update}
 use Rattle.bgp_attributes.specs.declared.family.Family.{Family}
-use Rattle.bgp_attributes.specs.declared.family.Family.TheVariants.{Mcast, VpnIpv4}
+use Rattle.bgp_attributes.specs.declared.family.Family.TheVariants.{Mcast, Vpn}
 use Rattle.bgp_attributes.specs.declared.attribute.Reachable.{Reachable}
 use Rattle.bgp_attributes.specs.declared.attribute.Attribute.{Attribute}
 use Rattle.bgp_attributes.specs.declared.attribute.Attribute.TheVariants.{Reach, Unreach, Communities, Tunnel, Passed}
 use Rattle.bgp_attributes.specs.declared.found.Found.{Found}
-use Rattle.bgp_attributes.specs.Spelling.{octets_for, address, is_extended, type_of}
+use Rattle.bgp_attributes.specs.Spelling.{mapped_front, addr_bits, octets_for, address, is_extended, type_of}
 
 -- a value, or a fault and its place
 abbrev pub Read : Type 0 → Type 0
@@ -48,12 +49,13 @@ abbrev pub family_of : ℕ → ℕ → Option Family
 family_of afi safi =
     if (afi == 1) && (safi == 5) then Some (Mcast Ipv4) else
     if (afi == 2) && (safi == 5) then Some (Mcast Ipv6) else
-    if (afi == 1) && (safi == 128) then Some VpnIpv4 else None
+    if (afi == 1) && (safi == 128) then Some (Vpn Ipv4) else
+    if (afi == 2) && (safi == 128) then Some (Vpn Ipv6) else None
 
 -- how many octets stand before the address in a next hop
 abbrev pub before_addr : Family → ℕ
 before_addr (Mcast afi) = 0
-before_addr VpnIpv4 = 8
+before_addr (Vpn afi) = 8
 
 abbrev pub is_hop_len : Family → ℕ → Bool
 is_hop_len f len = (len == before_addr f + 4) || (len == before_addr f + 16)
@@ -69,15 +71,15 @@ abbrev pub mcast_at : Afi → List ℕ → Result (Key × ℕ) BadKey
 mcast_at afi octets = mcast_key afi (route_at afi octets)
 
 -- the route of a length, a label, a Route Distinguisher and a prefix
-abbrev pub vpn_of : ℕ → List ℕ → Key
-vpn_of len rest = keys.Unicast (record { 0 = take 8 (drop 3 rest) }) (record { addr = address (len - 88) (take (octets_for len - 11) (drop 11 rest)); bits = len - 88 })
+abbrev pub vpn_of : Afi → ℕ → List ℕ → Key
+vpn_of afi len rest = keys.Unicast (record { 0 = take 8 (drop 3 rest) }) (record { addr = address afi (len - 88) (take (octets_for len - 11) (drop 11 rest)); bits = len - 88 })
 
--- the VPN-IPv4 route at the front
-unfoldable pub vpn_at : List ℕ → Option (Key × ℕ)
-vpn_at [] = None
-vpn_at (len ∷ rest) =
-    if nat_lt len 88 || nat_lt 120 len || nat_lt (length rest) (octets_for len) then None else
-    Some (vpn_of len rest, 1 + octets_for len)
+-- the VPN route at the front
+unfoldable pub vpn_at : Afi → List ℕ → Option (Key × ℕ)
+vpn_at afi [] = None
+vpn_at afi (len ∷ rest) =
+    if nat_lt len 88 || nat_lt (88 + addr_bits afi) len || nat_lt (length rest) (octets_for len) then None else
+    Some (vpn_of afi len rest, 1 + octets_for len)
 
 abbrev pub or_bad : Option (Key × ℕ) → Result (Key × ℕ) BadKey
 or_bad (Some x) = Ok x
@@ -86,7 +88,7 @@ or_bad None = Err (record { offset = 0; fault = faults.Prefix })
 -- the key at the front, and how many octets it has
 abbrev pub key_at : Family → List ℕ → Result (Key × ℕ) BadKey
 key_at (Mcast afi) octets = mcast_at afi octets
-key_at VpnIpv4 octets = or_bad (vpn_at octets)
+key_at (Vpn afi) octets = or_bad (vpn_at afi octets)
 
 abbrev pub seen : Result (Key × ℕ) BadKey → Front Key StreamFault
 seen (Ok x) = whole x.1 (x.0 ∷ [])
@@ -111,12 +113,27 @@ keys_at f place octets = let c : Cut Key StreamFault = cut (key_front f) octets 
 abbrev pub addr_of : List ℕ → Addr
 addr_of octets = if length octets == 4 then V4 octets else V6 octets
 
+-- whether the address is IPv4-mapped
+abbrev pub is_mapped : List ℕ → Bool
+is_mapped octets = pointwise nat_eq (take 12 octets) mapped_front
+
+-- the address, and of an IPv4-mapped one its IPv4 address
+abbrev pub unmapped : Addr → Addr
+unmapped (V4 octets) = V4 octets
+unmapped (V6 octets) = if is_mapped octets then V4 (drop 12 octets) else V6 octets
+
+-- the address of a next hop, which has 4 or 16 octets
+abbrev pub hop_addr : Family → List ℕ → Addr
+hop_addr (Mcast afi) octets = addr_of octets
+hop_addr (Vpn Ipv4) octets = addr_of octets
+hop_addr (Vpn Ipv6) octets = unmapped (addr_of octets)
+
 -- next hop, reserved octet and NLRI, behind the length of the next hop
 unfoldable pub hop_at : Family → ℕ → ℕ → List ℕ → Read Reachable
 hop_at f place len rest =
     if not (is_hop_len f len) then Err (place, faults.NextHop) else
     if nat_lt (length rest) (len + 1) then Err misfit else
-    (keys_at f (place + len + 2) (drop (len + 1) rest) >>= λ ks. Ok (record { next_hop = addr_of (take (len - before_addr f) (drop (before_addr f) rest)); keys = ks }))
+    (keys_at f (place + len + 2) (drop (len + 1) rest) >>= λ ks. Ok (record { next_hop = hop_addr f (take (len - before_addr f) (drop (before_addr f) rest)); keys = ks }))
 
 -- what stands behind AFI and SAFI in MP_REACH_NLRI
 unfoldable pub reachable_at : Family → ℕ → List ℕ → Read Reachable

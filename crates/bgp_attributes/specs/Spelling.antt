@@ -1,10 +1,10 @@
 -- The path attributes of an UPDATE message (RFC 4271 section 4.3), and what spells each.
-use Rattle.std.specs.Prelude.{◌≡◌, ◌≢◌, ℕ, ◌+◌, ◌-◌, ◌*◌, ◌/◌, ◌<◌, ◌≤◌, ◌^◌, ◌⊎◌, List, [], ◌∷◌, ◌++◌, length, replicate, map, Option, Some, None, ◌==◌, bit_and, Bool, if◌then◌else◌}
+use Rattle.std.specs.Prelude.{◌≡◌, ◌≢◌, ℕ, ◌+◌, ◌-◌, ◌*◌, ◌/◌, ◌<◌, ◌≤◌, ◌^◌, ◌⊎◌, List, [], ◌∷◌, ◌++◌, length, take, replicate, map, Option, Some, None, ◌==◌, bit_and, Bool, if◌then◌else◌}
 use Rattle.std.specs.List.{flat_map, AllByRecursion}
-use Rattle.std.specs.Int.{w16, w32, to_be_bytes, from_be_bytes}
+use Rattle.std.specs.Int.{w16, w32, w128, to_be_bytes, from_be_bytes}
 use Rattle.mv_base.specs.Address.{addr_octets, IsAddr}
 use Rattle.mv_base.specs.declared.addr.Addr.{Addr}
-use Rattle.mv_base.specs.declared.addr.Addr.TheVariants.{V4}
+use Rattle.mv_base.specs.declared.addr.Addr.TheVariants.{V4, V6}
 use Rattle.mv_base.specs.declared.rd.Rd.{Rd}
 use Rattle.mv_base.specs.declared.prefix.Prefix.{Prefix}
 use Rattle.framing.specs.Units.{Begins}
@@ -12,6 +12,7 @@ use Rattle.framing.specs.Parts.{AreParts}
 use Rattle.route_targets.specs.declared.communities.ExtComm.{ExtComm}
 use Rattle.pmsi_attr.specs.declared.pmsi.Pmsi.{Pmsi}
 use Rattle.pmsi_attr.specs.Spelling as tunnels
+use Rattle.mvpn_nlri.specs.declared.route.Afi.{Afi}
 use Rattle.mvpn_nlri.specs.declared.route.Afi.TheVariants.{Ipv4, Ipv6}
 use Rattle.mvpn_nlri.specs.Spelling as routes
 use Rattle.bgp_attributes.specs.declared.key.Key.{Key}
@@ -19,7 +20,7 @@ use Rattle.bgp_attributes.specs.declared.key.Key.TheVariants as keys
 use Rattle.bgp_attributes.specs.declared.update.Advert.{Advert}
 use Rattle.bgp_attributes.specs.declared.update.Update.{Update}
 use Rattle.bgp_attributes.specs.declared.family.Family.{Family}
-use Rattle.bgp_attributes.specs.declared.family.Family.TheVariants.{Mcast, VpnIpv4}
+use Rattle.bgp_attributes.specs.declared.family.Family.TheVariants.{Mcast, Vpn}
 use Rattle.bgp_attributes.specs.declared.attribute.Reachable.{Reachable}
 use Rattle.bgp_attributes.specs.declared.attribute.Attribute.{Attribute}
 use Rattle.bgp_attributes.specs.declared.attribute.Attribute.TheVariants.{Reach, Unreach, Communities, Tunnel, Passed}
@@ -29,12 +30,13 @@ use Rattle.bgp_attributes.specs.declared.attribute.Attribute.TheVariants.{Reach,
 abbrev pub afi_of : Family → ℕ
 afi_of (Mcast Ipv4) = 1
 afi_of (Mcast Ipv6) = 2
-afi_of VpnIpv4 = 1
+afi_of (Vpn Ipv4) = 1
+afi_of (Vpn Ipv6) = 2
 
--- MCAST-VPN (RFC 6514 section 4), and labeled VPN unicast (RFC 4364 section 4.3.4)
+-- MCAST-VPN (RFC 6514 section 4), and labeled VPN unicast (RFC 4364 section 4.3.4; RFC 4659 section 2)
 abbrev pub safi_of : Family → ℕ
 safi_of (Mcast afi) = 5
-safi_of VpnIpv4 = 128
+safi_of (Vpn afi) = 128
 
 -- AFI and SAFI
 abbrev pub pair : Family → List ℕ
@@ -44,10 +46,28 @@ pair f = to_be_bytes w16 (afi_of f) ++ (safi_of f ∷ [])
 abbrev pub IsUnread : ℕ → ℕ → Type 0
 IsUnread afi safi = (f : Family) → ¬ ((afi_of f ≡ afi) × (safi_of f ≡ safi))
 
--- the text spells the address as next hop; that of VPN-IPv4 has a Route Distinguisher in front, which may be anything (RFC 4364 section 4.3.2)
+-- what stands in front of an IPv4 address in its IPv4-mapped IPv6 address (RFC 4291 section 2.5.5.2)
+abbrev pub mapped_front : List ℕ
+mapped_front = 0 ∷ 0 ∷ 0 ∷ 0 ∷ 0 ∷ 0 ∷ 0 ∷ 0 ∷ 0 ∷ 0 ∷ 0xFF ∷ 0xFF ∷ []
+
+abbrev pub IsMapped : List ℕ → Type 0
+IsMapped octets = take 12 octets ≡ mapped_front
+
+-- The text spells the address in a next hop of VPN-IPv6: an IPv4 address stands there as it is or as its IPv4-mapped IPv6
+-- address (RFC 4659 section 3.2.1.2).
+abbrev pub SpellsMapped : Addr → List ℕ → Type 0
+SpellsMapped (V4 octets) text = (length octets ≡ 4) × ((text ≡ octets) ⊎ (text ≡ mapped_front ++ octets))
+SpellsMapped (V6 octets) text = (length octets ≡ 16) × (¬ (IsMapped octets)) × (text ≡ octets)
+
+abbrev pub SpellsHopAddr : Afi → Addr → List ℕ → Type 0
+SpellsHopAddr Ipv4 addr text = IsAddr addr × (text ≡ addr_octets addr)
+SpellsHopAddr Ipv6 addr text = SpellsMapped addr text
+
+-- The text spells the address as next hop. That of a VPN route has a Route Distinguisher in front, which may be anything (RFC
+-- 4364 section 4.3.2; RFC 4659 section 3.2.1).
 abbrev pub SpellsNextHop : Family → Addr → List ℕ → Type 0
 SpellsNextHop (Mcast afi) addr text = IsAddr addr × (text ≡ addr_octets addr)
-SpellsNextHop VpnIpv4 addr text = IsAddr addr × ((front : List ℕ) × (length front ≡ 8) × (text ≡ front ++ addr_octets addr))
+SpellsNextHop (Vpn afi) addr text = (front behind : List ℕ) × (length front ≡ 8) × SpellsHopAddr afi addr behind × (text ≡ front ++ behind)
 
 -- ---- keys
 
@@ -55,31 +75,41 @@ SpellsNextHop VpnIpv4 addr text = IsAddr addr × ((front : List ℕ) × (length 
 abbrev pub octets_for : ℕ → ℕ
 octets_for bits = (bits + 7) / 8
 
--- the number of 32 bits with zeros behind the first ones
-abbrev pub cleared : ℕ → ℕ → ℕ
-cleared bits number = (number / 2 ^ (32 - bits)) * 2 ^ (32 - bits)
+-- how many bits an address has
+abbrev pub addr_bits : Afi → ℕ
+addr_bits Ipv4 = 32
+addr_bits Ipv6 = 128
+
+-- the number of so many bits with zeros behind the first ones
+abbrev pub cleared : ℕ → ℕ → ℕ → ℕ
+cleared all bits number = (number / 2 ^ (all - bits)) * 2 ^ (all - bits)
+
+-- so many octets, of which the last are zeros
+abbrev pub padded : ℕ → List ℕ → List ℕ
+padded n octets = octets ++ replicate (n - length octets) 0
 
 -- the address that begins with those bits of the octets, and zeros behind them
-abbrev pub address : ℕ → List ℕ → Addr
-address bits octets = V4 (to_be_bytes w32 (cleared bits (from_be_bytes w32 (octets ++ replicate (4 - length octets) 0))))
+unfoldable pub address : Afi → ℕ → List ℕ → Addr
+address Ipv4 bits octets = V4 (to_be_bytes w32 (cleared 32 bits (from_be_bytes w32 (padded 4 octets))))
+address Ipv6 bits octets = V6 (to_be_bytes w128 (cleared 128 bits (from_be_bytes w128 (padded 16 octets))))
 
 -- A length in bits, a label field of 3 octets, a Route Distinguisher and the prefix, all of which the length counts (RFC
--- 8277 section 2; RFC 4364 section 4.3.4). The label field may be anything, and so may the bits behind the prefix.
-pub record SpellsVpn (rd : Rd) (prefix : Prefix) (text : List ℕ) : Type 0 where
+-- 8277 section 2; RFC 4364 section 4.3.4; RFC 4659 section 2). The label field may be anything, and so may the bits behind the prefix.
+pub record SpellsVpn (afi : Afi) (rd : Rd) (prefix : Prefix) (text : List ℕ) : Type 0 where
   pub label : List ℕ
   pub octets : List ℕ
   pub label_len : length label ≡ 3
   pub rd_len : length rd.0 ≡ 8
-  pub bits : prefix.bits ≤ 32
+  pub bits : prefix.bits ≤ addr_bits afi
   pub octets_len : length octets ≡ octets_for prefix.bits
   pub parts : text ≡ (88 + prefix.bits) ∷ (label ++ (rd.0 ++ octets))
-  pub addr : prefix.addr ≡ address prefix.bits octets
+  pub addr : prefix.addr ≡ address afi prefix.bits octets
 
 abbrev pub SpellsKey : Family → Key → List ℕ → Type 0
 SpellsKey (Mcast afi) (keys.Mcast a route) text = (a ≡ afi) × routes.Spells afi route text
-SpellsKey VpnIpv4 (keys.Unicast rd prefix) text = SpellsVpn rd prefix text
+SpellsKey (Vpn afi) (keys.Unicast rd prefix) text = SpellsVpn afi rd prefix text
 SpellsKey (Mcast afi) (keys.Unicast rd prefix) text = ⊥
-SpellsKey VpnIpv4 (keys.Mcast a route) text = ⊥
+SpellsKey (Vpn afi) (keys.Mcast a route) text = ⊥
 
 -- a key as a unit of octets laid end to end
 abbrev pub SpellsUnit : Family → List Key → List ℕ → Type 0

@@ -9,8 +9,8 @@ use mvpn_nlri::Afi;
 pub enum Family {
     /// SAFI 5, MCAST-VPN (RFC 6514 section 4).
     Mcast(Afi),
-    /// AFI 1 and SAFI 128, labeled VPN-IPv4 unicast (RFC 4364 section 4.3.4).
-    VpnIpv4,
+    /// SAFI 128, labeled VPN-IPv4 and VPN-IPv6 unicast (RFC 4364 section 4.3.4; RFC 4659 section 2).
+    Vpn(Afi),
 }
 
 /// The family of that AFI and SAFI, where it is read.
@@ -20,19 +20,20 @@ pub(crate) fn family_of(afi: u16, safi: u8) -> Option<Family>
     match (afi, safi) {
         (1, 5) => Some(Family::Mcast(Afi::Ipv4)),
         (2, 5) => Some(Family::Mcast(Afi::Ipv6)),
-        (1, 128) => Some(Family::VpnIpv4),
+        (1, 128) => Some(Family::Vpn(Afi::Ipv4)),
+        (2, 128) => Some(Family::Vpn(Afi::Ipv6)),
         _ => None,
     }
 }
 
-/// How many octets stand before the address in a next hop: those of a Route Distinguisher for VPN-IPv4 (RFC 4364
-/// section 4.3.2).
+/// How many octets stand before the address in a next hop: those of a Route Distinguisher for VPN routes (RFC 4364
+/// section 4.3.2; RFC 4659 section 3.2.1).
 pub(crate) fn before_addr(family: Family) -> usize
     ensures { result ≡ before_addr family }
 {
     match family {
         Family::Mcast(_) => 0,
-        Family::VpnIpv4 => 8,
+        Family::Vpn(_) => 8,
     }
 }
 

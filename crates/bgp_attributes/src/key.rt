@@ -7,7 +7,7 @@ use mvpn_nlri::{Afi, Route};
 pub enum Key {
     /// An MCAST-VPN route (RFC 6514 section 4).
     Mcast(Afi, Route),
-    /// A VPN-IPv4 unicast route (RFC 4364 section 4.3.4). Its label is not kept.
+    /// A VPN-IPv4 or VPN-IPv6 unicast route, by the prefix (RFC 4364 section 4.3.4; RFC 4659 section 2). Its label is not kept.
     Unicast { rd: Rd, prefix: Prefix },
 }
 

@@ -37,7 +37,7 @@ fn read_key(family: Family, octets: &[u8]) -> Result<(Key, usize), BadKey>
 {
     match family {
         Family::Mcast(afi) => read_mcast(afi, octets),
-        Family::VpnIpv4 => match read_vpn(octets) {
+        Family::Vpn(afi) => match read_vpn(afi, octets) {
             Some(front) => Ok(front),
             None => Err(BadKey {
                 offset: 0,

@@ -1,7 +1,7 @@
 //! The values of path attributes.
-ghost use Rattle.std.specs.Prelude.{◌≡◌, ◌+◌, ◌<◌, ◌^◌, ◌⊎◌, length, map, IfOk};
+ghost use Rattle.std.specs.Prelude.{◌≡◌, ◌+◌, ◌<◌, ◌^◌, ◌⊎◌, drop, length, map, IfOk};
 ghost use Rattle.bgp_attributes.specs.Answers.{Gives, IsWithin};
-ghost use Rattle.bgp_attributes.specs.Reading.{addr_of, hop_at, reachable_at, reach_at, unreach_at, comms_at, tunnel_at, value_at, comm};
+ghost use Rattle.bgp_attributes.specs.Reading.{addr_of, is_mapped, unmapped, hop_addr, hop_at, reachable_at, reach_at, unreach_at, comms_at, tunnel_at, value_at, comm};
 
 use crate::attribute::{Attribute, Reachable};
 use crate::family::{Family, before_addr, family_of, is_hop_len};
@@ -9,6 +9,7 @@ use crate::fault::{AttributesFault, StreamFault, misfit};
 use crate::nlri::read_keys;
 use crate::update::Comms;
 use mv_base::{Addr, NoMemory};
+use mvpn_nlri::Afi;
 use route_targets::ExtComm;
 use std::alloc::Global;
 
@@ -38,6 +39,55 @@ fn addr_of(octets: &[u8]) -> Addr
     }
 }
 
+/// What stands in front of an IPv4 address in its IPv4-mapped IPv6 address (RFC 4291 section 2.5.5.2).
+const MAPPED_FRONT: [u8; 12] = [0, 0, 0, 0, 0, 0, 0, 0, 0, 0, 0xff, 0xff];
+
+/// Whether the address is IPv4-mapped.
+fn is_mapped(octets: &[u8; 16]) -> bool
+    ensures { result ≡ is_mapped octets.now }
+{
+    let (front, _behind) = octets.split_at(12);
+    front == MAPPED_FRONT.as_slice()
+}
+
+/// The octets behind the front of an IPv4-mapped address.
+fn last_four(octets: &[u8; 16]) -> [u8; 4]
+    ensures { result ≡ drop 12 octets.now }
+{
+    let (_front, behind) = octets.split_at(12);
+    let mut array = [0; 4];
+    array.copy_from_slice(behind);
+    array
+}
+
+/// The address, and of an IPv4-mapped one its IPv4 address.
+fn unmapped(addr: Addr) -> Addr
+    ensures { result ≡ unmapped addr }
+{
+    match addr {
+        Addr::V4(_) => addr,
+        Addr::V6(octets) => {
+            if is_mapped(&octets) {
+                Addr::V4(last_four(&octets))
+            } else {
+                addr
+            }
+        }
+    }
+}
+
+/// The address of a next hop. In one of VPN-IPv6 an IPv4 address stands as it is or mapped (RFC 4659 section 3.2.1.2).
+fn hop_addr(family: Family, octets: &[u8]) -> Addr
+    requires { (length octets.now ≡ 4) ⊎ (length octets.now ≡ 16) }
+    ensures { result ≡ hop_addr family octets.now }
+{
+    match family {
+        Family::Mcast(_) => addr_of(octets),
+        Family::Vpn(Afi::Ipv4) => addr_of(octets),
+        Family::Vpn(Afi::Ipv6) => unmapped(addr_of(octets)),
+    }
+}
+
 /// Next hop, reserved octet and NLRI, behind the length of the next hop, which stands at the place.
 #[tactic(auto, unfolding(crate::specs::Reading::hop_at))]
 fn read_hop(
@@ -61,7 +111,7 @@ fn read_hop(
     if rest.len() < len + 1 {
         return Err(misfit());
     }
-    let next_hop = addr_of(&rest[before_addr(family)..len]);
+    let next_hop = hop_addr(family, &rest[before_addr(family)..len]);
     let keys = read_keys(alloc, family, place + len + 2, &rest[len + 1..])?;
     Ok(Reachable { next_hop, keys })
 }

@@ -1,16 +1,23 @@
-//! VPN-IPv4 unicast routes (RFC 4364 section 4.3.4).
-ghost use Rattle.std.specs.Prelude.{◌≡◌, ◌≤◌, ◌-◌, ◌++◌, length, replicate};
-ghost use Rattle.bgp_attributes.specs.Spelling.{octets_for, cleared, address};
+//! VPN-IPv4 and VPN-IPv6 unicast routes (RFC 4364 section 4.3.4; RFC 4659 section 2).
+ghost use Rattle.std.specs.Prelude.{◌≡◌, ◌≤◌, ◌*◌, length};
+ghost use Rattle.bgp_attributes.specs.Spelling.{addr_bits, octets_for, cleared, padded, address};
 ghost use Rattle.bgp_attributes.specs.Reading.{vpn_at};
 
 use crate::key::Key;
 use mv_base::{Addr, Prefix, Rd};
+use mvpn_nlri::Afi;
 
 /// The bits of the label field and the Route Distinguisher, which the length of a route counts.
 const FRONT_BITS: u8 = 88;
 
-/// The length of a route whose prefix is a whole address.
-const BITS_LIMIT: u8 = 120;
+fn addr_bits(afi: Afi) -> u8
+    ensures { result ≡ addr_bits afi }
+{
+    match afi {
+        Afi::Ipv4 => 32,
+        Afi::Ipv6 => 128,
+    }
+}
 
 /// How many octets have that many bits.
 fn octets_for(bits: u8) -> usize
@@ -20,33 +27,54 @@ fn octets_for(bits: u8) -> usize
 }
 
 /// The number with zeros behind its first bits.
-fn cleared(bits: u8, number: u32) -> u32
+fn cleared_v4(bits: u8, number: u32) -> u32
     requires { bits ≤ 32 }
-    ensures { result ≡ cleared bits number }
+    ensures { result ≡ cleared 32 bits number }
 {
     let unit = 1u64 << (32 - bits);
     (u64::from(number) / unit * unit) as u32
 }
 
-/// The octets, and zeros behind them.
-fn padded(octets: &[u8]) -> [u8; 4]
-    requires { length octets.now ≤ 4 }
-    ensures { result ≡ octets.now ++ replicate (4 - length octets.now) 0 }
+/// The number with zeros behind its first bits.
+fn cleared_v6(bits: u8, number: u128) -> u128
+    requires { bits ≤ 128 }
+    ensures { result ≡ cleared 128 bits number }
 {
-    let mut array = [0; 4];
+    if bits == 0 {
+        return 0;
+    }
+    let unit = 1u128 << (128 - bits);
+    number / unit * unit
+}
+
+/// The octets, and zeros behind them.
+fn padded<const N: usize>(octets: &[u8]) -> [u8; N]
+    requires { length octets.now ≤ N }
+    ensures { result ≡ padded N octets.now }
+{
+    let mut array = [0; N];
     let (front, _spare) = array.split_at_mut(octets.len());
     front.copy_from_slice(octets);
     array
 }
 
 /// The address that begins with those bits of the octets, and zeros behind them.
-fn address(bits: u8, octets: &[u8]) -> Addr
-    requires bits { bits ≤ 32 }
-    requires few { length octets.now ≤ 4 }
-    ensures { result ≡ address bits octets.now }
+#[tactic(auto, unfolding(crate::specs::Spelling::address))]
+fn address(afi: Afi, bits: u8, octets: &[u8]) -> Addr
+    requires bits { bits ≤ addr_bits afi }
+    requires few { 8 * length octets.now ≤ addr_bits afi }
+    ensures { result ≡ address afi bits octets.now }
 {
-    let number = u32::from_be_bytes(padded(octets));
-    Addr::V4(cleared(bits, number).to_be_bytes())
+    match afi {
+        Afi::Ipv4 => {
+            let number = u32::from_be_bytes(padded(octets));
+            Addr::V4(cleared_v4(bits, number).to_be_bytes())
+        }
+        Afi::Ipv6 => {
+            let number = u128::from_be_bytes(padded(octets));
+            Addr::V6(cleared_v6(bits, number).to_be_bytes())
+        }
+    }
 }
 
 fn rd_of(octets: &[u8]) -> Rd
@@ -60,19 +88,19 @@ fn rd_of(octets: &[u8]) -> Rd
 
 /// The route at the front of the octets, and how many of them it has. Its label is passed over.
 #[tactic(auto, unfolding(crate::specs::Reading::vpn_at))]
-pub(crate) fn read_vpn(octets: &[u8]) -> Option<(Key, usize)>
-    ensures { result ≡ vpn_at octets.now }
+pub(crate) fn read_vpn(afi: Afi, octets: &[u8]) -> Option<(Key, usize)>
+    ensures { result ≡ vpn_at afi octets.now }
 {
     let [len, rest @ ..] = octets else {
         return None;
     };
     let size = octets_for(*len);
-    if *len < FRONT_BITS || BITS_LIMIT < *len || rest.len() < size {
+    if *len < FRONT_BITS || FRONT_BITS + addr_bits(afi) < *len || rest.len() < size {
         return None;
     }
     let bits = *len - FRONT_BITS;
     let prefix = Prefix {
-        addr: address(bits, &rest[11..size]),
+        addr: address(afi, bits, &rest[11..size]),
         bits,
     };
     let rd = rd_of(&rest[3..11]);

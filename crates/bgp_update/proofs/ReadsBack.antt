@@ -16,6 +16,7 @@ use Rattle.framing.proofs.Feedings.{fed_one}
 use Rattle.pmsi_attr.specs.declared.pmsi.Pmsi.{Pmsi}
 use Rattle.pmsi_attr.specs.Spelling as tunnels
 use Rattle.route_targets.specs.declared.communities.ExtComm.{ExtComm}
+use Rattle.mvpn_nlri.specs.declared.route.Afi.TheVariants.{Ipv4, Ipv6}
 use Rattle.bgp_attributes.specs.declared.family.Family.{Family}
 use Rattle.bgp_attributes.specs.declared.family.Family.TheVariants as families
 use Rattle.bgp_attributes.specs.declared.attribute.Attribute.{Attribute}
@@ -28,19 +29,19 @@ use Rattle.bgp_attributes.specs.declared.update.Change.{Change}
 use Rattle.bgp_attributes.specs.declared.update.Change.TheVariants.{Reach, Unreach}
 use Rattle.bgp_attributes.specs.declared.update.Message.TheVariants as messages
 use Rattle.bgp_attributes.specs.Spelling as attributes
-use Rattle.bgp_attributes.specs.Spelling.{pair, SpellsNextHop, octets_for, SpellsVpn, SpellsKey, SpellsUnit, AreKeys, type_of, IsReadType, SpellsReachable, SpellsUnreachable, SpellsValue, is_extended, len_field, FitsLen, SpellsAttribute, IsNew, AreAttributes}
+use Rattle.bgp_attributes.specs.Spelling.{pair, SpellsMapped, SpellsNextHop, octets_for, SpellsVpn, SpellsKey, SpellsUnit, AreKeys, type_of, IsReadType, SpellsReachable, SpellsUnreachable, SpellsValue, is_extended, len_field, FitsLen, SpellsAttribute, IsNew, AreAttributes}
 use Rattle.bgp_update.specs.Spelling.{header, SpellsMessage}
 use Rattle.bgp_update.specs.Reading.{message_front}
 use Rattle.bgp_update.specs.Table.{key_of}
-use Rattle.bgp_update.specs.Written.{attribute_head, attribute, family_of, hop_of, vpn_text, key_text, advertised, withdrawn, comms_octets, reach_value, unreach_value, tunnel_text, advert_text, attributes_of, message_text, written, update_of, IsVpnPrefix, IsWritableKey, HasOctets, IsTunnel, IsWritableAdvert, IsWritable}
+use Rattle.bgp_update.specs.Written.{attribute_head, attribute, afi_of, family_of, mapped, hop_of, IsNextHop, vpn_text, key_text, advertised, withdrawn, comms_octets, reach_value, unreach_value, tunnel_text, advert_text, attributes_of, message_text, written, update_of, IsVpnPrefix, IsWritableKey, HasOctets, IsTunnel, IsWritableAdvert, IsWritable}
 use Rattle.bgp_update.proofs.Messages.{messages_framed}
 use Rattle.bgp_attributes.proofs.PrefixLemmas.{prefix_spelled}
 
 -- ---- keys
 
-spells_vpn : (label : List ℕ) (rd : Rd) (addr : Addr) (bits : ℕ) → length label ≡ 3 → length rd.0 ≡ 8 → IsVpnPrefix addr bits → IsOctets (addr_octets addr) → SpellsVpn rd (record { addr = addr; bits = bits }) (vpn_text label rd (record { addr = addr; bits = bits }))
-spells_vpn label rd (V4 octets) bits three eight (len, is) fits = prefix_spelled rd bits octets label eight three len fits is
-spells_vpn label rd (V6 octets) bits three eight is fits = absurd is
+spells_vpn : (label : List ℕ) (rd : Rd) (addr : Addr) (bits : ℕ) → length label ≡ 3 → length rd.0 ≡ 8 → IsVpnPrefix addr bits → IsOctets (addr_octets addr) → SpellsVpn (afi_of addr) rd (record { addr = addr; bits = bits }) (vpn_text label rd (record { addr = addr; bits = bits }))
+spells_vpn label rd (V4 octets) bits three eight (len, is) fits = prefix_spelled rd (V4 octets) bits label eight three len fits is
+spells_vpn label rd (V6 octets) bits three eight (len, is) fits = prefix_spelled rd (V6 octets) bits label eight three len fits is
 
 key_spelled : (label : List ℕ) (key : Key) → length label ≡ 3 → IsWritableKey key → HasOctets key → SpellsKey (family_of key) key (key_text label key)
 key_spelled label (Mcast afi route) three w fits = (refl, w)
@@ -56,12 +57,21 @@ keys_spelled f key text s = record {
 
 -- ---- values
 
-next_hop_spelled : (f : Family) (addr : Addr) → IsAddr addr → (hop : List ℕ) × SpellsNextHop f addr hop × (hop_of f addr ≡ length hop ∷ hop)
-next_hop_spelled (families.Mcast afi) addr is = (addr_octets addr, (is, refl), refl)
-next_hop_spelled families.VpnIpv4 addr is =
+mapped_spelled : (addr : Addr) → IsNextHop (families.Vpn Ipv6) addr → SpellsMapped addr (mapped addr) × (length (mapped addr) ≡ 16)
+mapped_spelled (V4 octets) (len, is) = ((len, inr refl), omega (arith, len))
+mapped_spelled (V6 octets) (len, is) = ((len, is, refl), len)
+
+next_hop_spelled : (f : Family) (addr : Addr) → IsNextHop f addr → (hop : List ℕ) × SpellsNextHop f addr hop × (hop_of f addr ≡ length hop ∷ hop)
+next_hop_spelled (families.Mcast afi) addr is = (addr_octets addr, (is.0, refl), refl)
+next_hop_spelled (families.Vpn Ipv4) addr is =
     let hop : List ℕ = replicate 8 0 ++ addr_octets addr in
     let len : 8 + length (addr_octets addr) ≡ length hop = omega arith in
-    (hop, (is, (replicate 8 0, refl, refl)), ap (λ (n : ℕ). n ∷ hop) len)
+    (hop, (replicate 8 0, addr_octets addr, refl, (is.0, refl), refl), ap (λ (n : ℕ). n ∷ hop) len)
+next_hop_spelled (families.Vpn Ipv6) addr is =
+    let s = mapped_spelled addr is in
+    let hop : List ℕ = replicate 8 0 ++ mapped addr in
+    let len : 24 ≡ length hop = omega (arith, s.1) in
+    (hop, (replicate 8 0, mapped addr, refl, s.0, refl), ap (λ (n : ℕ). n ∷ hop) len)
 
 reach_spelled : (advert : Advert) → IsWritableAdvert advert → HasOctets advert.key → SpellsReachable (record { next_hop = advert.next_hop; keys = advert.key ∷ [] }) (reach_value advert)
 reach_spelled advert w fits =

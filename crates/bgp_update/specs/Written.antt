@@ -12,6 +12,8 @@ use Rattle.mv_base.specs.declared.prefix.Prefix.{Prefix}
 use Rattle.route_targets.specs.declared.communities.ExtComm.{ExtComm}
 use Rattle.pmsi_attr.specs.declared.pmsi.Pmsi.{Pmsi}
 use Rattle.pmsi_attr.specs.Spelling as tunnels
+use Rattle.mvpn_nlri.specs.declared.route.Afi.{Afi}
+use Rattle.mvpn_nlri.specs.declared.route.Afi.TheVariants.{Ipv4, Ipv6}
 use Rattle.mvpn_nlri.specs.Spelling as routes
 use Rattle.bgp_attributes.specs.declared.family.Family.{Family}
 use Rattle.bgp_attributes.specs.declared.family.Family.TheVariants as families
@@ -21,7 +23,7 @@ use Rattle.bgp_attributes.specs.declared.update.Advert.{Advert}
 use Rattle.bgp_attributes.specs.declared.update.Update.{Update}
 use Rattle.bgp_attributes.specs.declared.update.Change.{Change}
 use Rattle.bgp_attributes.specs.declared.update.Change.TheVariants.{Reach, Unreach}
-use Rattle.bgp_attributes.specs.Spelling.{pair, octets_for, AreComms}
+use Rattle.bgp_attributes.specs.Spelling.{pair, mapped_front, IsMapped, octets_for, AreComms}
 use Rattle.bgp_update.specs.declared.writing.EncodeFault.{EncodeFault}
 use Rattle.bgp_update.specs.declared.writing.EncodeFault.TheVariants as faults
 use Rattle.bgp_update.specs.Spelling.{header}
@@ -41,14 +43,26 @@ path_text = attribute 0x40 1 (0 ∷ []) ++ (attribute 0x40 2 [] ++ attribute 0x4
 
 -- ---- keys
 
+-- the AFI of a prefix with that address
+abbrev pub afi_of : Addr → Afi
+afi_of (V4 octets) = Ipv4
+afi_of (V6 octets) = Ipv6
+
 abbrev pub family_of : Key → Family
 family_of (Mcast afi route) = families.Mcast afi
-family_of (Unicast rd prefix) = families.VpnIpv4
+family_of (Unicast rd prefix) = families.Vpn (afi_of prefix.addr)
 
--- the length of the next hop and the next hop, with a Route Distinguisher of zeros in front for VPN-IPv4 (RFC 4364 section 4.3.2)
+-- the octets of an IPv6 address, and of an IPv4 address those of its IPv4-mapped one (RFC 4291 section 2.5.5.2)
+abbrev pub mapped : Addr → List ℕ
+mapped (V4 octets) = mapped_front ++ octets
+mapped (V6 octets) = octets
+
+-- The length of the next hop and the next hop, with a Route Distinguisher of zeros in front for VPN routes; for those of IPv6 it is
+-- an IPv6 address (RFC 4364 section 4.3.2; RFC 4659 section 3.2.1).
 abbrev pub hop_of : Family → Addr → List ℕ
 hop_of (families.Mcast afi) addr = length (addr_octets addr) ∷ addr_octets addr
-hop_of families.VpnIpv4 addr = (8 + length (addr_octets addr)) ∷ (replicate 8 0 ++ addr_octets addr)
+hop_of (families.Vpn Ipv4) addr = (8 + length (addr_octets addr)) ∷ (replicate 8 0 ++ addr_octets addr)
+hop_of (families.Vpn Ipv6) addr = 24 ∷ (replicate 8 0 ++ mapped addr)
 
 -- the label field of a route that is announced: label 3 at the bottom of the stack (RFC 8277 section 2)
 abbrev pub advertised : List ℕ
@@ -107,10 +121,20 @@ has_many (Unreach key) = false
 
 -- ---- what can be written
 
--- an IPv4 prefix with no bit set behind it
+-- a prefix with no bit set behind it
 abbrev pub IsVpnPrefix : Addr → ℕ → Type 0
-IsVpnPrefix (V4 octets) bits = (length octets ≡ 4) × IsPrefixOf (V4 octets) bits
-IsVpnPrefix (V6 octets) bits = ⊥
+IsVpnPrefix addr bits = IsAddr addr × IsPrefixOf addr bits
+
+-- an IPv4-mapped address is spelled as its IPv4 address is, which is read
+abbrev pub IsUnmapped : Addr → Family → Type 0
+IsUnmapped (V4 octets) f = ⊤
+IsUnmapped (V6 octets) (families.Mcast afi) = ⊤
+IsUnmapped (V6 octets) (families.Vpn Ipv4) = ⊤
+IsUnmapped (V6 octets) (families.Vpn Ipv6) = ¬ (IsMapped octets)
+
+-- the address has a spelling as next hop
+abbrev pub IsNextHop : Family → Addr → Type 0
+IsNextHop f addr = IsAddr addr × IsUnmapped addr f
 
 pub record IsVpn (rd : Rd) (prefix : Prefix) : Type 0 where
   pub rd_len : length rd.0 ≡ 8
@@ -132,7 +156,7 @@ IsTunnel (Some pmsi) = tunnels.Spells pmsi (tunnels.written pmsi)
 
 pub record IsWritableAdvert (advert : Advert) : Type 0 where
   pub key : IsWritableKey advert.key
-  pub next_hop : IsAddr advert.next_hop
+  pub next_hop : IsNextHop (family_of advert.key) advert.next_hop
   pub comms : AreComms advert.comms
   pub tunnel : IsTunnel advert.pmsi
 

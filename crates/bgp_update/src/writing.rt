@@ -1,13 +1,15 @@
 //! Writing a change of the table as an UPDATE message.
-ghost use Rattle.std.specs.Prelude.{◌≡◌, ◌+◌, ◌<◌, ◌≤◌, ◌^◌, ◌++◌, ◌⊎◌, false, length, OnOk, IfOk};
+ghost use Rattle.std.specs.Prelude.{◌≡◌, ◌+◌, ◌<◌, ◌≤◌, ◌^◌, ◌∷◌, ◌++◌, ◌⊎◌, false, length, OnOk, IfOk};
 ghost use Rattle.std.specs.List.{flat_map};
 ghost use Rattle.mv_base.specs.Octets.{IsOctets};
 ghost use Rattle.mv_base.specs.Address.{IsAddr, addr_octets};
 ghost use Rattle.mvpn_nlri.specs.declared.route.Afi.{Afi};
+ghost use Rattle.mvpn_nlri.specs.declared.route.Afi.TheVariants.{Ipv4, Ipv6};
+ghost use Rattle.bgp_attributes.specs.declared.family.Family.TheVariants as families;
 ghost use Rattle.mvpn_nlri.specs.Spelling as routes;
 ghost use Rattle.pmsi_attr.specs.Spelling as tunnels;
 ghost use Rattle.bgp_attributes.specs.Spelling.{pair};
-ghost use Rattle.bgp_update.specs.Written.{attribute_head, attribute, family_of, hop_of, vpn_text, key_text, reach_value, unreach_value, path_text, tunnel_text, advert_text, attributes_of, message_text, written, has_many, comms_octets, IsVpn, IsWritableKey, IsTunnel, IsWritableAdvert, IsWritable, Encodes};
+ghost use Rattle.bgp_update.specs.Written.{attribute_head, attribute, afi_of, family_of, mapped, hop_of, vpn_text, key_text, reach_value, unreach_value, path_text, tunnel_text, advert_text, attributes_of, message_text, written, has_many, comms_octets, IsVpn, IsWritableKey, IsTunnel, IsWritableAdvert, IsWritable, Encodes};
 
 use crate::front::{MESSAGE_LIMIT, UPDATE};
 use bgp_attributes::{Advert, Change, Key};
@@ -87,6 +89,16 @@ fn put_attribute(out: &mut Bytes, flags: u8, kind: u8, value: &[u8]) -> Result<(
     out.extend(value)
 }
 
+/// AFI and SAFI of VPN routes with such addresses (RFC 4364 section 4.3.4; RFC 4659 section 2).
+fn put_vpn_family(out: &mut Bytes, addr: &Addr) -> Result<(), NoMemory>
+    ensures { OnOk result (out.new ≡ out.old ++ pair (families.Vpn (afi_of addr.now))) }
+{
+    match addr {
+        Addr::V4(_) => out.extend(&[0, 1, 128]),
+        Addr::V6(_) => out.extend(&[0, 2, 128]),
+    }
+}
+
 /// AFI and SAFI of the key's family.
 fn put_family(out: &mut Bytes, key: &Key) -> Result<(), NoMemory>
     ensures { OnOk result (out.new ≡ out.old ++ pair (family_of key.now)) }
@@ -94,23 +106,71 @@ fn put_family(out: &mut Bytes, key: &Key) -> Result<(), NoMemory>
     match key {
         Key::Mcast(Afi::Ipv4, _) => out.extend(&[0, 1, 5]),
         Key::Mcast(Afi::Ipv6, _) => out.extend(&[0, 2, 5]),
-        Key::Unicast { .. } => out.extend(&[0, 1, 128]),
+        Key::Unicast { prefix, .. } => put_vpn_family(out, &prefix.addr),
     }
 }
 
-/// The next hop behind its length. That of a VPN-IPv4 route has a Route Distinguisher of zeros in front (RFC 4364
-/// section 4.3.2).
+/// The next hop of an MCAST-VPN route behind its length.
+fn put_hop(out: &mut Bytes, addr: &Addr) -> Result<(), NoMemory>
+    requires { IsAddr addr.now }
+    ensures { OnOk result (out.new ≡ out.old ++ (length (addr_octets addr.now) ∷ addr_octets addr.now)) }
+{
+    let octets = addr.octets();
+    out.extend(&[octets.len() as u8])?;
+    out.extend(octets)
+}
+
+/// The same with a Route Distinguisher of zeros in front, for a VPN-IPv4 route (RFC 4364 section 4.3.2).
+fn put_vpn4_hop(out: &mut Bytes, addr: &Addr) -> Result<(), NoMemory>
+    requires { IsAddr addr.now }
+    ensures { OnOk result (out.new ≡ out.old ++ hop_of (families.Vpn Ipv4) addr.now) }
+{
+    let octets = addr.octets();
+    let len = octets.len() as u8;
+    out.extend(&[8 + len, 0, 0, 0, 0, 0, 0, 0, 0])?;
+    out.extend(octets)
+}
+
+/// The octets of an IPv6 address, and of an IPv4 address those of its IPv4-mapped one (RFC 4291 section 2.5.5.2).
+fn put_mapped(out: &mut Bytes, addr: &Addr) -> Result<(), NoMemory>
+    ensures { OnOk result (out.new ≡ out.old ++ mapped addr.now) }
+{
+    match addr {
+        Addr::V4([a, b, c, d]) => {
+            out.extend(&[0, 0, 0, 0, 0, 0, 0, 0, 0, 0, 0xff, 0xff, *a, *b, *c, *d])
+        }
+        Addr::V6(octets) => out.extend(octets),
+    }
+}
+
+/// The next hop of a VPN-IPv6 route behind its length (RFC 4659 section 3.2.1).
+fn put_vpn6_hop(out: &mut Bytes, addr: &Addr) -> Result<(), NoMemory>
+    ensures { OnOk result (out.new ≡ out.old ++ hop_of (families.Vpn Ipv6) addr.now) }
+{
+    out.extend(&[24, 0, 0, 0, 0, 0, 0, 0, 0])?;
+    put_mapped(out, addr)
+}
+
+/// The next hop of a VPN route with such a prefix.
+fn put_vpn_hop(out: &mut Bytes, prefix: &Prefix, addr: &Addr) -> Result<(), NoMemory>
+    requires { IsAddr addr.now }
+    ensures { OnOk result (out.new ≡ out.old ++ hop_of (families.Vpn (afi_of prefix.now.addr)) addr.now) }
+{
+    match prefix.addr {
+        Addr::V4(_) => put_vpn4_hop(out, addr),
+        Addr::V6(_) => put_vpn6_hop(out, addr),
+    }
+}
+
+/// The next hop behind its length.
 fn put_next_hop(out: &mut Bytes, key: &Key, addr: &Addr) -> Result<(), NoMemory>
     requires { IsAddr addr.now }
     ensures { OnOk result (out.new ≡ out.old ++ hop_of (family_of key.now) addr.now) }
 {
-    let octets = addr.octets();
-    let len = octets.len() as u8;
     match key {
-        Key::Mcast(_, _) => out.extend(&[len])?,
-        Key::Unicast { .. } => out.extend(&[8 + len, 0, 0, 0, 0, 0, 0, 0, 0])?,
+        Key::Mcast(_, _) => put_hop(out, addr),
+        Key::Unicast { prefix, .. } => put_vpn_hop(out, prefix, addr),
     }
-    out.extend(octets)
 }
 
 fn put_route(out: &mut Bytes, route: &Route) -> Result<(), NoMemory>
@@ -122,7 +182,7 @@ fn put_route(out: &mut Bytes, route: &Route) -> Result<(), NoMemory>
     out.extend(&octets[..len])
 }
 
-/// A VPN-IPv4 route with its label field (RFC 8277 section 2).
+/// A VPN route with its label field (RFC 8277 section 2).
 fn put_vpn(out: &mut Bytes, label: &[u8; 3], rd: &Rd, prefix: &Prefix) -> Result<(), NoMemory>
     requires { IsVpn rd.now prefix.now }
     ensures { OnOk result (out.new ≡ out.old ++ vpn_text label.now rd.now prefix.now) }

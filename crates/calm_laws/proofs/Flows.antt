@@ -1,5 +1,7 @@
 -- The flows of an edge are those of an earlier clock over what it knows now.
-use Rattle.std.proofs.Common.{◌≡◌, ℕ, ◌+◌, ◌≤◌, ◌==◌, ◌||◌, Bool, true, false, cond, List, [], ◌∷◌, ◌++◌, map, is_some, refl, sym, ap, subst, ◌∙◌, le_refl, le_trans, arith}
+use Rattle.std.proofs.Common.{◌≡◌, ℕ, ◌+◌, ◌≤◌, ◌==◌, ◌||◌, Bool, true, false, cond, inl, inr, List, [], ◌∷◌, ◌++◌, map, is_some, refl, sym, ap, subst, ◌∙◌, le_refl, le_trans, arith}
+use Rattle.std.proofs.lemmas.Bool.{cases_Bool}
+use Rattle.std.proofs.lemmas.Bool.Decides.{nat_tests}
 use Rattle.std.specs.List.{filter, flat_map}
 use Rattle.std.specs.FinMap as maps
 use Rattle.mv_base.specs.declared.ids.NodeId.{NodeId}
@@ -18,9 +20,9 @@ use Rattle.edge_defs.specs.Keys.{Value}
 use Rattle.edge_defs.specs.Place.{Core, EdgePlace, OwnVrf, own_vrfs}
 use Rattle.edge_defs.specs.Steps.{Call, control_step, refreshed}
 use Rattle.edge_defs.specs.Steps as steps
-use Rattle.edge_laws.specs.Acts.{Act, act, run, is_up, stepped, message_of, left_in_transit, delivered, selected, is_at, is_between, unjoined, with_joined, noticed, raised}
+use Rattle.edge_laws.specs.Acts.{Act, act, run, is_up, stepped, with_core, message_of, left_in_transit, delivered, selected, is_at, is_between, unjoined, with_joined, noticed, raised}
 use Rattle.edge_laws.specs.Acts as acts
-use Rattle.edge_laws.specs.Network.{EdgeNetwork, place_of}
+use Rattle.edge_laws.specs.Network.{EdgeNetwork, place_of, at_node}
 use Rattle.calm_laws.specs.Calm.{FlowsStand}
 use Rattle.calm_laws.proofs.Maps.{empty_entries}
 use Rattle.label_defs.specs.Keys.{node_cmp}
@@ -69,6 +71,7 @@ step_stands place now old (steps.Unselect vrf pattern) h = (h.0, h.1, h.2)
 step_stands place now old (steps.Raised kind peer) h = refreshed_stands place now (steps.effect place now old (steps.Raised kind peer))
 step_stands place now old (steps.Noticed kind peer) h = refreshed_stands place now (steps.effect place now old (steps.Noticed kind peer))
 step_stands place now old steps.Timers h = refreshed_stands place now (steps.effect place now old steps.Timers)
+step_stands place now old steps.Rerouted h = refreshed_stands place now old
 
 -- ---- a network
 
@@ -107,6 +110,25 @@ restart_stands network at h n = elim (n.0 == at.0) as (λ b. Stands (place_of ne
   | false ↦ h n
 ]
 
+-- the flows of the edge that knows another core are chosen by it, and those of the others by theirs
+rerouted_stands : (network : EdgeNetwork) (at : NodeId) (core : Core) → FlowsStand network → FlowsStand (act network (acts.Reroute at core))
+rerouted_stands network at core h n = elim (cases_Bool (n.0 == at.0)) [
+  | inl e ↦ subst (λ (m : NodeId). Stands (place_of known m) network.clock (at_node at new network.node m)) (sym (node_equal n at e)) here
+  | inr e ↦ subst (λ (b : Bool). Stands (record { scenario = network.scenario; core = cond b core (network.core n); me = n }) network.clock (cond b new (network.node n))) (sym e) (h n)
+]
+  where
+    known : EdgeNetwork
+    known = with_core at core network
+
+    new : Control
+    new = control_step (place_of known at) network.clock (network.node at) steps.Rerouted
+
+    itself : (x : ℕ) → (x == x) ≡ true
+    itself x = grind (arith, nat_tests)
+
+    here : Stands (place_of known at) network.clock (at_node at new network.node at)
+    here = subst (λ (b : Bool). Stands (place_of known at) network.clock (cond b new (network.node at))) (sym (itself at.0)) (refreshed_stands (place_of known at) network.clock (network.node at))
+
 act_stands : (network : EdgeNetwork) (what : Act) → FlowsStand network → FlowsStand (act network what)
 act_stands network (acts.Deliver a b) h = delivered_stands network a b (a.0 == b.0) (is_up (network.node b) a) (network.direction a b).transit h
 act_stands network (acts.Label n neighbour message) h = stepped_stands network n (steps.Label neighbour message) h
@@ -123,10 +145,11 @@ act_stands network (acts.Raise a b) h = raised_stands network a b (a.0 == b.0) (
 act_stands network (acts.Restart n) h = restart_stands network n h
 act_stands network (acts.Tick ticks) h = λ n. later_stands (place_of network n) network.clock (network.clock + ticks) (network.node n) (omega arith) (h n)
 act_stands network (acts.Timers n) h = stepped_stands network n steps.Timers h
+act_stands network (acts.Reroute n core) h = rerouted_stands network n core h
 
 pub run_stands : (network : EdgeNetwork) (all : List Act) → FlowsStand network → FlowsStand (run network all)
 run_stands network [] h = h
 run_stands network (first ∷ more) h = run_stands (act network first) more (act_stands network first h)
 
-pub start_stands : (scenario : Scenario) (core : Core) → FlowsStand (record { clock = 0; scenario = scenario; core = core; node = λ n. no_control; direction = λ a b. record { joined = false; transit = [] } })
-start_stands scenario core n = fresh_stands (record { scenario = scenario; core = core; me = n }) 0
+pub start_stands : (scenario : Scenario) (core : NodeId → Core) → FlowsStand (record { clock = 0; scenario = scenario; core = core; node = λ n. no_control; direction = λ a b. record { joined = false; transit = [] } })
+start_stands scenario core n = fresh_stands (record { scenario = scenario; core = core n; me = n }) 0

@@ -57,7 +57,7 @@ one_target network root egress flow rd source_as root_vrf value rule stand calm 
     let got = entry_get flow_total (network.node egress).flows held.flow held.up held.among in
     let is = is_flow_of network egress held.flow held.up stand got in
     let join = held.is in
-    let by = root_of network root egress is.own held.flow.source join.rd join.import join.source_as rule calm is.among (sym is.is ∙ join.remote) in
+    let by = root_of network root egress is.own held.flow.source held.flow.group join.rd join.import join.source_as rule calm is.among (sym is.is ∙ join.remote) in
     let keys : join_key flow rd source_as ≡ join_key held.flow join.rd join.source_as = join.key in
     let rds : rd ≡ join.rd = cc in
     let one : root_vrf ≡ by.root_vrf = one_rd (place_of network root) root_vrf by.root_vrf rule.scenario a by.of_root (sym e ∙ rds ∙ by.distinguisher) in

@@ -102,7 +102,7 @@ pub calm_flow : (network : EdgeNetwork) (root egress : NodeId) (own : OwnVrf) (f
 calm_flow network root egress own flow rd import source_as rule stand calm none b id h =
     let is = is_flow_of network egress flow (Some (Remote root rd import source_as)) stand h in
     let one : is.own ≡ own = one_number (place_of network egress) is.own own is.among b (ap (λ (v : VrfId). v.0) (is.id ∙ sym id)) in
-    let by = root_of network root egress is.own flow.source rd import source_as rule calm is.among (sym is.is) in
+    let by = root_of network root egress is.own flow.source flow.group rd import source_as rule calm is.among (sym is.is) in
     let vpn : AreOfOneVpn by.root_vrf own = subst (λ (o : OwnVrf). AreOfOneVpn by.root_vrf o) one by.vpn in
     record {
       root_vrf = by.root_vrf;

@@ -14,7 +14,7 @@ use Rattle.bgp_attributes.specs.declared.key.Key.TheVariants.{Mcast, Unicast}
 use Rattle.scenario_defs.specs.Home.{local_routes}
 use Rattle.scenario_defs.specs.Rules.{Rules, IsTarget}
 use Rattle.scenario_defs.specs.declared.scenario.Vrf.{Vrf}
-use Rattle.choice_defs.specs.Choice.{cost_by, best_route, of_site}
+use Rattle.choice_defs.specs.Choice.{best_route, of_site}
 use Rattle.choice_defs.specs.declared.known_route.KnownRoute.{KnownRoute}
 use Rattle.choice_defs.specs.declared.origin.Origin.{Origin}
 use Rattle.choice_defs.specs.declared.origin.Origin.TheVariants as origins
@@ -26,7 +26,7 @@ use Rattle.edge_defs.specs.Imported.{is_admitted, JoinBy, join_by, taken_from, F
 use Rattle.edge_defs.specs.Keys.{Value}
 use Rattle.edge_defs.specs.Originated.{own_import, unicast_value}
 use Rattle.edge_defs.specs.Place.{EdgePlace, OwnVrf, addr_of, own_addr, own_vrfs}
-use Rattle.edge_defs.specs.Upstream.{known_route, known_from, known_routes, upstream_by, upstream_for}
+use Rattle.edge_defs.specs.Upstream.{costs_of, known_route, known_from, known_routes, upstream_by, upstream_for}
 use Rattle.edge_defs.proofs.KeyLemmas.{key_total, flow_total, flow_exact}
 use Rattle.edge_laws.specs.Network.{EdgeNetwork, place_of}
 use Rattle.edge_laws.specs.Rule.{Rule}
@@ -51,7 +51,7 @@ pub record IsFlow (network : EdgeNetwork) (n : NodeId) (flow : VrfFlow) (up : Op
   pub own : OwnVrf
   pub among : Among own (own_vrfs (place_of network n))
   pub id : own.id ≡ flow.vrf
-  pub is : up ≡ upstream_for (place_of network n) (network.node n) own flow.source
+  pub is : up ≡ upstream_for (place_of network n) (network.node n) own flow.source flow.group
 
 flow_as : (network : EdgeNetwork) (n : NodeId) (flow : VrfFlow) (up : Option Upstream) (own : OwnVrf) (route : FlowRoute) → Among own (own_vrfs (place_of network n)) → (flow, up) ≡ with_upstream (place_of network n) (network.node n) own route → IsFlow network n flow up
 flow_as network n flow up own route a e =
@@ -60,7 +60,7 @@ flow_as network n flow up own route a e =
       own = own;
       among = a;
       id = ap (λ (f : VrfFlow). f.vrf) (sym flows);
-      is = ap (λ (x : VrfFlow × Option Upstream). x.1) e ∙ ap (λ (f : VrfFlow). upstream_for (place_of network n) (network.node n) own f.source) (sym flows);
+      is = ap (λ (x : VrfFlow × Option Upstream). x.1) e ∙ ap (λ (f : VrfFlow). upstream_for (place_of network n) (network.node n) own f.source f.group) (sym flows);
     }
 
 flow_of : (network : EdgeNetwork) (n : NodeId) (flow : VrfFlow) (up : Option Upstream) (moment : ℕ) → maps.get (flows_at (place_of network n) moment (network.node n)) flow ≡ Some up → IsFlow network n flow up
@@ -160,10 +160,10 @@ by_origin place control own root rd import source_as prefix (origins.Remote edge
       admitted = known.1;
     }
 
-is_taken : (place : EdgePlace) (control : Control) (own : OwnVrf) (source : Addr) (root : NodeId) (rd : Rd) (import : Import) (source_as : ℕ) → upstream_for place control own source ≡ Some (Remote root rd import source_as) → IsTaken place control own root rd import source_as
-is_taken place control own source root rd import source_as h =
-    let cost = cost_by own.vrf.rule (place.core.cost place.me) in
+is_taken : (place : EdgePlace) (control : Control) (own : OwnVrf) (source group : Addr) (root : NodeId) (rd : Rd) (import : Import) (source_as : ℕ) → upstream_for place control own source group ≡ Some (Remote root rd import source_as) → IsTaken place control own root rd import source_as
+is_taken place control own source group root rd import source_as h =
     let known = known_routes place control own in
+    let cost = costs_of place own known source group in
     let by = chained (best_route cost known source) (upstream_by place control) (Remote root rd import source_as) h in
     let b : Best cost known source by.0 = subst (BestIs cost known source) by.1 (best cost known source) in
     by_origin place control own root rd import source_as by.0.prefix by.0.origin (among_choice by.0 known b.among) by.2
@@ -204,7 +204,7 @@ root_of_taken network root egress own rd import source_as rule calm a is =
       system = ap (λ (b : JoinBy). b.source_as) one;
     }
 
-pub root_of : (network : EdgeNetwork) (root egress : NodeId) (own : OwnVrf) (source : Addr) (rd : Rd) (import : Import) (source_as : ℕ) → Rule network → CalmSession network root egress → Among own (own_vrfs (place_of network egress))
-    → upstream_for (place_of network egress) (network.node egress) own source ≡ Some (Remote root rd import source_as) → RootVrf network root own rd import source_as
-root_of network root egress own source rd import source_as rule calm a h =
-    root_of_taken network root egress own rd import source_as rule calm a (is_taken (place_of network egress) (network.node egress) own source root rd import source_as h)
+pub root_of : (network : EdgeNetwork) (root egress : NodeId) (own : OwnVrf) (source group : Addr) (rd : Rd) (import : Import) (source_as : ℕ) → Rule network → CalmSession network root egress → Among own (own_vrfs (place_of network egress))
+    → upstream_for (place_of network egress) (network.node egress) own source group ≡ Some (Remote root rd import source_as) → RootVrf network root own rd import source_as
+root_of network root egress own source group rd import source_as rule calm a h =
+    root_of_taken network root egress own rd import source_as rule calm a (is_taken (place_of network egress) (network.node egress) own source group root rd import source_as h)

@@ -23,13 +23,13 @@ use Rattle.session_defs.specs.declared.direction.Direction.{Direction}
 use Rattle.edge_defs.specs.Datagrams.{Fate, entering_fate}
 use Rattle.edge_defs.specs.Place.{OwnVrf}
 use Rattle.edge_defs.specs.Steps as steps
-use Rattle.world_defs.specs.Acts.{Act, Tick, Timers, Move, Lose, Notice, RaiseFirst, RaiseSecond, Restart, At, Enter, Land, Drop, Tell, Acted, act, put_line, put_lines, with_network, at_node, is_of_session, is_at, leads_to, is_from_peer, hop_line, fated, datagram_at, enters_at, entering, fate_at, with_ttl, landed, without_copy, landing, with_aged}
+use Rattle.world_defs.specs.Acts.{Act, Tick, Timers, Move, Lose, Notice, RaiseFirst, RaiseSecond, Restart, At, Enter, Land, Drop, Tell, SetCost, Reroute, Acted, act, put_line, put_lines, with_network, at_node, is_of_session, is_at, leads_to, is_from_peer, hop_line, fated, datagram_at, enters_at, entering, fate_at, with_ttl, landed, without_copy, landing, with_aged}
 use Rattle.world_defs.specs.Counts.{direction, directions}
 use Rattle.world_defs.specs.Events.{Happened, Done, done}
 use Rattle.world_defs.specs.Nodes.{NodeState, Edge, CoreNode, Nodes, place_of}
 use Rattle.world_defs.specs.Refusals.{refusal}
 use Rattle.world_defs.specs.Run.{Traced, outcome, traced, report_of, Runs}
-use Rattle.world_defs.specs.System.{NodeCall, Own, Elapse, Reset, system}
+use Rattle.world_defs.specs.System.{NodeCall, Own, Elapse, Reset, Price, Follow, system}
 use Rattle.world_defs.specs.World.{World, Datagram, LinkCopy, scenario_of, clock_of}
 use Rattle.delivery_laws.specs.Flood.{lines_in}
 use Rattle.delivery_laws.proofs.Outcomes.{IsOfLines, Leads, Gives}
@@ -107,6 +107,8 @@ act_refuses (Enter vrf) world = (entering_refuses world vrf (slice_get (scenario
 act_refuses (Land from to place) world = (landing_refuses world from to place (slice_get (world.copies from to) (place - 1)), tt)
 act_refuses (Drop from to place) world = (refl, tt)
 act_refuses Tell world = (refl, tt)
+act_refuses (SetCost a b cost) world = node_refuses world a [] refl (octets.Call (Price a b cost) ∷ [])
+act_refuses (Reroute n) world = node_refuses world n [] refl (octets.Call (Follow n) ∷ [])
 
 -- ---- one event
 

@@ -67,7 +67,7 @@ module _ (network : OctetNetwork Nodes) (datagram : Datagram) (id : VrfId) (vrf 
   near_own iface (CoreNode part) f = refl
   near_own iface (Edge edge) f = false_from_ne_true (serves_near network datagram iface own (Edge edge)) (λ t.
       let place = place_of network.state root in
-      let one = and_parts (is_from_site datagram.site (upstream_for place edge.control own datagram.source)) (asks_at place network.state.clock edge.control datagram.source datagram.group iface own && is_outside place.scenario datagram.site iface) t in
+      let one = and_parts (is_from_site datagram.site (upstream_for place edge.control own datagram.source datagram.group)) (asks_at place network.state.clock edge.control datagram.source datagram.group iface own && is_outside place.scenario datagram.site iface) t in
       let two = and_parts (asks_at place network.state.clock edge.control datagram.source datagram.group iface own) (is_outside place.scenario datagram.site iface) one.1 in
       let three = and_parts (is_iface_of_vrf network.state.scenario iface id) _ two.0 in
       true≢false (sym (iface_of_edge network.state.scenario iface id vrf known three.0) ∙ f))
@@ -90,7 +90,7 @@ module _ (network : OctetNetwork Nodes) (datagram : Datagram) (id : VrfId) (vrf 
   branches_are (CoreNode part) o e = ap (λ (x : Option Fec). elim x as (λ y. List Branch) [ None ↦ [] | Some fec ↦ branches_of part fec ]) e
   branches_are (Edge edge) o e =
       let place = place_of network.state root in
-      let goes = is_from_site datagram.site (upstream_for place edge.control own datagram.source) && is_joined_in place edge.control own datagram.source datagram.group in
+      let goes = is_from_site datagram.site (upstream_for place edge.control own datagram.source datagram.group) && is_joined_in place edge.control own datagram.source datagram.group in
       let tunnel = transmit_tunnel place edge.control own datagram.source datagram.group in
       entering_branches place network.state.clock edge datagram.source datagram.group iface0 own datagram.site
       ∙ by goes tunnel

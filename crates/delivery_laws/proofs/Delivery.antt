@@ -17,7 +17,7 @@ use Rattle.scenario_defs.specs.declared.report.ReportLine.TheVariants as lines
 use Rattle.session_defs.specs.Octets.{OctetNetwork}
 use Rattle.mvpn_model.specs.Once.{IsOfWindow}
 use Rattle.mvpn_model.specs.Report.{lines_of, is_out_at, outs_at}
-use Rattle.edge_defs.specs.Place.{Core}
+use Rattle.world_defs.specs.Costs.{Cores}
 use Rattle.world_defs.specs.Counts.{link_ways}
 use Rattle.world_defs.specs.Events.{Happened, Done, done}
 use Rattle.world_defs.specs.Nodes.{Nodes}
@@ -202,9 +202,9 @@ no_copies world h P u n = subst (AllByRecursion (P u n)) (sym (h u n)) tt
 pub ready_calm : (receives : SiteId → Addr → Addr → IfaceId → Bool) (world : World) → CalmWorld receives world → Ready world.network world.datagrams world
 ready_calm receives world calm = record { network_is = refl; datagrams_are = refl; sound = no_copies world calm.empty (SoundCopy (link_ways world.network.state.scenario) (length world.datagrams)) }
 
-pub delivered_once : (receives : SiteId → Addr → Addr → IfaceId → Bool) (core : Core) (script : Script) (before within after : List Timed) (trace : List Traced) (calm last new : World)
-    → WindowRun receives core script before within after trace calm last new → AreDeliveredOnce receives trace calm last
-delivered_once receives core script before within after trace calm last new run place datagram iface le at =
+pub delivered_once : (receives : SiteId → Addr → Addr → IfaceId → Bool) (cores : Cores) (script : Script) (before within after : List Timed) (trace : List Traced) (calm last new : World)
+    → WindowRun receives cores script before within after trace calm last new → AreDeliveredOnce receives trace calm last
+delivered_once receives cores script before within after trace calm last new run place datagram iface le at =
     let network = calm.network in
     let number = place + 1 in
     let empty = run.is_calm.empty in
@@ -221,7 +221,7 @@ delivered_once receives core script before within after trace calm last new run 
       | inr f ↦ f
     ]) in
     let all_of_it : had network number datagram iface last.datagrams ≡ written_of network datagram iface = cond-true (nat_le number (length last.datagrams)) (written_of network datagram iface) 0 (le-leb number (length last.datagrams) (omega (arith, within_last))) in
-    let early = silent_runs number iface before (fresh_world script.scenario core) 0 run.first calm (record { no_copy = λ u n. tt }) (inr (omega (arith, le))) run.up_to in
+    let early = silent_runs number iface before (fresh_world script.scenario cores) 0 run.first calm (record { no_copy = λ u n. tt }) (inr (omega (arith, le))) run.up_to in
     let late = silent_runs number iface after last (length before + length within) run.rest new (record { no_copy = no_copies last gone (λ u n copy. copy.number ≢ number) }) (inl (omega (arith, within_last))) run.later in
     let written = flow_writes network (receives datagram.site datagram.source datagram.group) datagram (run.is_calm.flows datagram) iface in
     let split = ap (λ (t : List Traced). outs_at (report_of t) number iface) run.whole ∙ outs_both run.first (run.middle ++ run.rest) number iface in

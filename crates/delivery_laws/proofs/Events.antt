@@ -20,9 +20,9 @@ use Rattle.mvpn_model.specs.Sessions.{sessions}
 use Rattle.mvpn_model.specs.declared.session.Session.{Session}
 use Rattle.session_defs.specs.declared.direction.Direction.{Direction}
 use Rattle.edge_defs.specs.Steps as steps
-use Rattle.world_defs.specs.Acts.{Act, Tick, Timers, Move, Lose, Notice, Restart, At, Enter, Land, Drop, Tell, act}
+use Rattle.world_defs.specs.Acts.{Act, Tick, Timers, Move, Lose, Notice, Restart, At, Enter, Land, Drop, Tell, SetCost, Reroute, act}
 use Rattle.world_defs.specs.Counts.{directions, link_ways, all_nodes, is_joined, is_up}
-use Rattle.world_defs.specs.Events.{Done, row, each, times, raise_acts, raises, is_session_of, notices, healed, turn, landings, drain_round, sent, at_edge, with_message, done}
+use Rattle.world_defs.specs.Events.{Done, row, each, times, raise_acts, raises, is_session_of, notices, healed, turn, landings, drain_round, sent, cost_acts, at_edge, with_message, done}
 use Rattle.mvpn_model.specs.Packets.{source_in, group_in}
 use Rattle.world_defs.specs.Refusals.{edge_of_vrf}
 use Rattle.world_defs.specs.World.{World, scenario_of}
@@ -59,6 +59,10 @@ notices_enter_nothing world session n peer = cond_both (is_up world session.kind
 timers_enter_nothing : (list : List NodeId) → AllByRecursion IsNoEntry (map (λ n. Timers n) list)
 timers_enter_nothing [] = tt
 timers_enter_nothing (n ∷ more) = (tt, timers_enter_nothing more)
+
+reroutes_enter_nothing : (list : List NodeId) → AllByRecursion IsNoEntry (map (λ n. Reroute n) list)
+reroutes_enter_nothing [] = tt
+reroutes_enter_nothing (n ∷ more) = (tt, reroutes_enter_nothing more)
 
 landings_enter_nothing : (world : World) (ways : List (NodeId × NodeId)) → AllByRecursion IsNoEntry (flat_map (landings world) ways)
 landings_enter_nothing world [] = tt
@@ -131,6 +135,7 @@ module _ (L : List ReportLine → Type 0) (l : IsOfLines L) (W V : World → Typ
   event_leads world (events.Unselect vrf pattern) w = at_edge_leads (edge_of_vrf (scenario_of world) vrf) (steps.Unselect vrf pattern) world w
   event_leads world (events.Hop from to place) w = one_row (Land from to place) tt world w
   event_leads world (events.DropCopy from to place) w = one_row (Drop from to place) tt world w
+  event_leads world (events.Cost a b cost) w = rows (cost_acts (scenario_of world) a b cost) (tt, reroutes_enter_nothing (all_nodes (scenario_of world))) world w
   event_leads world events.Heal w = each_leads L l W healed (λ session next v. healed_leads session next v) (sessions (scenario_of world)) world w
   event_leads world events.Settle w =
       then_leads L l W W (row (map (λ n. Timers n) (all_nodes (scenario_of world))) world) (times (each turn (directions (scenario_of world))) (length (scenario_of world).nodes + 3)) (rows (map (λ n. Timers n) (all_nodes (scenario_of world))) (timers_enter_nothing (all_nodes (scenario_of world))) world w)

@@ -18,8 +18,7 @@ use Rattle.label_defs.proofs.KeyLemmas.{branch_cmp_total, branch_cmp_exact, same
 use Rattle.label_defs.proofs.SetLemmas.{member_passes}
 use Rattle.label_defs.proofs.MemberLemmas.{each_in_order, once_in_order, count-cons}
 use Rattle.session_defs.specs.Octets.{OctetNetwork}
-use Rattle.edge_defs.specs.Place.{upstream}
-use Rattle.world_defs.specs.Nodes.{Nodes}
+use Rattle.world_defs.specs.Nodes.{Nodes, label_place_of}
 use Rattle.delivery_laws.specs.Calm.{branches_in, leading_to, HangsIn, CalmTree}
 use Rattle.delivery_laws.specs.Labels.{part_at, CalmLabels}
 use Rattle.delivery_laws.proofs.OutsOnce.{count_false}
@@ -96,7 +95,7 @@ module _ (network : OctetNetwork Nodes) (fec : Fec) (root : NodeId) (labels : Ca
       ∙ (once_in_order branch_cmp_total (part_at network u).branches own ∙ cond-true (sets.contains (part_at network u).branches own) 1 0 (labels.known u n label is))
 
   -- a label is mapped towards the neighbour on the way to the root alone
-  toward_above : (u n : NodeId) (label : ℕ) → Maps (part_at network n) fec label u → upstream network.state.scenario network.state.core n fec ≡ Some u
+  toward_above : (u n : NodeId) (label : ℕ) → Maps (part_at network n) fec label u → (label_place_of network.state n).upstream fec ≡ Some u
   toward_above u n label is = ((labels.settled n).toward label u is).0
 
   from_root : (u : NodeId) → leading_to root (branches_in network fec u) ≡ 0

@@ -67,7 +67,7 @@ entry_linked network datagram id vrf (Edge edge) h =
     let own : OwnVrf = record { id = id; vrf = vrf } in
     let fec = transmit_tunnel place edge.control own datagram.source datagram.group in
     let branches = cond (is_joined_in place edge.control own datagram.source datagram.group) (branches_of edge.part fec) [] in
-    cond_both (is_from_site datagram.site (upstream_for place edge.control own datagram.source)) (record { outs = _; branches = branches }) discarded (λ (fate : Fate). AreLinked network vrf.edge fate.branches)
+    cond_both (is_from_site datagram.site (upstream_for place edge.control own datagram.source datagram.group)) (record { outs = _; branches = branches }) discarded (λ (fate : Fate). AreLinked network vrf.edge fate.branches)
     (λ t. cond_both (is_joined_in place edge.control own datagram.source datagram.group) (branches_of edge.part fec) [] (AreLinked network vrf.edge) (λ j. tree_linked network vrf.edge edge.part h fec) (λ j. tt))
     (λ f. tt)
 

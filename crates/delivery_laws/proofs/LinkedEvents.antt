@@ -23,11 +23,11 @@ use Rattle.mvpn_model.specs.declared.message.Given.{Given}
 use Rattle.mvpn_model.specs.Sessions.{sessions, edges, bgp_session, bgp_sessions, ldp_session}
 use Rattle.mvpn_model.specs.declared.session.Session.{Session}
 use Rattle.session_defs.specs.declared.direction.Direction.{Direction}
-use Rattle.edge_defs.specs.Place.{Core}
+use Rattle.world_defs.specs.Costs.{Cores}
 use Rattle.edge_defs.specs.Steps as steps
-use Rattle.world_defs.specs.Acts.{Act, Tick, Timers, Move, Lose, Notice, Restart, At, Enter, Land, Drop, Tell}
+use Rattle.world_defs.specs.Acts.{Act, Tick, Timers, Move, Lose, Notice, Restart, At, Enter, Land, Drop, Tell, SetCost, Reroute}
 use Rattle.world_defs.specs.Counts.{directions, is_joined, is_up, link_ways, all_nodes}
-use Rattle.world_defs.specs.Events.{Done, row, each, times, raise_acts, raises, is_session_of, notices, healed, turn, landings, drain_round, sent, at_edge, with_message, done}
+use Rattle.world_defs.specs.Events.{Done, row, each, times, raise_acts, raises, is_session_of, notices, healed, turn, landings, drain_round, sent, cost_acts, at_edge, with_message, done}
 use Rattle.mvpn_model.specs.Packets.{source_in, group_in}
 use Rattle.world_defs.specs.Refusals.{edge_of_vrf}
 use Rattle.world_defs.specs.Run.{Traced, Runs, Run}
@@ -89,6 +89,10 @@ module _ (scenario : Scenario) (once : LinksOnce scenario) where
   timers_fine : (list : List NodeId) → Fine (map (λ n. Timers n) list)
   timers_fine [] = tt
   timers_fine (n ∷ more) = (tt, timers_fine more)
+
+  reroutes_fine : (list : List NodeId) → Fine (map (λ n. Reroute n) list)
+  reroutes_fine [] = tt
+  reroutes_fine (n ∷ more) = (tt, reroutes_fine more)
 
   landings_fine : (world : World) (ways : List (NodeId × NodeId)) → Fine (flat_map (landings world) ways)
   landings_fine world [] = tt
@@ -181,6 +185,7 @@ module _ (scenario : Scenario) (once : LinksOnce scenario) where
   event_linked world (events.Unselect vrf pattern) l = at_edge_linked (edge_of_vrf (scenario_of world) vrf) (steps.Unselect vrf pattern) tt world l
   event_linked world (events.Hop from to place) l = one_row (Land from to place) tt world l
   event_linked world (events.DropCopy from to place) l = one_row (Drop from to place) tt world l
+  event_linked world (events.Cost a b cost) l = rows (cost_acts (scenario_of world) a b cost) (tt, reroutes_fine (all_nodes (scenario_of world))) world l
   event_linked world events.Heal l = all_healed (sessions (scenario_of world)) (sessions_of world l) world l
   event_linked world events.Settle l =
       then_leads Any any_lines (Linked scenario) (Linked scenario) (row (map (λ n. Timers n) (all_nodes (scenario_of world))) world) (times (each turn (directions (scenario_of world))) (length (scenario_of world).nodes + 3)) (rows (map (λ n. Timers n) (all_nodes (scenario_of world))) (timers_fine (all_nodes (scenario_of world))) world l)
@@ -198,8 +203,8 @@ module _ (scenario : Scenario) (once : LinksOnce scenario) where
         | inr r ↦ subst (Linked scenario) r.2 l
       ]) run.5
 
-start_linked : (scenario : Scenario) (core : Core) → Linked scenario (start scenario core)
-start_linked scenario core = record {
+start_linked : (scenario : Scenario) (cores : Cores) → Linked scenario (start scenario cores)
+start_linked scenario cores = record {
   network = record {
     nodes = record { place = refl; links = λ n. fresh_linked scenario scenario n };
     joined = λ over e. absurd (true≢false (sym e));
@@ -209,5 +214,5 @@ start_linked scenario core = record {
 }
 
 -- Behind every run branches lead along links, and copies are sound.
-pub run_is_linked : (core : Core) (script : Script) (events : List Timed) (trace : List Traced) (new : World) → LinksOnce script.scenario → Run core script events trace new → Linked script.scenario new
-run_is_linked core script events trace new once run = runs_linked script.scenario once events (start script.scenario core) 0 trace new (start_linked script.scenario core) run
+pub run_is_linked : (cores : Cores) (script : Script) (events : List Timed) (trace : List Traced) (new : World) → LinksOnce script.scenario → Run cores script events trace new → Linked script.scenario new
+run_is_linked cores script events trace new once run = runs_linked script.scenario once events (start script.scenario cores) 0 trace new (start_linked script.scenario cores) run

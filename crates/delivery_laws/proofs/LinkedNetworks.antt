@@ -21,10 +21,11 @@ use Rattle.session_defs.specs.Octets.{Stream, OctetNetwork, OctetAct, with_step,
 use Rattle.session_defs.specs.Octets as octets
 use Rattle.session_defs.specs.System.{Stepped}
 use Rattle.session_defs.specs.declared.direction.Direction.{Direction}
-use Rattle.world_defs.specs.Nodes.{Nodes}
-use Rattle.world_defs.specs.System.{NodeCall, Own, Elapse, Reset, system, node_called, call_of}
+use Rattle.edge_defs.specs.Steps as steps
+use Rattle.world_defs.specs.Nodes.{Nodes, following}
+use Rattle.world_defs.specs.System.{NodeCall, Own, Elapse, Reset, Price, Follow, system, node_called, call_of}
 use Rattle.delivery_laws.specs.Linked.{NodesLinked, LinkIf, IsOf, NetworkLinked}
-use Rattle.delivery_laws.proofs.LinkedParts.{MayCall, called_linked, reset_linked}
+use Rattle.delivery_laws.proofs.LinkedParts.{follow_linked, MayCall, called_linked, reset_linked}
 use Rattle.world_laws.proofs.Lists.{each_append}
 use Rattle.ready_laws.proofs.Octets.{leads_then, Leads}
 use Rattle.ready_laws.proofs.Ends.{Holds}
@@ -129,6 +130,8 @@ module _ (scenario : Scenario) where
   act_linked (octets.Call (Own n call)) w old l = step_linked old (node_called old.state n (old.state.node n) call) l (called_linked scenario old.state n call l.nodes w)
   act_linked (octets.Call (Elapse ticks)) w old l = record { nodes = record { place = l.nodes.place; links = l.nodes.links }; joined = l.joined; waiting = l.waiting }
   act_linked (octets.Call (Reset n)) w old l = record { nodes = reset_linked scenario old.state n l.nodes; joined = l.joined; waiting = l.waiting }
+  act_linked (octets.Call (Price a b cost)) w old l = record { nodes = record { place = l.nodes.place; links = l.nodes.links }; joined = l.joined; waiting = l.waiting }
+  act_linked (octets.Call (Follow n)) w old l = step_linked old (node_called (following old.state n) n (old.state.node n) steps.Rerouted) l (follow_linked scenario old.state n l.nodes)
   act_linked (octets.Lose hit) w old l = record { nodes = l.nodes; joined = λ over e. l.joined over (and_parts (old.joined over) (not (hit over)) e).0; waiting = l.waiting }
   act_linked (octets.Forget hit) w old l = record {
     nodes = l.nodes;

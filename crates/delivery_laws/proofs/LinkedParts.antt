@@ -17,7 +17,7 @@ use Rattle.label_defs.specs.Keys.{branch_cmp, fec_cmp}
 use Rattle.label_defs.specs.LabelData as labels
 use Rattle.label_defs.specs.LabelData.{Place, LabelData, use_of}
 use Rattle.label_defs.specs.Settling.{Stepped, with_use}
-use Rattle.label_defs.specs.Steps.{Call, Taken, Want, Unwant, Raised, Noticed, Timers, branch_to, released, with_release, effect, label_step}
+use Rattle.label_defs.specs.Steps.{Call, Taken, Want, Unwant, Raised, Noticed, Timers, Rerouted, branch_to, released, with_release, effect, label_step}
 use Rattle.label_defs.specs.declared.branch.Branch.{Branch}
 use Rattle.label_defs.specs.declared.label_use.LabelUse.{LabelUse}
 use Rattle.label_defs.specs.Members.{in_order}
@@ -31,7 +31,7 @@ use Rattle.edge_defs.specs.Place.{EdgePlace, label_place}
 use Rattle.edge_defs.specs.Steps as steps
 use Rattle.edge_defs.specs.Steps.{EdgeStepped, LabelStep, edge_step, own_label_call, changed_leaves, one_call, control_step, label_row, part_after}
 use Rattle.edge_defs.specs.Tunnels.{leaves}
-use Rattle.world_defs.specs.Nodes.{NodeState, Edge, CoreNode, Nodes, is_edge, fresh_node, with_node, place_of, part_of}
+use Rattle.world_defs.specs.Nodes.{NodeState, Edge, CoreNode, Nodes, is_edge, fresh_node, with_node, following, place_of, label_place_of, part_of}
 use Rattle.world_defs.specs.System.{core_called, node_called}
 use Rattle.delivery_laws.specs.Linked.{IsLink, HasLinks, NodesLinked}
 use Rattle.world_laws.proofs.Lists.{each_append}
@@ -69,6 +69,7 @@ module _ (scenario : Scenario) (n : NodeId) where
   effect_has place now part (Raised peer) w h = h
   effect_has place now part (Noticed peer) w h = λ branch is. h branch (and_parts (sets.contains part.branches branch) (not (branch.node.0 == peer.0)) (sym (retained branch_cmp_total branch_cmp_exact part.branches (λ (b : Branch). not (b.node.0 == peer.0)) branch) ∙ is)).0
   effect_has place now part Timers w h = h
+  effect_has place now part Rerouted w h = h
 
   step_has : (place : Place) (now : ℕ) (part : LabelData) (call : Call) → MayTake call → Has part → Holds (λ (new : Stepped). Has new.part) (label_step place now part call)
   step_has place now part call w h = holds_from (λ (new : Stepped). Has new.part) (label_step place now part call)
@@ -96,6 +97,7 @@ module _ (scenario : Scenario) (n : NodeId) where
   own_may (steps.Noticed kinds.Ldp peer) w = (tt, tt)
   own_may (steps.Noticed kinds.Bgp peer) w = tt
   own_may steps.Timers w = (tt, tt)
+  own_may steps.Rerouted w = (tt, tt)
   own_may other w = tt
 
   leaves_may : (old new : FinSet fec_cmp) → AllByRecursion MayTake (changed_leaves old new)
@@ -135,14 +137,18 @@ called_linked scenario nodes n call l w = by (nodes.node n) (l.links n)
     core : (part : LabelData) → HasLinks scenario n part → (o : Option Call) → AllByRecursion (MayTake scenario n) (one_call o) → Holds (λ (new : SystemStepped Nodes). NodesLinked scenario new.state) (core_called nodes n part o)
     core part h None m = l
     core part h (Some own) m =
-        holds_then (λ (new : Stepped). HasLinks scenario n new.part) (λ (new : SystemStepped Nodes). NodesLinked scenario new.state) (label_step (label_place nodes.scenario nodes.core n) nodes.clock part own) _
-        (step_has scenario n (label_place nodes.scenario nodes.core n) nodes.clock part own m.0 h) (λ new p. one_node scenario nodes n (CoreNode new.part) l p)
+        holds_then (λ (new : Stepped). HasLinks scenario n new.part) (λ (new : SystemStepped Nodes). NodesLinked scenario new.state) (label_step (label_place_of nodes n) nodes.clock part own) _
+        (step_has scenario n (label_place_of nodes n) nodes.clock part own m.0 h) (λ new p. one_node scenario nodes n (CoreNode new.part) l p)
 
     by : (node : NodeState) → HasLinks scenario n (part_of node) → Holds (λ (new : SystemStepped Nodes). NodesLinked scenario new.state) (node_called nodes n node call)
     by (Edge edge) h =
         holds_then (λ (new : EdgeStepped). HasLinks scenario n new.edge.part) (λ (new : SystemStepped Nodes). NodesLinked scenario new.state) (edge_step (place_of nodes n) nodes.clock edge call) _
         (edge_has scenario n (place_of nodes n) nodes.clock edge call w h) (λ new p. one_node scenario nodes n (Edge new.edge) l p)
     by (CoreNode part) h = core part h (own_label_call call) (own_may scenario n call w)
+
+-- a node that takes over the present costs
+pub follow_linked : (scenario : Scenario) (nodes : Nodes) (n : NodeId) → NodesLinked scenario nodes → Holds (λ (new : SystemStepped Nodes). NodesLinked scenario new.state) (node_called (following nodes n) n (nodes.node n) steps.Rerouted)
+follow_linked scenario nodes n l = called_linked scenario (following nodes n) n steps.Rerouted (record { place = l.place; links = l.links }) tt
 
 pub reset_linked : (scenario : Scenario) (nodes : Nodes) (n : NodeId) → NodesLinked scenario nodes → NodesLinked scenario (with_node nodes n (fresh_node nodes.scenario n))
 reset_linked scenario nodes n l = one_node scenario nodes n (fresh_node nodes.scenario n) l (fresh_linked scenario nodes.scenario n)

@@ -16,11 +16,11 @@ use Rattle.session_defs.specs.Octets.{OctetNetwork, OctetAct}
 use Rattle.session_defs.specs.System.{Behind}
 use Rattle.session_defs.specs.declared.direction.Direction.{Direction}
 use Rattle.edge_defs.specs.Steps as steps
-use Rattle.world_defs.specs.Acts.{Act, Tick, Timers, Move, Lose, Notice, RaiseFirst, RaiseSecond, Restart, At, Enter, Land, Drop, Tell, Acted, act, with_network, at_node, is_of_session, is_at, leads_to, is_from_peer, with_aged}
+use Rattle.world_defs.specs.Acts.{Act, Tick, Timers, Move, Lose, Notice, RaiseFirst, RaiseSecond, Restart, At, Enter, Land, Drop, Tell, SetCost, Reroute, Acted, act, with_network, at_node, is_of_session, is_at, leads_to, is_from_peer, with_aged}
 use Rattle.mvpn_model.specs.Sessions.{is_between}
 use Rattle.world_defs.specs.Counts.{direction, link_ways}
 use Rattle.world_defs.specs.Nodes.{Nodes}
-use Rattle.world_defs.specs.System.{NodeCall, Own, Elapse, Reset, system}
+use Rattle.world_defs.specs.System.{NodeCall, Own, Elapse, Reset, Price, Follow, system}
 use Rattle.world_defs.specs.World.{World, Datagram, scenario_of, clock_of}
 use Rattle.delivery_laws.specs.Flood.{is_way, SoundCopy, OnLinks}
 use Rattle.delivery_laws.specs.Linked.{LinkIf, NetworkLinked}
@@ -130,6 +130,8 @@ module _ (scenario : Scenario) where
     },
   )
   act_linked Tell w world l = (tt, l)
+  act_linked (SetCost a b cost) w world l = node_gives world a [] (octets.Call (Price a b cost) ∷ []) (tt, tt) l
+  act_linked (Reroute n) w world l = node_gives world n [] (octets.Call (Follow n) ∷ []) (tt, tt) l
 
   -- while a datagram enters
   pub record Entering (world : World) : Type 0 where

@@ -17,7 +17,7 @@ use Rattle.scenario_defs.specs.declared.scenario.Scenario.{Scenario}
 use Rattle.mvpn_model.specs.Once.{EndsWindow, IsWindow, past_at, Once}
 use Rattle.mvpn_model.specs.Report.{Datagram as Accepted, datagrams, refused_lines, outs_at}
 use Rattle.session_defs.specs.Octets.{OctetNetwork}
-use Rattle.edge_defs.specs.Place.{Core}
+use Rattle.world_defs.specs.Costs.{Cores}
 use Rattle.world_defs.specs.Counts.{state_line, link_ways, all_copies}
 use Rattle.world_defs.specs.Events.{Happened, Done}
 use Rattle.world_defs.specs.Nodes.{Nodes}
@@ -69,13 +69,13 @@ abbrev end_at : (events : List Timed) (trace : List Traced) (last : ℕ) → End
 end_at events trace last (inl (line, at)) = (record { line = line; event = event.Drain }, at)
 end_at events trace last (inr (bytes, buffers, due, unready, tells)) = (record { line = tells.line; event = event.State }, tells.at)
 
-module _ (core : Core) (script : Script) (events : List Timed) (trace : List Traced) (new : World) (run : Run core script events trace new) where
+module _ (cores : Cores) (script : Script) (events : List Timed) (trace : List Traced) (new : World) (run : Run cores script events trace new) where
   -- Behind the event that ends a window no copy is on a link.
-  end_drains : (last : ℕ) (closes : EndsWindow events (report_of trace) last) (early : List Traced) (world next : World) (acts : List Happened) → Run core script (take last events) early world → (network : OctetNetwork Nodes) → OnLinks network → Ready network world.datagrams world
+  end_drains : (last : ℕ) (closes : EndsWindow events (report_of trace) last) (early : List Traced) (world next : World) (acts : List Happened) → Run cores script (take last events) early world → (network : OctetNetwork Nodes) → OnLinks network → Ready network world.datagrams world
       → outcome world (end_at events trace last closes).0 ≡ Done acts next → IsDrained next
   end_drains last (inl (line, at)) early world next acts before network links ready is = empty_drained next (drain_empties network world.datagrams links world ready acts next is)
   end_drains last (inr (bytes, buffers, due, unready, tells)) early world next acts before network links ready is =
-      subst IsDrained (sym (state_acts world tells.line acts next is).stays) (told_copies world bytes buffers due unready (state_at core script events trace new run last bytes 0 buffers due unready tells early world before))
+      subst IsDrained (sym (state_acts world tells.line acts next is).stays) (told_copies world bytes buffers due unready (state_at cores script events trace new run last bytes 0 buffers due unready tells early world before))
 
   -- What is needed of a window: its worlds, and the runs before it, in it and behind it.
   record Cut (first last : ℕ) : Type 0 where
@@ -89,13 +89,13 @@ module _ (core : Core) (script : Script) (events : List Timed) (trace : List Tra
     post_is : drop first events ≡ within ++ after
     events_are : events ≡ take first events ++ (within ++ after)
     trace_is : trace ≡ early ++ (middle ++ late)
-    begins : Run core script (take first events) early calm
+    begins : Run cores script (take first events) early calm
     goes_on : Runs calm first within middle end
     ends : Runs end (first + length within) after late new
     long : length (take first events) ≡ first
     count : first + length within ≡ last + 1
 
-  module _ (rises : Rises 0 events) (zeros : ZerosAreCalm core script events) (first last : ℕ) (window : IsWindow events (refused_lines (report_of trace)) (report_of trace) first last) (some : first ≤ last) where
+  module _ (rises : Rises 0 events) (zeros : ZerosAreCalm cores script events) (first last : ℕ) (window : IsWindow events (refused_lines (report_of trace)) (report_of trace) first last) (some : first ≤ last) where
     end : (timed : Timed) × (slice_get events last ≡ Some timed)
     end = end_at events trace last window.closes
 
@@ -106,7 +106,7 @@ module _ (core : Core) (script : Script) (events : List Timed) (trace : List Tra
         let few = last - first + 1 in
         let long : length (take first events) ≡ first = long_take first events (omega (arith, lt, some)) in
         let all : length events ≡ length (take first events) + length post = ap (λ (l : List Timed). length l) (cut_in_two first events) ∙ length-append (take first events) post in
-        let a = runs_split (take first events) post (start script.scenario core) 0 trace new (subst (λ (l : List Timed). Run core script l trace new) (cut_in_two first events) run) in
+        let a = runs_split (take first events) post (start script.scenario cores) 0 trace new (subst (λ (l : List Timed). Run cores script l trace new) (cut_in_two first events) run) in
         let onward = a.goes_on first (omega (arith, long)) in
         let b = runs_split (take few post) (drop few post) a.middle first a.late new (subst (λ (l : List Timed). Runs a.middle first l a.late new) (cut_in_two few post) onward) in
         record {
@@ -128,7 +128,7 @@ module _ (core : Core) (script : Script) (events : List Timed) (trace : List Tra
         }
 
   -- What holds of a window, given where it is cut.
-  module _ (rises : Rises 0 events) (zeros : ZerosAreCalm core script events) (first last : ℕ) (window : IsWindow events (refused_lines (report_of trace)) (report_of trace) first last) (some : first ≤ last) (c : Cut first last) where
+  module _ (rises : Rises 0 events) (zeros : ZerosAreCalm cores script events) (first last : ℕ) (window : IsWindow events (refused_lines (report_of trace)) (report_of trace) first last) (some : first ≤ last) (c : Cut first last) where
     abbrev all_refused : List ℕ
     all_refused = refused_lines (report_of trace)
 
@@ -136,7 +136,7 @@ module _ (core : Core) (script : Script) (events : List Timed) (trace : List Tra
     early_refused = refused_lines (report_of c.early)
 
     abbrev begin : World
-    begin = start script.scenario core
+    begin = start script.scenario cores
 
     abbrev before : List Timed
     before = take first events
@@ -151,11 +151,11 @@ module _ (core : Core) (script : Script) (events : List Timed) (trace : List Tra
         let timed : Timed = record { line = told.line; event = event.State } in
         let next_place : first ≡ suc window.calm = omega (arith, window.opens) in
         let shape : before ≡ take window.calm events ++ timed ∷ [] = ap (λ n. take n events) next_place ∙ take_to events window.calm timed told.at in
-        let d = runs_split (take window.calm events) (timed ∷ []) begin 0 c.early c.calm (subst (λ (l : List Timed). Run core script l c.early c.calm) shape c.begins) in
+        let d = runs_split (take window.calm events) (timed ∷ []) begin 0 c.early c.calm (subst (λ (l : List Timed). Run cores script l c.early c.calm) shape c.begins) in
         let long = long_take window.calm events (let lt = slice_get_within events window.calm timed told.at in omega (arith, lt)) in
         let r = d.goes_on window.calm (omega (arith, long)) in
         let same : c.calm ≡ d.middle = r.5.1 ∙ (state_acts d.middle told.line r.0 r.1 r.3).stays in
-        ap state_line same ∙ state_at core script events trace new run window.calm 0 0 0 0 0 told d.early d.middle d.begins
+        ap state_line same ∙ state_at cores script events trace new run window.calm 0 0 0 0 0 told d.early d.middle d.begins
 
     is_calm : CalmWorld receives c.calm
     is_calm = zeros first c.early c.calm c.begins calm_zeros
@@ -215,14 +215,14 @@ module _ (core : Core) (script : Script) (events : List Timed) (trace : List Tra
         let f = runs_split (take n c.within) (e.0 ∷ drop (suc n) c.within) c.calm first c.middle c.end (subst (λ (l : List Timed). Runs c.calm first l c.middle c.end) shape c.goes_on) in
         let r = f.goes_on last (omega (arith, few, some)) in
         let rest : Runs r.1 (last + 1) [] r.2 c.end = subst (λ (l : List Timed). Runs r.1 (last + 1) l r.2 c.end) nothing r.5 in
-        let up_to : Run core script (before ++ take n c.within) (c.early ++ f.early) f.middle = runs_join before (take n c.within) begin c.calm f.middle 0 c.early f.early c.begins first (omega (arith, long)) f.begins in
+        let up_to : Run cores script (before ++ take n c.within) (c.early ++ f.early) f.middle = runs_join before (take n c.within) begin c.calm f.middle 0 c.early f.early c.begins first (omega (arith, long)) f.begins in
         let same_place : first + n ≡ last = omega (arith, some) in
         let prefix : take last events ≡ before ++ take n c.within = ap (λ k. take k events) (sym same_place) ∙ take_two first n events ∙ ap (λ (l : List Timed). before ++ take n l) c.post_is ∙ ap (λ (l : List Timed). before ++ l) (take_within n c.within c.after (omega (arith, size))) in
         let of_first : AreOfWindow c.calm (take n c.within) = are_of_window all_refused (take n c.within) c.calm (tells_first all_refused (take n c.within) (e.0 ∷ drop (suc n) c.within) c.calm (subst (λ (l : List Timed). TellsAccepted all_refused c.calm l) shape tells_within)) (all_take (IsWindowIf all_refused) n c.within all_window) in
         let w = windowed c.calm.network is_calm.links (take n c.within) c.calm first f.early f.middle (ready_calm receives c.calm is_calm) of_first f.begins in
-        subst IsDrained (sym rest.1) (end_drains last window.closes (c.early ++ f.early) f.middle r.1 r.0 (subst (λ (l : List Timed). Run core script l (c.early ++ f.early) f.middle) (sym prefix) up_to) c.calm.network is_calm.links w.ready r.3)
+        subst IsDrained (sym rest.1) (end_drains last window.closes (c.early ++ f.early) f.middle r.1 r.0 (subst (λ (l : List Timed). Run cores script l (c.early ++ f.early) f.middle) (sym prefix) up_to) c.calm.network is_calm.links w.ready r.3)
 
-    window_run : WindowRun receives core script before c.within c.after trace c.calm c.end new
+    window_run : WindowRun receives cores script before c.within c.after trace c.calm c.end new
     window_run =
         let long = c.long in
         record {
@@ -309,20 +309,20 @@ module _ (core : Core) (script : Script) (events : List Timed) (trace : List Tra
         → (iface : IfaceId) → outs_at (report_of trace) (place + 1) iface ≡ (if receives_by (past_at script.scenario events all_refused accepted.event) accepted.site accepted.source accepted.group iface then 1 else 0)
     window_once place accepted at low high iface =
         let s = sent_in_window place accepted at low high in
-        delivered_once receives core script before c.within c.after trace c.calm c.end new window_run place (in_network accepted) iface s.0 s.1
+        delivered_once receives cores script before c.within c.after trace c.calm c.end new window_run place (in_network accepted) iface s.0 s.1
         ∙ ap (λ (b : Bool). if b then 1 else 0) (still_receives accepted.event low high accepted.site accepted.source accepted.group iface)
 
 -- ---- the whole
 
-pub once : (core : Core) (script : Script) (events : List Timed) (trace : List Traced) (new : World) → Rises 0 events → ZerosAreCalm core script events → Run core script events trace new → Once script.scenario events (refused_lines (report_of trace)) (report_of trace)
-once core script events trace new rises zeros run first last window place accepted at low high iface =
+pub once : (cores : Cores) (script : Script) (events : List Timed) (trace : List Traced) (new : World) → Rises 0 events → ZerosAreCalm cores script events → Run cores script events trace new → Once script.scenario events (refused_lines (report_of trace)) (report_of trace)
+once cores script events trace new rises zeros run first last window place accepted at low high iface =
     let some : first ≤ last = omega (arith, low, high) in
-    window_once core script events trace new run rises zeros first last window some (cut core script events trace new run rises zeros first last window some) place accepted at low high iface
+    window_once cores script events trace new run rises zeros first last window some (cut cores script events trace new run rises zeros first last window some) place accepted at low high iface
 
 -- Where flows are calm, the network is: no copy is on a link, and branches lead along links, in every run.
-zeros_are_calm : (core : Core) (script : Script) (events : List Timed) → LinksOnce script.scenario → FlowsAreCalm core script events → ZerosAreCalm core script events
-zeros_are_calm core script events links flows count trace world run zeros =
-    let l = run_is_linked core script (take count events) trace world links run in
+zeros_are_calm : (cores : Cores) (script : Script) (events : List Timed) → LinksOnce script.scenario → FlowsAreCalm cores script events → ZerosAreCalm cores script events
+zeros_are_calm cores script events links flows count trace world run zeros =
+    let l = run_is_linked cores script (take count events) trace world links run in
     let sound = subst (λ (s : Scenario). EachCopy (SoundCopy (link_ways s) (length world.datagrams)) world.copies) (sym l.network.nodes.place) l.sound in
     record {
       empty = drained_empty world.network world (record { network_is = refl; datagrams_are = refl; sound = sound }) (told_copies world 0 0 0 0 zeros);
@@ -330,14 +330,14 @@ zeros_are_calm core script events links flows count trace world run zeros =
       flows = flows count trace world run zeros;
     }
 
-pub calm_flows_once : (core : Core) (script : Script) (events : List Timed) (trace : List Traced) (new : World) → Rules script.scenario → Rises 0 events → FlowsAreCalm core script events → Run core script events trace new → Once script.scenario events (refused_lines (report_of trace)) (report_of trace)
-calm_flows_once core script events trace new rules rises flows run = once core script events trace new rises (zeros_are_calm core script events (links_once script.scenario rules) flows) run
+pub calm_flows_once : (cores : Cores) (script : Script) (events : List Timed) (trace : List Traced) (new : World) → Rules script.scenario → Rises 0 events → FlowsAreCalm cores script events → Run cores script events trace new → Once script.scenario events (refused_lines (report_of trace)) (report_of trace)
+calm_flows_once cores script events trace new rules rises flows run = once cores script events trace new rises (zeros_are_calm cores script events (links_once script.scenario rules) flows) run
 
-pub copies_sound : (core : Core) (script : Script) (events : List Timed) (trace : List Traced) (new : World) → Rules script.scenario → Run core script events trace new → OnLinks new.network × AreSound script.scenario new
-copies_sound core script events trace new rules run = (let l = run_is_linked core script events trace new (links_once script.scenario rules) run in (on_links script.scenario new l, l.sound))
+pub copies_sound : (cores : Cores) (script : Script) (events : List Timed) (trace : List Traced) (new : World) → Rules script.scenario → Run cores script events trace new → OnLinks new.network × AreSound script.scenario new
+copies_sound cores script events trace new rules run = (let l = run_is_linked cores script events trace new (links_once script.scenario rules) run in (on_links script.scenario new l, l.sound))
 
-pub calm_choices_once : (core : Core) (script : Script) (events : List Timed) (trace : List Traced) (new : World) → Rules script.scenario → Rises 0 events → ChoicesAreCalm core script events → Run core script events trace new → Once script.scenario events (refused_lines (report_of trace)) (report_of trace)
-calm_choices_once core script events trace new rules rises choices run =
-    calm_flows_once core script events trace new rules rises
+pub calm_choices_once : (cores : Cores) (script : Script) (events : List Timed) (trace : List Traced) (new : World) → Rules script.scenario → Rises 0 events → ChoicesAreCalm cores script events → Run cores script events trace new → Once script.scenario events (refused_lines (report_of trace)) (report_of trace)
+calm_choices_once cores script events trace new rules rises choices run =
+    calm_flows_once cores script events trace new rules rises
     (λ count early world before zeros datagram. calm_flow world.network (receives_by (record { scenario = script.scenario; events = take count events; refused = refused_lines (report_of early) }) datagram.site datagram.source datagram.group) datagram (choices count early world before zeros datagram))
     run

@@ -174,24 +174,24 @@ small false = omega arith
 module _ (place : EdgePlace) (now : ℕ) (edge : EdgeData) (fec : Fec) (source group : Addr) (iface : IfaceId) where
   from_vrf : (own : OwnVrf) (peer : NodeId × Taken) → times_at iface (outs_from place now edge.control own fec source group peer) ≤ cond (is_iface_of_vrf place.scenario iface own.id) 1 0
   from_vrf own peer =
-      cond_both (is_imported_from place own fec peer && is_from_edge peer.0 (upstream_for place edge.control own source)) (asking_ifaces place now edge.control own source group) [] (λ (l : List IfaceId). times_at iface l ≤ cond (is_iface_of_vrf place.scenario iface own.id) 1 0)
+      cond_both (is_imported_from place own fec peer && is_from_edge peer.0 (upstream_for place edge.control own source group)) (asking_ifaces place now edge.control own source group) [] (λ (l : List IfaceId). times_at iface l ≤ cond (is_iface_of_vrf place.scenario iface own.id) 1 0)
       (λ t. asking_few place now edge.control own source group iface) (λ f. omega arith)
 
-  from_peer : (own : OwnVrf) (peer : NodeId × Taken) → times_at iface (outs_from place now edge.control own fec source group peer) ≤ cond (is_from_edge peer.0 (upstream_for place edge.control own source)) 1 0
+  from_peer : (own : OwnVrf) (peer : NodeId × Taken) → times_at iface (outs_from place now edge.control own fec source group peer) ≤ cond (is_from_edge peer.0 (upstream_for place edge.control own source group)) 1 0
   from_peer own peer =
-      cond_both (is_imported_from place own fec peer && is_from_edge peer.0 (upstream_for place edge.control own source)) (asking_ifaces place now edge.control own source group) [] (λ (l : List IfaceId). times_at iface l ≤ cond (is_from_edge peer.0 (upstream_for place edge.control own source)) 1 0)
+      cond_both (is_imported_from place own fec peer && is_from_edge peer.0 (upstream_for place edge.control own source group)) (asking_ifaces place now edge.control own source group) [] (λ (l : List IfaceId). times_at iface l ≤ cond (is_from_edge peer.0 (upstream_for place edge.control own source group)) 1 0)
       (λ t.
-      let parts = and_parts (is_imported_from place own fec peer) (is_from_edge peer.0 (upstream_for place edge.control own source)) t in
+      let parts = and_parts (is_imported_from place own fec peer) (is_from_edge peer.0 (upstream_for place edge.control own source group)) t in
       let few = asking_few place now edge.control own source group iface in
       let one = small (is_iface_of_vrf place.scenario iface own.id) in
-      omega (arith, cond-true {A = ℕ} (is_from_edge peer.0 (upstream_for place edge.control own source)) 1 0 parts.1, few, one))
+      omega (arith, cond-true {A = ℕ} (is_from_edge peer.0 (upstream_for place edge.control own source group)) 1 0 parts.1, few, one))
       (λ f. omega arith)
 
   at_vrf : (own : OwnVrf) → times_at iface (outs_at place now edge.control fec source group own) ≤ cond (is_iface_of_vrf place.scenario iface own.id) 1 0
   at_vrf own = elim (cases_Bool (is_iface_of_vrf place.scenario iface own.id)) [
     | inl t ↦
-        let few = flat_few iface (outs_from place now edge.control own fec source group) (λ (peer : NodeId × Taken). is_from_edge peer.0 (upstream_for place edge.control own source)) (from_peer own) (maps.entries edge.control.peers) in
-        let one = peers_few edge.control.peers (upstream_for place edge.control own source) in
+        let few = flat_few iface (outs_from place now edge.control own fec source group) (λ (peer : NodeId × Taken). is_from_edge peer.0 (upstream_for place edge.control own source group)) (from_peer own) (maps.entries edge.control.peers) in
+        let one = peers_few edge.control.peers (upstream_for place edge.control own source group) in
         omega (arith, few, one, cond-true {A = ℕ} (is_iface_of_vrf place.scenario iface own.id) 1 0 t)
     | inr f ↦
         let none : (peer : NodeId × Taken) → times_at iface (outs_from place now edge.control own fec source group peer) ≤ cond false 1 0 = λ peer. (let few = from_vrf own peer in omega (arith, few, cond-false {A = ℕ} (is_iface_of_vrf place.scenario iface own.id) 1 0 f)) in
@@ -245,6 +245,6 @@ entry_few network datagram id vrf (Edge edge) iface =
     let asking = asking_ifaces place network.state.clock edge.control own datagram.source datagram.group in
     let few = asking_few place network.state.clock edge.control own datagram.source datagram.group iface in
     let one = small (is_iface_of_vrf place.scenario iface id) in
-    cond_both (is_from_site datagram.site (upstream_for place edge.control own datagram.source)) (record { outs = filter (is_outside place.scenario datagram.site) asking; branches = cond (is_joined_in place edge.control own datagram.source datagram.group) (branches_of edge.part (transmit_tunnel place edge.control own datagram.source datagram.group)) [] }) discarded (λ (fate : Fate). times_at iface fate.outs ≤ 1)
+    cond_both (is_from_site datagram.site (upstream_for place edge.control own datagram.source datagram.group)) (record { outs = filter (is_outside place.scenario datagram.site) asking; branches = cond (is_joined_in place edge.control own datagram.source datagram.group) (branches_of edge.part (transmit_tunnel place edge.control own datagram.source datagram.group)) [] }) discarded (λ (fate : Fate). times_at iface fate.outs ≤ 1)
     (λ t. omega (arith, filter_few iface (is_outside place.scenario datagram.site) asking, few, one))
     (λ f. omega arith)

@@ -106,9 +106,9 @@ among_if iface false xs = refl
 -- ---- what leaves
 
 module _ (place : EdgePlace) (now : ℕ) (edge : EdgeData) (source group : Addr) (iface : IfaceId) where
-  at_vrf : (fec : Fec) (own : OwnVrf) → is_among iface (outs_at place now edge.control fec source group own) ≡ (asks_at place now edge.control source group iface own && takes_from place edge.control fec source own)
+  at_vrf : (fec : Fec) (own : OwnVrf) → is_among iface (outs_at place now edge.control fec source group own) ≡ (asks_at place now edge.control source group iface own && takes_from place edge.control fec source group own)
   at_vrf fec own =
-      let takes = λ (peer : NodeId × Taken). is_imported_from place own fec peer && is_from_edge peer.0 (upstream_for place edge.control own source) in
+      let takes = λ (peer : NodeId × Taken). is_imported_from place own fec peer && is_from_edge peer.0 (upstream_for place edge.control own source group) in
       any_flat (λ (i : IfaceId). i.0 == iface.0) (outs_from place now edge.control own fec source group) (maps.entries edge.control.peers)
       ∙ any_same (λ (peer : NodeId × Taken). is_among iface (outs_from place now edge.control own fec source group peer)) (λ peer. takes peer && asks_at place now edge.control source group iface own)
       (λ peer. among_if iface (takes peer) (asking_ifaces place now edge.control own source group) ∙ ap (λ b. takes peer && b) (asking_told place now edge.control own source group iface)) (maps.entries edge.control.peers)
@@ -119,11 +119,11 @@ module _ (place : EdgePlace) (now : ℕ) (edge : EdgeData) (source group : Addr)
   arriving_told fec =
       among_if iface (sets.contains edge.part.leaves fec) (flat_map (outs_at place now edge.control fec source group) (own_vrfs place))
       ∙ ap (λ b. sets.contains edge.part.leaves fec && b) (any_flat (λ (i : IfaceId). i.0 == iface.0) (outs_at place now edge.control fec source group) (own_vrfs place)
-      ∙ any_same (λ (own : OwnVrf). is_among iface (outs_at place now edge.control fec source group own)) (λ own. asks_at place now edge.control source group iface own && takes_from place edge.control fec source own) (at_vrf fec) (own_vrfs place))
+      ∙ any_same (λ (own : OwnVrf). is_among iface (outs_at place now edge.control fec source group own)) (λ own. asks_at place now edge.control source group iface own && takes_from place edge.control fec source group own) (at_vrf fec) (own_vrfs place))
 
   -- a datagram that enters
   pub entering_told : (own : OwnVrf) (site : SiteId) → is_among iface (entering_fate place now edge own site source group).outs ≡ leaves_entering place now edge own site source group iface
-  entering_told own site = by (is_from_site site (upstream_for place edge.control own source))
+  entering_told own site = by (is_from_site site (upstream_for place edge.control own source group))
     where
       by : (b : Bool) → is_among iface (if b then record { outs = filter (is_outside place.scenario site) (asking_ifaces place now edge.control own source group); branches = if is_joined_in place edge.control own source group then branches_of edge.part (transmit_tunnel place edge.control own source group) else [] } else discarded).outs
           ≡ (b && (asks_at place now edge.control source group iface own && is_outside place.scenario site iface))
@@ -131,8 +131,8 @@ module _ (place : EdgePlace) (now : ℕ) (edge : EdgeData) (source group : Addr)
       by false = refl
 
   -- a datagram that enters goes on the branches of one tree, or on none
-  pub entering_branches : (own : OwnVrf) (site : SiteId) → (entering_fate place now edge own site source group).branches ≡ (if is_from_site site (upstream_for place edge.control own source) && is_joined_in place edge.control own source group then branches_of edge.part (transmit_tunnel place edge.control own source group) else [])
-  entering_branches own site = by (is_from_site site (upstream_for place edge.control own source))
+  pub entering_branches : (own : OwnVrf) (site : SiteId) → (entering_fate place now edge own site source group).branches ≡ (if is_from_site site (upstream_for place edge.control own source group) && is_joined_in place edge.control own source group then branches_of edge.part (transmit_tunnel place edge.control own source group) else [])
+  entering_branches own site = by (is_from_site site (upstream_for place edge.control own source group))
     where
       by : (b : Bool) → (if b then record { outs = filter (is_outside place.scenario site) (asking_ifaces place now edge.control own source group); branches = if is_joined_in place edge.control own source group then branches_of edge.part (transmit_tunnel place edge.control own source group) else [] } else discarded).branches
           ≡ (if b && is_joined_in place edge.control own source group then branches_of edge.part (transmit_tunnel place edge.control own source group) else [])

@@ -17,10 +17,10 @@ use Rattle.session_defs.specs.declared.direction.Direction.{Direction}
 use Rattle.edge_defs.specs.Datagrams.{Fate, entering_fate}
 use Rattle.edge_defs.specs.Place.{OwnVrf}
 use Rattle.edge_defs.specs.Steps as steps
-use Rattle.world_defs.specs.Acts.{Act, Tick, Timers, Move, Lose, Notice, RaiseFirst, RaiseSecond, Restart, At, Enter, Land, Drop, Tell, Acted, act, put_line, put_lines, with_network, at_node, is_of_session, is_at, leads_to, is_from_peer, copy_on, hop_line, fated, datagram_at, enters_at, entering, fate_at, with_ttl, landed, without_copy, landing, with_aged}
+use Rattle.world_defs.specs.Acts.{Act, Tick, Timers, Move, Lose, Notice, RaiseFirst, RaiseSecond, Restart, At, Enter, Land, Drop, Tell, SetCost, Reroute, Acted, act, put_line, put_lines, with_network, at_node, is_of_session, is_at, leads_to, is_from_peer, copy_on, hop_line, fated, datagram_at, enters_at, entering, fate_at, with_ttl, landed, without_copy, landing, with_aged}
 use Rattle.world_defs.specs.Counts.{direction, directions}
 use Rattle.world_defs.specs.Nodes.{NodeState, Edge, CoreNode, Nodes, place_of}
-use Rattle.world_defs.specs.System.{NodeCall, Own, Elapse, Reset, system}
+use Rattle.world_defs.specs.System.{NodeCall, Own, Elapse, Reset, Price, Follow, system}
 use Rattle.world_defs.specs.World.{World, Datagram, LinkCopy, scenario_of, clock_of}
 use Rattle.world_defs.proofs.Kept.{branches_datagrams}
 use Rattle.delivery_laws.specs.Flood.{outs_in, times_at}
@@ -82,6 +82,8 @@ act_sent all (Enter vrf) world h = (tt, entering_sent all world vrf (slice_get (
 act_sent all (Land from to place) world h = (tt, landing_sent all world from to place (slice_get (world.copies from to) (place - 1)) h)
 act_sent all (Drop from to place) world h = (tt, h)
 act_sent all Tell world h = (tt, h)
+act_sent all (SetCost a b cost) world h = node_sent all world a [] (octets.Call (Price a b cost) ∷ []) h
+act_sent all (Reroute n) world h = node_sent all world n [] (octets.Call (Follow n) ∷ []) h
 
 -- ---- a datagram that is not on its way
 
@@ -183,6 +185,8 @@ module _ (number : ℕ) (iface : IfaceId) where
   act_silent (Land from to place) k world s = landing_silent world from to place (slice_get (world.copies from to) (place - 1)) refl s
   act_silent (Drop from to place) k world s = (refl, taken_silent world from to place s)
   act_silent Tell k world s = (refl, s)
+  act_silent (SetCost a b cost) k world s = node_silent world a [] refl (octets.Call (Price a b cost) ∷ []) s
+  act_silent (Reroute n) k world s = node_silent world n [] refl (octets.Call (Follow n) ∷ []) s
 
   pub entry_silent : (one : Act) → IsEntry one → (world : World) → Entering world → Gives WritesNothing Entering (act world one)
   entry_silent (Enter vrf) k world s = entering_silent world vrf (slice_get (scenario_of world).vrfs vrf.0) (datagram_at world (length world.datagrams)) s

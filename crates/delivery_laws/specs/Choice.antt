@@ -25,7 +25,7 @@ serves_near network datagram iface own (CoreNode part) = false
 -- the tunnel on which the datagram goes as it enters at the VRF, if it does
 abbrev pub sends_on : OctetNetwork Nodes → Datagram → OwnVrf → NodeState → Option Fec
 sends_on network datagram own (Edge edge) =
-    if is_from_site datagram.site (upstream_for (place_of network.state own.vrf.edge) edge.control own datagram.source)
+    if is_from_site datagram.site (upstream_for (place_of network.state own.vrf.edge) edge.control own datagram.source datagram.group)
     && is_joined_in (place_of network.state own.vrf.edge) edge.control own datagram.source datagram.group
     then Some (transmit_tunnel (place_of network.state own.vrf.edge) edge.control own datagram.source datagram.group)
     else None

@@ -30,21 +30,21 @@ abbrev pub asks_at : EdgePlace → ℕ → Control → Addr → Addr → IfaceId
 asks_at place now control source group iface own =
     is_iface_of_vrf place.scenario iface own.id && is_asking place now control own source group iface
 
--- whether the VRF imports a route of the tunnel from the edge that it chooses for the source
-abbrev pub takes_from : EdgePlace → Control → Fec → Addr → OwnVrf → Bool
-takes_from place control fec source own =
-    list_any (λ peer. is_imported_from place own fec peer && is_from_edge peer.0 (upstream_for place control own source))
+-- whether the VRF imports a route of the tunnel from the edge that it chooses for the source and group
+abbrev pub takes_from : EdgePlace → Control → Fec → Addr → Addr → OwnVrf → Bool
+takes_from place control fec source group own =
+    list_any (λ peer. is_imported_from place own fec peer && is_from_edge peer.0 (upstream_for place control own source group))
     (maps.entries control.peers)
 
 -- whether a copy on the tunnel leaves at the interface
 abbrev pub leaves_arriving : EdgePlace → ℕ → EdgeData → Fec → Addr → Addr → IfaceId → Bool
 leaves_arriving place now edge fec source group iface =
     sets.contains edge.part.leaves fec
-    && list_any (λ own. asks_at place now edge.control source group iface own && takes_from place edge.control fec source own)
+    && list_any (λ own. asks_at place now edge.control source group iface own && takes_from place edge.control fec source group own)
     (own_vrfs place)
 
 -- whether a datagram of the site that enters at the VRF leaves at the interface
 abbrev pub leaves_entering : EdgePlace → ℕ → EdgeData → OwnVrf → SiteId → Addr → Addr → IfaceId → Bool
 leaves_entering place now edge own site source group iface =
-    is_from_site site (upstream_for place edge.control own source)
+    is_from_site site (upstream_for place edge.control own source group)
     && (asks_at place now edge.control source group iface own && is_outside place.scenario site iface)

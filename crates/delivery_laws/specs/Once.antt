@@ -11,7 +11,7 @@ use Rattle.scenario_defs.specs.declared.report.ReportLine.TheVariants as lines
 use Rattle.scenario_defs.specs.declared.scenario.Scenario.{Scenario}
 use Rattle.mvpn_model.specs.Past.{Past, receivers}
 use Rattle.mvpn_model.specs.Report.{Datagram as Accepted, refused_lines, sent_by}
-use Rattle.edge_defs.specs.Place.{Core}
+use Rattle.world_defs.specs.Costs.{Cores}
 use Rattle.world_defs.specs.Counts.{state_line}
 use Rattle.world_defs.specs.Run.{Traced, Run, report_of}
 use Rattle.world_defs.specs.World.{World, Datagram}
@@ -40,24 +40,24 @@ abbrev pub receives_datagram : Past → Datagram → IfaceId → Bool
 receives_datagram past datagram = receives_by past datagram.site datagram.source datagram.group
 
 -- Behind the first events of a run, wherever `state` would tell of zeros alone, the network is calm, by the receivers of those events.
-abbrev pub ZerosAreCalm : Core → Script → List Timed → Type 0
-ZerosAreCalm core script events =
+abbrev pub ZerosAreCalm : Cores → Script → List Timed → Type 0
+ZerosAreCalm cores script events =
     (count : ℕ) (trace : List Traced) (world : World) →
-    Run core script (take count events) trace world → state_line world ≡ lines.State 0 0 0 0 0 →
+    Run cores script (take count events) trace world → state_line world ≡ lines.State 0 0 0 0 0 →
     CalmWorld (receives_by (past_of script.scenario (take count events) trace)) world
 
 -- The same of the flow of each datagram.
-abbrev pub FlowsAreCalm : Core → Script → List Timed → Type 0
-FlowsAreCalm core script events =
+abbrev pub FlowsAreCalm : Cores → Script → List Timed → Type 0
+FlowsAreCalm cores script events =
     (count : ℕ) (trace : List Traced) (world : World) →
-    Run core script (take count events) trace world → state_line world ≡ lines.State 0 0 0 0 0 →
+    Run cores script (take count events) trace world → state_line world ≡ lines.State 0 0 0 0 0 →
     (datagram : Datagram) →
     CalmFlow world.network (receives_datagram (past_of script.scenario (take count events) trace) datagram) datagram
 
 -- The same, where the tunnels of each flow are trees, and each receiver is served once.
-abbrev pub ChoicesAreCalm : Core → Script → List Timed → Type 0
-ChoicesAreCalm core script events =
+abbrev pub ChoicesAreCalm : Cores → Script → List Timed → Type 0
+ChoicesAreCalm cores script events =
     (count : ℕ) (trace : List Traced) (world : World) →
-    Run core script (take count events) trace world → state_line world ≡ lines.State 0 0 0 0 0 →
+    Run cores script (take count events) trace world → state_line world ≡ lines.State 0 0 0 0 0 →
     (datagram : Datagram) →
     CalmChoice world.network (receives_datagram (past_of script.scenario (take count events) trace) datagram) datagram

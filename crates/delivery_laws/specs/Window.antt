@@ -7,7 +7,7 @@ use Rattle.scenario_defs.specs.declared.event.Script.{Script}
 use Rattle.scenario_defs.specs.declared.event.Timed.{Timed}
 use Rattle.mvpn_model.specs.Once.{IsOfWindow}
 use Rattle.mvpn_model.specs.Report.{outs_at}
-use Rattle.edge_defs.specs.Place.{Core}
+use Rattle.world_defs.specs.Costs.{Cores}
 use Rattle.world_defs.specs.Events.{Happened, Done}
 use Rattle.world_defs.specs.Refusals.{refusal}
 use Rattle.world_defs.specs.Run.{Traced, outcome, Runs, Run, report_of, IsDrained}
@@ -22,13 +22,13 @@ AreOfWindow world (timed ∷ more) =
     × ((acts : List Happened) (next : World) → outcome world timed ≡ Done acts next → AreOfWindow next more)
 
 -- A run with a window: its events up to a calm network, those of the window, behind which no copy is on a link, and later ones.
-pub record WindowRun (receives : SiteId → Addr → Addr → IfaceId → Bool) (core : Core) (script : Script)
+pub record WindowRun (receives : SiteId → Addr → Addr → IfaceId → Bool) (cores : Cores) (script : Script)
     (before within after : List Timed) (trace : List Traced) (calm last new : World) : Type 0 where
   pub first : List Traced
   pub middle : List Traced
   pub rest : List Traced
   pub whole : trace ≡ first ++ (middle ++ rest)
-  pub up_to : Run core script before first calm
+  pub up_to : Run cores script before first calm
   pub is_calm : CalmWorld receives calm
   pub of_window : AreOfWindow calm within
   pub window : Runs calm (length before) within middle last

@@ -11,7 +11,8 @@ ghost use Rattle.scenario_defs.specs.declared.event.Timed.{Timed};
 ghost use Rattle.session_defs.specs.Octets.{OctetNetwork};
 ghost use Rattle.edge_defs.specs.Datagrams.{outs_of, entering_fate};
 ghost use Rattle.edge_defs.specs.Edge.{EdgeData};
-ghost use Rattle.edge_defs.specs.Place.{Core, EdgePlace, OwnVrf};
+ghost use Rattle.edge_defs.specs.Place.{EdgePlace, OwnVrf};
+ghost use Rattle.world_defs.specs.Costs.{Cores};
 ghost use Rattle.world_defs.specs.Nodes.{Nodes};
 ghost use Rattle.world_defs.specs.Run.{Traced, Run};
 ghost use Rattle.world_defs.specs.World.{World, Datagram};
@@ -31,16 +32,16 @@ pub fn calm_flows_are_written_once()
 /// From a calm network on, and through a window in which datagrams are sent and copies land, and behind which no copy is on a link: each
 /// datagram that is sent in the window leaves once at each interface that receives it, and nowhere else, over the whole report.
 pub fn windows_deliver_once()
-    ensures { (receives : SiteId → Addr → Addr → IfaceId → Bool) (core : Core) (script : Script) (before within after : List Timed) →
+    ensures { (receives : SiteId → Addr → Addr → IfaceId → Bool) (cores : Cores) (script : Script) (before within after : List Timed) →
         (trace : List Traced) (calm last new : World) →
-        WindowRun receives core script before within after trace calm last new → AreDeliveredOnce receives trace calm last }
+        WindowRun receives cores script before within after trace calm last new → AreDeliveredOnce receives trace calm last }
 {}
 
 /// In every run of a scenario that meets its rules branches lead along links, and each copy is on a direction of a link, is one of a
 /// datagram that was accepted, and has a TTL of 1 to 255.
 pub fn copies_are_sound()
-    ensures { (core : Core) (script : Script) (events : List Timed) (trace : List Traced) (new : World) →
-        Rules script.scenario → Run core script events trace new → OnLinks new.network × AreSound script.scenario new }
+    ensures { (cores : Cores) (script : Script) (events : List Timed) (trace : List Traced) (new : World) →
+        Rules script.scenario → Run cores script events trace new → OnLinks new.network × AreSound script.scenario new }
 {}
 
 /// Where the labels of a tree are calm, its branches are a tree from the root.

@@ -101,10 +101,9 @@ known =
     ap (λ (peers : List (NodeId × Taken)). own_routes ++ flat_map (known_from (place_of second) second_vrf) peers) peers_entries
     ∙ ap (λ (entries : List (Key × TakenRoute)). own_routes ++ (found_in (known_route (place_of second) second_vrf first) entries ++ [])) table_entries
 
-best_of : List KnownRoute → Option KnownRoute
+abbrev best_of : List KnownRoute → Option KnownRoute
 best_of routes = best_route (costs_of (place_of second) second_own routes source group) routes source
 
-unfolding best_of
 best : best_of (known_routes (place_of second) second_control second_own) ≡ Some remote
 best = ap best_of known
 
@@ -119,7 +118,6 @@ by_remote =
     ap (λ (got : Option Taken). told_by (maps.get (table_of got) unicast_key)) peer_table
     ∙ ap told_by unicast_taken
 
-unfolding best_of
 pub chooses : upstream_for (place_of second) second_control second_own source group ≡ Some upstream
 chooses = ap (λ (route : Option KnownRoute). route >>? upstream_by (place_of second) second_control) best ∙ by_remote
 

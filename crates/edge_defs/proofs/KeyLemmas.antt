@@ -1,5 +1,5 @@
 -- The orders of keys, notes, patterns and flows are total, and what ties in them is equal; values that compare as equal are equal.
-use Rattle.std.proofs.Common.{◌≡◌, ◌≢◌, ℕ, true, List, [], ◌∷◌, refl, ap, subst}
+use Rattle.std.proofs.Common.{◌≡◌, ◌≢◌, ℕ, true, List, [], ◌∷◌, refl, ap, subst, ◌∙◌}
 use Rattle.std.specs.declared.cmp.Ordering.{Ordering}
 use Rattle.std.specs.declared.cmp.Ordering.TheVariants.{Less, Equal, Greater}
 use Rattle.std.specs.Ordering.{nat_cmp, is_eq, ordering_then}
@@ -7,6 +7,8 @@ use Rattle.std.specs.Cmp.{IsTotalOrder, tied_itself, Equal-is, nat_cmp_total}
 use Rattle.std.specs.Cmp.Lexicographic.{slice_cmp}
 use Rattle.std.specs.FinMap.{IsAntisymmetric, nat_cmp-IsAntisymmetric, slice_cmp-IsAntisymmetric}
 use Rattle.std.proofs.lemmas.Cmp.{on_total, lists_total}
+use Rattle.mv_base.specs.declared.addr.Addr.{Addr}
+use Rattle.mv_base.specs.declared.addr.Addr.TheVariants.{V4, V6}
 use Rattle.mv_base.specs.declared.prefix.Prefix.{Prefix}
 use Rattle.mv_base.specs.declared.rd.Rd.{Rd}
 use Rattle.mvpn_nlri.specs.declared.route.Afi.{Afi}
@@ -107,18 +109,16 @@ pub ipv4_first : (own other : Route) → key_cmp (Mcast Ipv4 own) (Mcast Ipv6 ot
 ipv4_first own other = refl
 
 -- the parts of keys by the AFI of their prefixes
-parts_by : Afi → Rd → Prefix → List (List ℕ)
+abbrev parts_by : Afi → Rd → Prefix → List (List ℕ)
 parts_by afi rd prefix = (0 ∷ afi_number afi ∷ []) ∷ vpn_text [] rd prefix ∷ rd.0 ∷ addr_part prefix.addr ∷ (prefix.bits ∷ []) ∷ []
 
-afi_by : Addr → Afi
+abbrev afi_by : Addr → Afi
 afi_by addr = elim addr [ V4 octets ↦ Ipv4 | V6 octets ↦ Ipv6 ]
 
-unfolding parts_by
 first_by : (a b : Afi) (rd other_rd : Rd) (prefix other : Prefix) → a ≡ Ipv4 → b ≡ Ipv6 → parts_cmp (parts_by a rd prefix) (parts_by b other_rd other) ≡ Less
 first_by a b rd other_rd prefix other h k =
     ap (λ (x : Afi). parts_cmp (parts_by x rd prefix) (parts_by b other_rd other)) h ∙ ap (λ (y : Afi). parts_cmp (parts_by Ipv4 rd prefix) (parts_by y other_rd other)) k
 
-unfolding parts_by, afi_by
 pub ipv4_prefix_first : (rd other_rd : Rd) (prefix other : Prefix) (octets other_octets : List ℕ) → prefix.addr ≡ V4 octets → other.addr ≡ V6 other_octets
     → key_cmp (Unicast rd prefix) (Unicast other_rd other) ≡ Less
 ipv4_prefix_first rd other_rd prefix other octets other_octets h k = first_by (prefix_afi prefix) (prefix_afi other) rd other_rd prefix other (ap afi_by h) (ap afi_by k)
@@ -133,7 +133,6 @@ pub routes_by_octets : (afi : Afi) (own other : Route) → slice_cmp nat_cmp (wr
 routes_by_octets Ipv4 own other differs = told (slice_cmp nat_cmp (written own) (written other)) _ differs
 routes_by_octets Ipv6 own other differs = told (slice_cmp nat_cmp (written own) (written other)) _ differs
 
-unfolding parts_by
 by_octets : (a b : Afi) (rd other_rd : Rd) (prefix other : Prefix) → a ≡ b → slice_cmp nat_cmp (vpn_text [] rd prefix) (vpn_text [] other_rd other) ≢ Equal
     → parts_cmp (parts_by a rd prefix) (parts_by b other_rd other) ≡ slice_cmp nat_cmp (vpn_text [] rd prefix) (vpn_text [] other_rd other)
 by_octets Ipv4 Ipv4 rd other_rd prefix other same differs = told (slice_cmp nat_cmp (vpn_text [] rd prefix) (vpn_text [] other_rd other)) _ differs
@@ -141,7 +140,6 @@ by_octets Ipv6 Ipv6 rd other_rd prefix other same differs = told (slice_cmp nat_
 by_octets Ipv4 Ipv6 rd other_rd prefix other same differs = absurd cc
 by_octets Ipv6 Ipv4 rd other_rd prefix other same differs = absurd cc
 
-unfolding parts_by
 pub prefixes_by_octets : (rd other_rd : Rd) (prefix other : Prefix) → prefix_afi prefix ≡ prefix_afi other
     → slice_cmp nat_cmp (vpn_text [] rd prefix) (vpn_text [] other_rd other) ≢ Equal
     → key_cmp (Unicast rd prefix) (Unicast other_rd other) ≡ slice_cmp nat_cmp (vpn_text [] rd prefix) (vpn_text [] other_rd other)

@@ -77,6 +77,7 @@ own_leaves place now part (steps.Raised kinds.Bgp peer) = tt
 own_leaves place now part (steps.Noticed kinds.Ldp peer) = refl
 own_leaves place now part (steps.Noticed kinds.Bgp peer) = tt
 own_leaves place now part steps.Timers = refl
+own_leaves place now part steps.Rerouted = refl
 own_leaves place now part (steps.Update peer message) = tt
 own_leaves place now part (steps.Pim iface message) = tt
 own_leaves place now part (steps.Active iface source group) = tt

@@ -14,6 +14,7 @@ use Rattle.mldp_fec.specs.declared.fec.Fec.{Fec}
 use Rattle.mldp_fec.specs.declared.fec.FecKind.TheVariants.{P2mp}
 use Rattle.mvpn_nlri.specs.declared.route.Afi.TheVariants.{Ipv4}
 use Rattle.mvpn_nlri.specs.declared.route.Route.TheVariants as routes
+use Rattle.pmsi_attr.specs.declared.pmsi.Pmsi.{Pmsi}
 use Rattle.pmsi_attr.specs.declared.pmsi.Tunnel.TheVariants as tunnels
 use Rattle.route_targets.specs.declared.communities.ExtComm.{ExtComm}
 use Rattle.bgp_attributes.specs.declared.key.Key.{Key}
@@ -134,7 +135,7 @@ inclusive_tunnel = record { kind = P2mp; root = first_addr; opaque = 1 ∷ 0 ∷
 
 abbrev pub inclusive_value : Value
 inclusive_value =
-    let tunnel = record { leaf_info = false; tunnel = tunnels.Mldp inclusive_tunnel; label = None } in
+    let tunnel : Pmsi = record { leaf_info = false; tunnel = tunnels.Mldp inclusive_tunnel; label = None } in
     record { next_hop = first_addr; comms = target ∷ []; pmsi = Some tunnel }
 
 abbrev pub unicast_key : Key

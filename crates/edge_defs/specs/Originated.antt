@@ -12,6 +12,7 @@ use Rattle.mv_base.specs.declared.pattern.Pattern.{Pattern}
 use Rattle.mvpn_nlri.specs.declared.route.Afi.{Afi}
 use Rattle.mvpn_nlri.specs.declared.route.Afi.TheVariants.{Ipv4, Ipv6}
 use Rattle.mvpn_nlri.specs.declared.route.Route.TheVariants as routes
+use Rattle.pmsi_attr.specs.declared.pmsi.Pmsi.{Pmsi}
 use Rattle.pmsi_attr.specs.declared.pmsi.Tunnel.TheVariants as tunnels
 use Rattle.route_targets.specs.Communities.{import_octets, source_as_octets}
 use Rattle.route_targets.specs.declared.communities.ExtComm.{ExtComm}
@@ -81,7 +82,7 @@ unicast_value place vrf =
 -- with the tunnel of that number, which this edge is the root of (RFC 6514 section 5)
 abbrev pub tunnel_value : EdgePlace → Vrf → ℕ → Value
 tunnel_value place vrf number =
-    let tunnel = record { leaf_info = false; tunnel = tunnels.Mldp (lsp (own_addr place) number); label = None } in
+    let tunnel : Pmsi = record { leaf_info = false; tunnel = tunnels.Mldp (lsp (own_addr place) number); label = None } in
     record (plain_value place vrf) { pmsi = Some tunnel }
 
 -- ---- the routes

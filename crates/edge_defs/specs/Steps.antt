@@ -60,7 +60,7 @@ learned now value (Some old) = if same_value old.value value then old else recor
 
 abbrev pub taken_change : ℕ → Taken → Change → Taken
 taken_change now taken (updates.Reach advert) =
-    let value = record { next_hop = advert.next_hop; comms = advert.comms; pmsi = advert.pmsi } in
+    let value : Value = record { next_hop = advert.next_hop; comms = advert.comms; pmsi = advert.pmsi } in
     maps.insert taken advert.key (learned now value (maps.get taken advert.key))
 taken_change now taken (updates.Unreach key) = maps.remove taken key
 

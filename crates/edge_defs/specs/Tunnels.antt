@@ -7,6 +7,7 @@ use Rattle.std.specs.FinSet.{FinSet}
 use Rattle.mv_base.specs.declared.addr.Addr.{Addr}
 use Rattle.mv_base.specs.declared.ids.NodeId.{NodeId}
 use Rattle.mv_base.specs.declared.ids.VrfId.{VrfId}
+use Rattle.mv_base.specs.declared.pattern.Pattern.{Pattern}
 use Rattle.mldp_fec.specs.declared.fec.Fec.{Fec}
 use Rattle.label_defs.specs.Keys.{fec_cmp}
 use Rattle.bgp_attributes.specs.declared.key.Key.{Key}
@@ -52,7 +53,7 @@ abbrev pub learned_route : EdgePlace → OwnVrf → NodeId → Key × TakenRoute
 learned_route place own peer entry = elim (imported_selective own.vrf (addr_of place.scenario peer) entry) [
   | None ↦ None
   | Some imported ↦
-      (let pattern = record { source = imported.route.source; group = imported.route.group } in
+      (let pattern : Pattern = record { source = imported.route.source; group = imported.route.group } in
       Some (record { pattern = pattern; fec = imported.fec; since = entry.1.since; run = entry.1.run }))
 ]
 

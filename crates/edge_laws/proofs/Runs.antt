@@ -5,8 +5,9 @@ use Rattle.std.specs.FinMap as maps
 use Rattle.std.specs.FinMap.{FinMap}
 use Rattle.mv_base.specs.declared.ids.NodeId.{NodeId}
 use Rattle.edge_defs.specs.Edge.{pattern_cmp, Selected, Control}
+use Rattle.edge_defs.specs.Place.{Core}
 use Rattle.edge_laws.specs.Network.{EdgeNetwork, behind}
-use Rattle.edge_laws.specs.Acts.{Act, Deliver, Label, LabelRaise, LabelNotice, Pim, Active, Idle, Select, Unselect, Lose, Notice, Raise, Restart, Tick, Timers, act, run, is_up}
+use Rattle.edge_laws.specs.Acts.{with_core, Act, Deliver, Label, LabelRaise, LabelNotice, Pim, Active, Idle, Select, Unselect, Lose, Notice, Raise, Restart, Tick, Timers, Reroute, act, run, is_up}
 use Rattle.edge_laws.specs.Rule.{Rule}
 use Rattle.edge_laws.proofs.Selections.{stays}
 use Rattle.edge_laws.proofs.Steps.{still_rule, select_rule, unselect_rule, timers_rule}
@@ -16,6 +17,10 @@ use Rattle.edge_laws.proofs.Sessions.{lose_rule, notice_rule, raise_rule, restar
 -- a step that leaves the selections and the tables that were taken
 plain_rule : (network : EdgeNetwork) (n : NodeId) (new : Control) → new.peers ≡ (network.node n).peers → new.selections ≡ (network.node n).selections → Rule network → Rule (behind network n new)
 plain_rule network n new peers selections rule = still_rule network n new peers (λ pattern selected e. stays network.clock (maps.get (network.node n).selections pattern) selected (ap (λ (all : FinMap pattern_cmp Selected). maps.get all pattern) (sym selections) ∙ e)) rule
+
+-- what an edge holds for its peers does not depend on the core that it knows, but on the flows that it keeps
+pub core_rule : (network : EdgeNetwork) (n : NodeId) (core : Core) → Rule network → Rule (with_core n core network)
+core_rule network n core rule = record { view = rule.view; alike = rule.alike; ends = rule.ends; scenario = rule.scenario }
 
 pub act_rule : (network : EdgeNetwork) (next : Act) → Rule network → Rule (act network next)
 act_rule network (Deliver a b) rule = deliver_rule network a b (a.0 == b.0) (is_up (network.node b) a) (network.direction a b).transit refl refl refl rule
@@ -33,6 +38,7 @@ act_rule network (Raise a b) rule = raise_rule network a b (a.0 == b.0) (is_up (
 act_rule network (Restart n) rule = restart_rule network n rule
 act_rule network (Tick ticks) rule = tick_rule network ticks rule
 act_rule network (Timers n) rule = timers_rule network n rule
+act_rule network (Reroute n core) rule = plain_rule (with_core n core network) n _ refl refl (core_rule network n core rule)
 
 pub run_rule : (network : EdgeNetwork) (acts : List Act) → Rule network → Rule (run network acts)
 run_rule network [] rule = rule

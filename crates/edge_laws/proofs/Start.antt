@@ -53,10 +53,10 @@ quiet_view clock delay near far out picked taken p t = record {
   due = λ route e. absurd cc;
 }
 
-abbrev start : Scenario → Core → EdgeNetwork
+abbrev start : Scenario → (NodeId → Core) → EdgeNetwork
 start scenario core = record { clock = 0; scenario = scenario; core = core; node = λ n. no_control; direction = λ a b. record { joined = false; transit = [] } }
 
-pub start_rule : (scenario : Scenario) (core : Core) → Rules scenario → Rule (start scenario core)
+pub start_rule : (scenario : Scenario) (core : NodeId → Core) → Rules scenario → Rule (start scenario core)
 start_rule scenario core rules = record {
   view = λ a b key ne.
       (let place : EdgePlace = place_of (start scenario core) a in

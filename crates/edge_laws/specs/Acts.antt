@@ -17,9 +17,10 @@ use Rattle.table_defs.specs.declared.change.Change.{Change}
 use Rattle.edge_defs.specs.Edge.{Control, no_control}
 use Rattle.edge_defs.specs.Keys.{Value}
 use Rattle.edge_defs.specs.Messages.{as_update}
+use Rattle.edge_defs.specs.Place.{Core}
 use Rattle.edge_defs.specs.Steps as steps
 use Rattle.edge_defs.specs.Steps.{control_step}
-use Rattle.edge_laws.specs.Network.{EdgeNetwork, place_of, at_node, behind}
+use Rattle.edge_laws.specs.Network.{EdgeNetwork, place_of, core_at, at_node, behind}
 
 -- ---- steps
 
@@ -38,7 +39,11 @@ message_of change = messages.Update (update_of (as_update change))
 -- these alone are left in transit from one edge to another
 abbrev pub left_in_transit : EdgeNetwork → NodeId → NodeId → List (Change Key Value) → EdgeNetwork
 left_in_transit network a b rest =
-    record network { direction = λ u n. record (network.direction u n) { transit = if (u.0 == a.0) && (n.0 == b.0) then rest else (network.direction u n).transit } }
+    record network {
+      direction = λ u n. record (network.direction u n) {
+        transit = if (u.0 == a.0) && (n.0 == b.0) then rest else (network.direction u n).transit;
+      };
+    }
 
 -- the first message in transit is taken, if the end of the session is up; an edge has no session with itself
 abbrev pub delivered : EdgeNetwork → NodeId → NodeId → Bool → Bool → List (Change Key Value) → EdgeNetwork
@@ -63,11 +68,19 @@ is_at a u n = (u.0 == a.0) || (n.0 == a.0)
 -- the sessions that are hit are unjoined, and what is in transit there is lost
 abbrev pub unjoined : (NodeId → NodeId → Bool) → EdgeNetwork → EdgeNetwork
 unjoined hit network =
-    record network { direction = λ u n. record { joined = (network.direction u n).joined && not (hit u n); transit = if hit u n then [] else (network.direction u n).transit } }
+    record network {
+      direction = λ u n. record {
+        joined = (network.direction u n).joined && not (hit u n);
+        transit = if hit u n then [] else (network.direction u n).transit;
+      };
+    }
 
 -- the session of two edges is joined
 abbrev pub with_joined : NodeId → NodeId → EdgeNetwork → EdgeNetwork
-with_joined a b network = record network { direction = λ u n. record (network.direction u n) { joined = (network.direction u n).joined || is_between a b u n } }
+with_joined a b network =
+    record network {
+      direction = λ u n. record (network.direction u n) { joined = (network.direction u n).joined || is_between a b u n };
+    }
 
 -- the loss of a session that is not joined is noticed at an end that is up
 abbrev pub noticed : EdgeNetwork → NodeId → NodeId → Bool → Bool → EdgeNetwork
@@ -77,14 +90,22 @@ noticed network a b joined up = network
 -- Where both ends are down, the session is joined, and the ends come up one after the other: what the first one puts is in transit
 -- before the second one is up.
 abbrev pub raised : EdgeNetwork → NodeId → NodeId → Bool → Bool → Bool → EdgeNetwork
-raised network a b false false false = stepped (stepped (with_joined a b network) a (steps.Raised kinds.Bgp b)) b (steps.Raised kinds.Bgp a)
+raised network a b false false false =
+    stepped (stepped (with_joined a b network) a (steps.Raised kinds.Bgp b)) b (steps.Raised kinds.Bgp a)
 raised network a b same up other_up = network
+
+-- ---- costs
+
+-- an edge knows another core
+abbrev pub with_core : NodeId → Core → EdgeNetwork → EdgeNetwork
+with_core n core network = record network { core = core_at n core network.core }
 
 -- ---- acts
 
 -- What may happen: the first message in transit is taken; a label message is taken, or the end of a label session comes up, or its loss
 -- is noticed; a Join/Prune message is taken; a source is noted, or no longer is; a pattern is selected, or no longer is; a session
--- is lost; its loss is noticed at one end; it is raised; an edge restarts; time passes; and the timers of an edge are run.
+-- is lost; its loss is noticed at one end; it is raised; an edge restarts; time passes; the timers of an edge are run; and an edge takes
+-- over other costs of links, by which it knows another core.
 pub data Act : Type 0 where
   Deliver : (from to : NodeId) → Act
   Label : (node neighbour : NodeId) → (message : LabelMessage) → Act
@@ -101,6 +122,7 @@ pub data Act : Type 0 where
   Restart : (node : NodeId) → Act
   Tick : (ticks : ℕ) → Act
   Timers : (node : NodeId) → Act
+  Reroute : (node : NodeId) → (core : Core) → Act
 
 -- the network behind an act
 abbrev pub act : EdgeNetwork → Act → EdgeNetwork
@@ -111,14 +133,17 @@ act network (LabelNotice n neighbour) = stepped network n (steps.Noticed kinds.L
 act network (Pim n iface message) = stepped network n (steps.Pim iface message)
 act network (Active n iface source group) = stepped network n (steps.Active iface source group)
 act network (Idle n iface source group) = stepped network n (steps.Idle iface source group)
-act network (Select n vrf pattern) = selected network n vrf pattern (is_some (maps.get (network.node n).selections (record { vrf = vrf; pattern = pattern })))
+act network (Select n vrf pattern) =
+    selected network n vrf pattern (is_some (maps.get (network.node n).selections (record { vrf = vrf; pattern = pattern })))
 act network (Unselect n vrf pattern) = stepped network n (steps.Unselect vrf pattern)
 act network (Lose a b) = unjoined (is_between a b) network
-act network (Notice a b) = noticed network a b ((network.direction a b).joined || (network.direction b a).joined) (is_up (network.node a) b)
+act network (Notice a b) =
+    noticed network a b ((network.direction a b).joined || (network.direction b a).joined) (is_up (network.node a) b)
 act network (Raise a b) = raised network a b (a.0 == b.0) (is_up (network.node a) b) (is_up (network.node b) a)
 act network (Restart n) = let cut = unjoined (is_at n) network in record cut { node = at_node n no_control cut.node }
 act network (Tick ticks) = record network { clock = network.clock + ticks }
 act network (Timers n) = stepped network n steps.Timers
+act network (Reroute n core) = stepped (with_core n core network) n steps.Rerouted
 
 -- the network behind a row of acts
 abbrev pub run : EdgeNetwork → List Act → EdgeNetwork

@@ -15,17 +15,21 @@ pub record Direction : Type 0 where
   pub joined : Bool
   pub transit : List (Change Key Value)
 
--- A network: its clock, its scenario and its core; what each edge keeps; and what is between each two of them.
+-- A network: its clock and its scenario; the core that each edge knows; what each edge keeps; and what is between each two of them.
 pub record EdgeNetwork : Type 0 where
   pub clock : ℕ
   pub scenario : Scenario
-  pub core : Core
+  pub core : NodeId → Core
   pub node : NodeId → Control
   pub direction : NodeId → NodeId → Direction
 
 -- the place of an edge in the network
 abbrev pub place_of : EdgeNetwork → NodeId → EdgePlace
-place_of network n = record { scenario = network.scenario; core = network.core; me = n }
+place_of network n = record { scenario = network.scenario; core = network.core n; me = n }
+
+-- one edge knows another core, and all others know theirs
+abbrev pub core_at : NodeId → Core → (NodeId → Core) → NodeId → Core
+core_at at new core n = if n.0 == at.0 then new else core n
 
 -- one edge becomes another, and all others stay
 abbrev pub at_node : NodeId → Control → (NodeId → Control) → NodeId → Control
@@ -38,6 +42,9 @@ behind network n new =
     record network {
       node = at_node n new network.node;
       direction = λ from to. record (network.direction from to) {
-        transit = if (from.0 == n.0) && (network.direction from to).joined then (network.direction from to).transit ++ put_to (place_of network n) (network.node n) new to else (network.direction from to).transit;
+        transit =
+          if (from.0 == n.0) && (network.direction from to).joined
+          then (network.direction from to).transit ++ put_to (place_of network n) (network.node n) new to
+          else (network.direction from to).transit;
       };
     }

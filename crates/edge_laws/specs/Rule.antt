@@ -22,7 +22,10 @@ use Rattle.edge_laws.specs.Network.{EdgeNetwork, place_of}
 -- the selection of a VRF whose route has the key
 abbrev pub selected_in : EdgePlace → Control → Key → OwnVrf → Option Selected
 selected_in place control (Mcast afi (routes.Selective rd source group originator)) own =
-    if eq_by_cmp key_cmp (Mcast afi (routes.Selective rd source group originator)) (selective_key place own.vrf (record { source = source; group = group }))
+    if
+      eq_by_cmp key_cmp
+      (Mcast afi (routes.Selective rd source group originator))
+      (selective_key place own.vrf (record { source = source; group = group }))
     then maps.get control.selections (record { vrf = own.id; pattern = record { source = source; group = group } })
     else None
 selected_in place control other own = None
@@ -30,7 +33,10 @@ selected_in place control other own = None
 -- the first selection of these VRFs whose route has the key
 abbrev pub first_selected : EdgePlace → Control → Key → List OwnVrf → Option Selected
 first_selected place control key [] = None
-first_selected place control key (own ∷ more) = elim (selected_in place control key own) [ None ↦ first_selected place control key more | Some found ↦ Some found ]
+first_selected place control key (own ∷ more) = elim (selected_in place control key own) [
+  | None ↦ first_selected place control key more
+  | Some found ↦ Some found
+]
 
 -- the selection of the edge whose route has the key
 abbrev pub selected_at : EdgePlace → Control → Key → Option Selected
@@ -45,19 +51,22 @@ value_in taken = option_map (λ route. route.value) taken
 -- learned no earlier than its selection was made. On a joined session, before the sender's end is up, nothing is in transit and nothing
 -- was taken; this serves inside a raise alone, since by the rule no end of a joined session is down. Where the session is not joined
 -- nothing is in transit; where the receiver's end is down nothing was taken. A delay is run no earlier than it is over.
-pub record View (clock delay : ℕ) (joined near far : Bool) (out : Option Value) (picked : Option Selected) (taken : Option TakenRoute) (pending : List (Option Value)) : Type 0 where
+pub record View (clock delay : ℕ) (joined near far : Bool) (out : Option Value) (picked : Option Selected) (taken : Option TakenRoute)
+    (pending : List (Option Value)) : Type 0 where
   pub leads : joined ≡ true → near ≡ true → Leads (value_in taken) pending out
   pub blank : joined ≡ true → near ≡ false → (pending ≡ []) × (taken ≡ None)
   pub quiet : joined ≡ false → pending ≡ []
   pub off : far ≡ false → taken ≡ None
   pub past : (selected : Selected) → picked ≡ Some selected → selected.since ≤ clock
-  pub timely : (selected : Selected) (route : TakenRoute) → joined ≡ true → near ≡ true → pending ≡ [] → picked ≡ Some selected → taken ≡ Some route → selected.since ≤ route.since
+  pub timely : (selected : Selected) (route : TakenRoute) → joined ≡ true → near ≡ true → pending ≡ []
+      → picked ≡ Some selected → taken ≡ Some route → selected.since ≤ route.since
   pub due : (route : TakenRoute) → taken ≡ Some route → route.run ≡ true → route.since + delay ≤ clock
 
 abbrev pub ViewAt : EdgeNetwork → NodeId → NodeId → Key → Type 0
 ViewAt network a b key =
-    View network.clock network.scenario.delay (network.direction a b).joined (is_up (network.node a) b) (is_up (network.node b) a) (maps.get (told (place_of network a) (network.node a) b) key)
-    (selected_at (place_of network a) (network.node a) key) (maps.get (taken_from (network.node b) a) key) (values_at key_cmp key (network.direction a b).transit)
+    View network.clock network.scenario.delay (network.direction a b).joined (is_up (network.node a) b) (is_up (network.node b) a)
+    (maps.get (told (place_of network a) (network.node a) b) key) (selected_at (place_of network a) (network.node a) key)
+    (maps.get (taken_from (network.node b) a) key) (values_at key_cmp key (network.direction a b).transit)
 
 -- ---- the rule
 
@@ -73,4 +82,5 @@ pub record Rule (network : EdgeNetwork) : Type 0 where
 
 -- the values of the routes that were taken from a peer
 abbrev pub taken_values : Control → NodeId → Table
-taken_values control peer = maps.from_entries (map (λ (entry : Key × TakenRoute). (entry.0, entry.1.value)) (maps.entries (taken_from control peer)))
+taken_values control peer =
+    maps.from_entries (map (λ (entry : Key × TakenRoute). (entry.0, entry.1.value)) (maps.entries (taken_from control peer)))

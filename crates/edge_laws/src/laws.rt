@@ -18,8 +18,9 @@ ghost use Rattle.edge_laws.specs.Rule.{Rule, selected_at, taken_values};
 
 /// A network in which nothing has happened meets the rule.
 pub fn start_keeps_the_rule()
-    ensures { (scenario : Scenario) (core : Core) → Rules scenario →
-        Rule (record { clock = 0; scenario = scenario; core = core; node = λ n. no_control; direction = λ a b. record { joined = false; transit = [] } }) }
+    ensures { (scenario : Scenario) (core : NodeId → Core) → Rules scenario →
+        Rule (record { clock = 0; scenario = scenario; core = core; node = λ n. no_control;
+          direction = λ a b. record { joined = false; transit = [] } }) }
 {}
 
 /// Whatever happens, the rule is kept.
@@ -34,15 +35,18 @@ pub fn tables_are_in_step()
         LeadsTo (taken_values (network.node b) a) (network.direction a b).transit (held_for (place_of network a) (network.node a) b) }
     ensures reached { (network : EdgeNetwork) (a b : NodeId) → Rule network → a ≢ b → (network.direction a b).joined ≡ true →
         applied_all (taken_values (network.node b) a) (network.direction a b).transit ≡ held_for (place_of network a) (network.node a) b }
-    ensures changing { (network : EdgeNetwork) (a b : NodeId) (before after : List (Change Key Value)) (change : Change Key Value) → Rule network → a ≢ b → (network.direction a b).joined ≡ true →
-        (network.direction a b).transit ≡ before ++ change ∷ after → maps.get (applied_all (taken_values (network.node b) a) before) (key_of change) ≢ value_of change }
+    ensures changing { (network : EdgeNetwork) (a b : NodeId) (before after : List (Change Key Value)) (change : Change Key Value) →
+        Rule network → a ≢ b → (network.direction a b).joined ≡ true → (network.direction a b).transit ≡ before ++ change ∷ after →
+        maps.get (applied_all (taken_values (network.node b) a) before) (key_of change) ≢ value_of change }
 {}
 
 /// On a session that is joined, where no change of a key is in transit, its route was learned no earlier than its selection was made. On
 /// any session, no delay of a route is run before it is over.
 pub fn routes_are_learned_no_earlier()
-    ensures learned { (network : EdgeNetwork) (a b : NodeId) (key : Key) (selected : Selected) (route : TakenRoute) → Rule network → a ≢ b → (network.direction a b).joined ≡ true →
-        values_at key_cmp key (network.direction a b).transit ≡ [] → selected_at (place_of network a) (network.node a) key ≡ Some selected → maps.get (taken_from (network.node b) a) key ≡ Some route → selected.since ≤ route.since }
+    ensures learned { (network : EdgeNetwork) (a b : NodeId) (key : Key) (selected : Selected) (route : TakenRoute) →
+        Rule network → a ≢ b → (network.direction a b).joined ≡ true → values_at key_cmp key (network.direction a b).transit ≡ [] →
+        selected_at (place_of network a) (network.node a) key ≡ Some selected →
+        maps.get (taken_from (network.node b) a) key ≡ Some route → selected.since ≤ route.since }
     ensures over { (network : EdgeNetwork) (a b : NodeId) (key : Key) (route : TakenRoute) → Rule network → a ≢ b →
         maps.get (taken_from (network.node b) a) key ≡ Some route → route.run ≡ true → route.since + network.scenario.delay ≤ network.clock }
 {}

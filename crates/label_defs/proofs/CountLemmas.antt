@@ -1,14 +1,18 @@
 -- How many labels are free, and how many trees need one.
-use Rattle.std.proofs.Common.{◌≡◌, ℕ, ◌+◌, ◌-◌, ◌<◌, zero, suc, Bool, true, false, not, cond, ◌&&◌, ◌||◌, List, [], ◌∷◌, map, filter, count_by, slice_get, slice_set, Some, inl, inr, refl, sym, ap, subst, ◌∙◌, arith}
+use Rattle.std.proofs.Common.{◌≡◌, ℕ, ◌+◌, ◌<◌, ◌≤◌, zero, suc, Bool, true, false, cond, ◌&&◌, ◌||◌, List, [], ◌∷◌, map, filter, count_by, slice_get, slice_set, Some, inl, inr, refl, sym, ap, subst, ◌∙◌, arith}
+use Rattle.std.specs.Bool.{⊤}
 use Rattle.std.specs.List.{list_any}
 use Rattle.std.specs.FinSet as sets
 use Rattle.std.specs.FinSet.{FinSet}
-use Rattle.std.proofs.lemmas.Bool.{or_left, and_left}
+use Rattle.std.proofs.lemmas.Bool.{or_left}
 use Rattle.std.proofs.lemmas.List.Sums.{sum_by-cons, sum_by-set}
 use Rattle.std.proofs.lemmas.Option.{slice_get_within, get_or_from_slice_get}
 use Rattle.mldp_fec.specs.declared.fec.Fec.{Fec}
 use Rattle.label_defs.specs.Keys.{fec_cmp}
 use Rattle.label_defs.specs.LabelData.{same_fec}
+use Rattle.label_defs.specs.Members.{in_order}
+use Rattle.label_defs.specs.Laws.{passing}
+use Rattle.label_defs.proofs.MemberLemmas.{once_in_order}
 use Rattle.label_defs.proofs.KeyLemmas.{fec_cmp_total, fec_cmp_exact, fec_cases, same_fec_itself, fec_apart}
 use Rattle.label_defs.proofs.TreeLemmas.{not_both}
 
@@ -39,9 +43,6 @@ count_as p q same (x ∷ xs) = count-cons p x xs ∙ (λ i. cond (same x i) 1 0 
 
 -- ---- trees that pass
 
-abbrev pub passing : (Fec → Bool) → List Fec → FinSet fec_cmp
-passing p fecs = sets.from_list {R = fec_cmp} (filter p fecs)
-
 any_filtered : (p : Fec → Bool) (q : Fec) (fecs : List Fec) → list_any (same_fec q) (filter p fecs) ≡ (p q && list_any (same_fec q) fecs)
 any_filtered p q [] = by (p q)
   where
@@ -69,19 +70,6 @@ any_filtered p q (x ∷ xs) = by (p x) refl (any_filtered p q xs)
 pub contains-passing : (p : Fec → Bool) (q : Fec) (fecs : List Fec) → sets.contains (passing p fecs) q ≡ (p q && list_any (same_fec q) fecs)
 contains-passing p q fecs = sets.contains-from_list fec_cmp_total (filter p fecs) q ∙ any_filtered p q fecs
 
--- a test that one tree no longer passes
-pub one_less : (p q : Fec → Bool) (fec : Fec) (fecs : List Fec) → q fec ≡ false → ((other : Fec) → (other ≡ fec → ⊥) → q other ≡ p other) → passing q fecs ≡ sets.remove (passing p fecs) fec
-one_less p q fec fecs no_more same =
-    sets.same_set fec_cmp_total fec_cmp_exact (passing q fecs) (sets.remove (passing p fecs) fec) (λ x. contains-passing q x fecs ∙ by x ∙ sym (sets.contains-remove fec_cmp_total (passing p fecs) fec x ∙ ap (λ b. not (same_fec x fec) && b) (contains-passing p x fecs)))
-  where
-    by : (x : Fec) → (q x && list_any (same_fec x) fecs) ≡ (not (same_fec x fec) && (p x && list_any (same_fec x) fecs))
-    by x = elim (fec_cases x fec) [
-      | inl e ↦
-          let here : same_fec x fec ≡ true = subst (λ y. same_fec x y ≡ true) e (same_fec_itself x) in
-          (λ i. (ap q e ∙ no_more) i && list_any (same_fec x) fecs) ∙ sym (λ i. not (here i) && (p x && list_any (same_fec x) fecs))
-      | inr ne ↦ (λ i. same x ne i && list_any (same_fec x) fecs) ∙ sym (λ i. not (fec_apart x fec ne i) && (p x && list_any (same_fec x) fecs))
-    ]
-
 -- a set with a member is not empty
 pub has_member : (s : FinSet fec_cmp) (fec : Fec) → sets.contains s fec ≡ true → 0 < sets.len s
 has_member s fec e = by (sets.len s) refl
@@ -90,24 +78,62 @@ has_member s fec e = by (sets.len s) refl
     by zero h = absurd (not_both (sets.contains s fec) e (ap (λ t. sets.contains t fec) (sets.empty_of_len s h) ∙ sets.contains-empty fec_cmp fec))
     by (suc n) h = omega arith
 
--- how many pass, where the first no longer passes
-pub fewer : (p q : Fec → Bool) (fec : Fec) (more : List Fec) → q fec ≡ false → ((other : Fec) → (other ≡ fec → ⊥) → q other ≡ p other)
-    → sets.len (passing q more) + cond (p fec) 1 0 ≡ sets.len (passing p (fec ∷ more))
-fewer p q fec more no_more same =
-    by (p fec) (sets.contains (passing p more) fec) refl refl (ap sets.len (one_less p q fec more no_more same) ∙ sets.len-remove fec_cmp_total (passing p more) fec)
+-- no tree is listed two times
+abbrev pub Distinct : List Fec → Type 0
+Distinct [] = ⊤
+Distinct (fec ∷ more) = (list_any (same_fec fec) more ≡ false) × Distinct more
+
+none_counted : (fec : Fec) (fecs : List Fec) → count_by (same_fec fec) fecs ≡ 0 → list_any (same_fec fec) fecs ≡ false
+none_counted fec [] e = refl
+none_counted fec (x ∷ more) e = by (none_counted fec more) (same_fec fec x) (sym (count-cons (same_fec fec) x more) ∙ e)
   where
-    by : (t c : Bool) → p fec ≡ t → sets.contains (passing p more) fec ≡ c → sets.len (passing q more) ≡ cond (sets.contains (passing p more) fec) (sets.len (passing p more) - 1) (sets.len (passing p more))
-        → sets.len (passing q more) + cond t 1 0 ≡ sets.len (sets.from_list {R = fec_cmp} (cond t (fec ∷ filter p more) (filter p more)))
-    by true true e h left =
-        let less = left ∙ ap (λ b. cond b (sets.len (passing p more) - 1) (sets.len (passing p more))) h in
-        let whole = sets.len-insert fec_cmp_total (passing p more) fec ∙ ap (λ b. cond b (sets.len (passing p more)) (sets.len (passing p more) + 1)) h in
-        let some = has_member (passing p more) fec h in
-        omega (arith, less, some) ∙ sym whole
-    by true false e h left =
-        let less = left ∙ ap (λ b. cond b (sets.len (passing p more) - 1) (sets.len (passing p more))) h in
-        let whole = sets.len-insert fec_cmp_total (passing p more) fec ∙ ap (λ b. cond b (sets.len (passing p more)) (sets.len (passing p more) + 1)) h in
-        omega (arith, less) ∙ sym whole
-    by false true e h left = absurd (not_both (sets.contains (passing p more) fec) h (contains-passing p fec more ∙ and_left (p fec) (list_any (same_fec fec) more) e))
-    by false false e h left =
-        let less = left ∙ ap (λ b. cond b (sets.len (passing p more) - 1) (sets.len (passing p more))) h in
-        omega (arith, less)
+    by : (count_by (same_fec fec) more ≡ 0 → list_any (same_fec fec) more ≡ false) → (t : Bool) → cond t 1 0 + count_by (same_fec fec) more ≡ 0 → (t || list_any (same_fec fec) more) ≡ false
+    by rest true h = absurd (omega (arith, h))
+    by rest false h = rest (omega (arith, h))
+
+each_once : (fecs : List Fec) → ((fec : Fec) → count_by (same_fec fec) fecs ≤ 1) → Distinct fecs
+each_once [] once = tt
+each_once (fec ∷ more) once = (
+  none_counted fec more (
+      let here : cond {A = ℕ} (same_fec fec fec) 1 0 ≡ 1 = ap (λ b. cond b 1 0) (same_fec_itself fec) in
+      let sum = count-cons (same_fec fec) fec more in
+      let most = once fec in
+      omega (arith, here, sum, most)),
+  each_once more (λ x. let sum = count-cons (same_fec x) fec more in let most = once x in omega (arith, sum, most)),
+)
+
+pub distinct_in_order : (s : FinSet fec_cmp) → Distinct (in_order s)
+distinct_in_order s = each_once (in_order s) (λ fec. at_most (sets.contains s fec) (once_in_order fec_cmp_total s fec))
+  where
+    at_most : (t : Bool) {n : ℕ} → n ≡ cond t 1 0 → n ≤ 1
+    at_most true e = omega (arith, e)
+    at_most false e = omega (arith, e)
+
+-- how many pass, without the first
+module _ (p q : Fec → Bool) (fec : Fec) (more : List Fec) (apart : list_any (same_fec fec) more ≡ false) (same : (other : Fec) → (other ≡ fec → ⊥) → q other ≡ p other) where
+  both_false : (a b : Bool) → (a && false) ≡ (b && false)
+  both_false true true = refl
+  both_false true false = refl
+  both_false false true = refl
+  both_false false false = refl
+
+  among : (x : Fec) → (q x && list_any (same_fec x) more) ≡ (p x && list_any (same_fec x) more)
+  among x = elim (fec_cases x fec) [
+    | inl e ↦
+        let none : list_any (same_fec x) more ≡ false = subst (λ y. list_any (same_fec y) more ≡ false) (sym e) apart in
+        (λ i. q x && none i) ∙ both_false (q x) (p x) ∙ sym (λ i. p x && none i)
+    | inr ne ↦ λ i. same x ne i && list_any (same_fec x) more
+  ]
+
+  as_many : passing q more ≡ passing p more
+  as_many = sets.same_set fec_cmp_total fec_cmp_exact (passing q more) (passing p more) (λ x. contains-passing q x more ∙ among x ∙ sym (contains-passing p x more))
+
+  not_in : sets.contains (passing p more) fec ≡ false
+  not_in = contains-passing p fec more ∙ (λ i. p fec && apart i) ∙ both_false (p fec) false
+
+  pub fewer : sets.len (passing q more) + cond (p fec) 1 0 ≡ sets.len (passing p (fec ∷ more))
+  fewer = (λ i. sets.len (as_many i) + cond (p fec) 1 0) ∙ by (p fec)
+    where
+      by : (t : Bool) → sets.len (passing p more) + cond t 1 0 ≡ sets.len (sets.from_list {R = fec_cmp} (cond t (fec ∷ filter p more) (filter p more)))
+      by true = sym (sets.len-insert fec_cmp_total (passing p more) fec ∙ ap (λ b. cond b (sets.len (passing p more)) (sets.len (passing p more) + 1)) not_in)
+      by false = omega arith

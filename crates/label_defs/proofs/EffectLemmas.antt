@@ -15,7 +15,7 @@ use Rattle.label_defs.specs.declared.label_use.LabelUse.TheVariants as uses
 use Rattle.label_defs.specs.Keys.{branch_cmp}
 use Rattle.label_defs.specs.LabelData.{Place, LabelData, same_fec, use_of, has_branch, has_tree, is_up}
 use Rattle.label_defs.specs.Settling.{with_use}
-use Rattle.label_defs.specs.Steps.{branch_to, released, with_release}
+use Rattle.label_defs.specs.Steps.{branch_to, released, with_release, raised_end}
 use Rattle.label_defs.specs.Settled.{Maps, AllSettled}
 use Rattle.label_defs.specs.Members.{in_order}
 use Rattle.label_defs.proofs.KeyLemmas.{fec_cmp_total, fec_cmp_exact, branch_cmp_total, branch_cmp_exact, node_cmp_total, node_cmp_exact, same_fec_equal, same_fec_from, node_cases}
@@ -91,10 +91,10 @@ not_up None e = refl
 not_up (Some end) e = absurd cc
 
 pub raised : (place : Place) (part : LabelData) (peer : NodeId) (now : ℕ) → is_up part peer ≡ false → AllSettled place part
-    → Good place [] (record part { ends = maps.insert part.ends peer (record { raised = now; held = false }); ids = maps.insert part.ids peer 1 })
+    → Good place [] (record part { ends = maps.insert part.ends peer (raised_end now) })
 raised place part peer now down all =
-    let end : End = record { raised = now; held = false } in
-    let new : LabelData = record part { ends = maps.insert part.ends peer end; ids = maps.insert part.ids peer 1 } in
+    let end : End = raised_end now in
+    let new : LabelData = record part { ends = maps.insert part.ends peer end } in
     good_from place [] part new
     (λ fec. record {
       maps = λ l u p. p;

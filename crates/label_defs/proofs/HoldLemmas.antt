@@ -1,5 +1,5 @@
 -- A hold is run by the timers alone, and when it is due; a noticed loss ends what the session had.
-use Rattle.std.proofs.Common.{◌≡◌, ℕ, ◌+◌, ◌≤◌, ◌==◌, nat_le, Bool, true, false, not, cond, ◌&&◌, ◌||◌, ◌⊎◌, inl, inr, List, Option, Some, None, option_map, is_some, refl, sym, ap, subst, ◌∙◌}
+use Rattle.std.proofs.Common.{◌≡◌, ℕ, ◌+◌, ◌≤◌, ◌==◌, nat_le, Bool, true, false, not, ◌&&◌, ◌||◌, ◌⊎◌, inl, inr, List, Some, option_map, is_some, refl, sym, ap, subst, ◌∙◌}
 use Rattle.std.specs.FinMap as maps
 use Rattle.std.specs.FinMap.{FinMap}
 use Rattle.std.specs.FinSet as sets
@@ -7,7 +7,6 @@ use Rattle.std.proofs.lemmas.Bool.{cases_Bool, cases_eq, cond-true, cond-false, 
 use Rattle.std.proofs.lemmas.Option.{same_Some, none-some}
 use Rattle.mv_base.specs.declared.ids.NodeId.{NodeId}
 use Rattle.mldp_fec.specs.declared.fec.Fec.{Fec}
-use Rattle.mldp_msgs.specs.declared.message.LabelMessage.TheVariants as messages
 use Rattle.label_defs.specs.declared.branch.Branch.{Branch}
 use Rattle.label_defs.specs.declared.end.End.{End}
 use Rattle.label_defs.specs.declared.label_use.LabelUse.{LabelUse}
@@ -16,8 +15,8 @@ use Rattle.label_defs.specs.declared.put.Put.{Put}
 use Rattle.label_defs.specs.Keys.{node_cmp}
 use Rattle.label_defs.specs.LabelData.{Place, LabelData, use_of, is_up, is_ready, is_hold_due}
 use Rattle.label_defs.specs.Settling.{Stepped, with_use}
-use Rattle.label_defs.specs.Steps.{Call, Taken, Want, Unwant, Raised, Noticed, Timers, released, with_release, freed, hold_run, without_session, effect, label_step}
-use Rattle.label_defs.specs.Laws.{is_towards}
+use Rattle.label_defs.specs.Steps.{Call, Taken, Want, Unwant, Raised, Noticed, Timers, Rerouted, freed, hold_run, raised_end, without_session, effect, label_step}
+use Rattle.label_defs.specs.Laws.{is_towards, HeldBefore, HeldSince}
 use Rattle.label_defs.proofs.KeyLemmas.{branch_cmp_total, branch_cmp_exact, node_cmp_total, node_cmp_exact, node_cases, node_apart}
 use Rattle.label_defs.proofs.UseLemmas.{used, set_here, set_there, used-map, map_some}
 use Rattle.label_defs.proofs.SetLemmas.{retained, put_here, put_other, cut_here, cut_other}
@@ -25,67 +24,56 @@ use Rattle.label_defs.proofs.TreeLemmas.{not_both}
 use Rattle.label_defs.proofs.EffectLemmas.{held}
 use Rattle.label_defs.proofs.TimerLemmas.{timed_end}
 use Rattle.label_defs.proofs.TurnLemmas.{Turn}
+use Rattle.label_defs.proofs.IdLemmas.{passed, passed_held, passed_raised, up_after, counted_ready, step_ends, step_end, effect_ends}
 use Rattle.label_defs.proofs.OwnLemmas.{step_keeps, rest_ready}
 
 -- ---- holds
 
-ends_of : (place : Place) (now : ℕ) (part : LabelData) (call : Call) (new : Stepped) → label_step place now part call ≡ Some new → new.part.ends ≡ (effect place now part call).0.part.ends
-ends_of place now part call new e =
-    step_keeps place now part call new (λ p puts. p.ends ≡ (effect place now part call).0.part.ends) (λ old puts fec next more t x. t.rest.ends ∙ x) (λ old x. x) refl e
-
 -- a hold that runs was run before, or is due
-held_before : (life now : ℕ) (before after : End) → hold_run life now before ≡ after → after.held ≡ true → (before ≡ after) ⊎ (after.raised + life + 1 ≤ now)
+held_before : (life now : ℕ) (before after : End) → hold_run life now before ≡ after → after.held ≡ true → (before.held ≡ true) ⊎ (after.raised + life + 1 ≤ now)
 held_before life now before after e h =
     let raised : before.raised ≡ after.raised = ap (λ (x : End). x.raised) e in
     let held : (before.held || is_hold_due life now before) ≡ true = ap (λ (x : End). x.held) e ∙ h in
     elim (or_cases before.held (is_hold_due life now before) held) [
-      | inl t ↦ inl (λ i. record { raised = raised i; held = (t ∙ sym h) i })
+      | inl t ↦ inl t
       | inr t ↦
           let due = and_parts (not before.held) (nat_le (before.raised + life + 1) now) t in
           inr (subst (λ (moment : ℕ). moment + life + 1 ≤ now) raised (leb-true (before.raised + life + 1) now due.1))
     ]
 
-kept_ends : (place : Place) (now : ℕ) (part : LabelData) (from : NodeId) (fec : Fec) (label until : ℕ) → (with_release part from fec label until).ends ≡ part.ends
-kept_ends place now part from fec label until = by (use_of part label)
-  where
-    by : (o : Option LabelUse) → (let next : LabelData = elim o [ None ↦ part | Some usage ↦ with_use part label (released from fec until usage) ] in next.ends) ≡ part.ends
-    by None = refl
-    by (Some usage) = refl
-
-mapping_ends : (part next : LabelData) (t : Bool) → next.ends ≡ part.ends → (cond t next part).ends ≡ part.ends
-mapping_ends part next true e = e
-mapping_ends part next false e = refl
-
 own_held : (place : Place) (now : ℕ) (part : LabelData) (call : Call) (node : NodeId) (end : End) → maps.get (effect place now part call).0.part.ends node ≡ Some end → end.held ≡ true
-    → (maps.get part.ends node ≡ Some end) ⊎ ((call ≡ Timers) × (end.raised + place.life + 1 ≤ now))
-own_held place now part (Taken from (messages.Mapping fec label)) node end e h = inl (ap (λ (ends : FinMap node_cmp End). maps.get ends node) (sym (mapping_ends part _ (place.is_tree fec) refl)) ∙ e)
-own_held place now part (Taken from (messages.Withdraw fec label)) node end e h = inl e
-own_held place now part (Taken from (messages.Release fec label)) node end e h = inl (ap (λ (ends : FinMap node_cmp End). maps.get ends node) (sym (kept_ends place now part from fec label (now + place.life + 1))) ∙ e)
-own_held place now part (Taken from (messages.Ignored kind)) node end e h = inl e
-own_held place now part (Want fec) node end e h = inl e
-own_held place now part (Unwant fec) node end e h = inl e
+    → HeldBefore part node end ⊎ ((call ≡ Timers) × (end.raised + place.life + 1 ≤ now))
+own_held place now part (Taken from message) node end e h = inl (end, ap (λ (ends : FinMap node_cmp End). maps.get ends node) (sym (effect_ends place now part from message)) ∙ e, h, refl)
+own_held place now part (Want fec) node end e h = inl (end, e, h, refl)
+own_held place now part (Unwant fec) node end e h = inl (end, e, h, refl)
+own_held place now part Rerouted node end e h = inl (end, e, h, refl)
 own_held place now part (Raised peer) node end e h = elim (node_cases node peer) [
-  | inr ne ↦ inl (sym (put_other node_cmp_total node_cmp_exact part.ends peer (record { raised = now; held = false }) node ne) ∙ e)
+  | inr ne ↦ inl (end, sym (put_other node_cmp_total node_cmp_exact part.ends peer (raised_end now) node ne) ∙ e, h, refl)
   | inl same ↦
-      let fresh : End = record { raised = now; held = false } in
-      let is : fresh ≡ end = same_Some fresh end (sym (ap (maps.get (maps.insert part.ends peer fresh)) same ∙ put_here node_cmp_total node_cmp_exact part.ends peer fresh) ∙ e) in
+      let is : raised_end now ≡ end = same_Some (raised_end now) end (sym (ap (maps.get (maps.insert part.ends peer (raised_end now))) same ∙ put_here node_cmp_total node_cmp_exact part.ends peer (raised_end now)) ∙ e) in
       absurd (not_both end.held h (sym (ap (λ (x : End). x.held) is)))
 ]
 own_held place now part (Noticed peer) node end e h = elim (node_cases node peer) [
-  | inr ne ↦ inl (sym (cut_other node_cmp_total node_cmp_exact part.ends peer node ne) ∙ e)
+  | inr ne ↦ inl (end, sym (cut_other node_cmp_total node_cmp_exact part.ends peer node ne) ∙ e, h, refl)
   | inl same ↦ absurd (none-some end (sym (ap (maps.get (maps.remove part.ends peer)) same ∙ cut_here node_cmp_total node_cmp_exact part.ends peer) ∙ e))
 ]
 own_held place now part Timers node end e h =
     let x = map_some (hold_run place.life now) (maps.get part.ends node) end (sym (timed_end place now part node) ∙ e) in
     elim (held_before place.life now x.0 end x.2 h) [
-      | inl same ↦ inl (x.1 ∙ ap (λ (y : End). Some y) same)
+      | inl was ↦ inl (x.0, x.1, was, ap (λ (y : End). y.raised) x.2)
       | inr due ↦ inr (refl, due)
     ]
 
 pub held_when : (place : Place) (now : ℕ) (part : LabelData) (call : Call) (new : Stepped) (node : NodeId) (end : End) → label_step place now part call ≡ Some new → maps.get new.part.ends node ≡ Some end → end.held ≡ true
-    → (maps.get part.ends node ≡ Some end) ⊎ ((call ≡ Timers) × (end.raised + place.life + 1 ≤ now))
+    → HeldBefore part node end ⊎ ((call ≡ Timers) × (end.raised + place.life + 1 ≤ now))
 held_when place now part call new node end e is h =
-    own_held place now part call node end (ap (λ (ends : FinMap node_cmp End). maps.get ends node) (sym (ends_of place now part call new e)) ∙ is) h
+    let x = map_some (passed node new.puts) (maps.get (effect place now part call).0.part.ends node) end (sym (step_end place now part call new node e) ∙ is) in
+    let raised : x.0.raised ≡ end.raised = sym (passed_raised node new.puts x.0) ∙ ap (λ (y : End). y.raised) x.2 in
+    let was : x.0.held ≡ true = sym (passed_held node new.puts x.0) ∙ ap (λ (y : End). y.held) x.2 ∙ h in
+    elim (own_held place now part call node x.0 x.1 was) [
+      | inl before ↦ inl (before.0, before.1, before.2, before.3 ∙ raised)
+      | inr due ↦ inr (due.0, subst (λ (moment : ℕ). moment + place.life + 1 ≤ now) raised due.1)
+    ]
 
 due_runs : (life now : ℕ) (end : End) → end.raised + life + 1 ≤ now → (end.held || is_hold_due life now end) ≡ true
 due_runs life now end due = by end.held
@@ -95,10 +83,14 @@ due_runs life now end due = by end.held
     by false = le-leb (end.raised + life + 1) now due
 
 pub hold_runs : (place : Place) (now : ℕ) (part : LabelData) (new : Stepped) (node : NodeId) (end : End) → label_step place now part Timers ≡ Some new → maps.get part.ends node ≡ Some end → end.raised + place.life + 1 ≤ now
-    → maps.get new.part.ends node ≡ Some (record { raised = end.raised; held = true })
+    → HeldSince new.part node end.raised
 hold_runs place now part new node end e is due =
-    ap (λ (ends : FinMap node_cmp End). maps.get ends node) (ends_of place now part Timers new e) ∙ timed_end place now part node ∙ ap (option_map (hold_run place.life now)) is
-    ∙ ap (λ (b : Bool). Some (record { raised = end.raised; held = b })) (due_runs place.life now end due)
+    let run : End = hold_run place.life now end in (
+      passed node new.puts run,
+      step_end place now part Timers new node e ∙ ap (option_map (passed node new.puts)) (timed_end place now part node ∙ ap (option_map (hold_run place.life now)) is),
+      passed_held node new.puts run ∙ due_runs place.life now end due,
+      passed_raised node new.puts run,
+    )
 
 -- ---- losses
 
@@ -156,7 +148,7 @@ own_ended part peer =
 pub loss_frees : (place : Place) (now : ℕ) (part : LabelData) (peer : NodeId) (new : Stepped) (label : ℕ) (usage : LabelUse) → label_step place now part (Noticed peer) ≡ Some new → use_of new.part label ≡ Some usage → is_towards peer usage ≡ false
 loss_frees place now part peer new label usage e is =
     (step_keeps place now part (Noticed peer) new (λ p puts. Ended peer p) (λ old puts fec next more t x. ended_turn place peer old fec next more t x)
-    (λ old x. record { labels = x.labels; ready = x.ready }) (own_ended part peer) e).labels label usage is
+    (λ old x. record { labels = x.labels; ready = counted_ready old peer ∙ x.ready }) (own_ended part peer) e).labels label usage is
 
 pub loss_drops : (place : Place) (now : ℕ) (part : LabelData) (peer : NodeId) (new : Stepped) (branch : Branch) → label_step place now part (Noticed peer) ≡ Some new
     → sets.contains new.part.branches branch ≡ (sets.contains part.branches branch && not (branch.node.0 == peer.0))
@@ -167,4 +159,6 @@ loss_drops place now part peer new branch e =
     ap (λ branches. sets.contains branches branch) same ∙ retained branch_cmp_total branch_cmp_exact part.branches kept branch
 
 pub loss_downs : (place : Place) (now : ℕ) (part : LabelData) (peer : NodeId) (new : Stepped) → label_step place now part (Noticed peer) ≡ Some new → is_up new.part peer ≡ false
-loss_downs place now part peer new e = ap (λ (ends : FinMap node_cmp End). is_some (maps.get ends peer)) (ends_of place now part (Noticed peer) new e) ∙ ap is_some (cut_here node_cmp_total node_cmp_exact part.ends peer)
+loss_downs place now part peer new e =
+    ap (λ (ends : FinMap node_cmp End). is_some (maps.get ends peer)) (step_ends place now part (Noticed peer) new e) ∙ up_after (maps.remove part.ends peer) new.puts peer
+    ∙ ap is_some (cut_here node_cmp_total node_cmp_exact part.ends peer)

@@ -9,12 +9,14 @@ pub mod LossLemmas
 pub mod TimerLemmas
 pub mod StepLemmas
 pub mod TurnLemmas
+pub mod IdLemmas
 pub mod OwnLemmas
 pub mod RestLemmas
 pub mod HoldLemmas
 pub mod MappingLemmas
 pub mod CountLemmas
 pub mod LackLemmas
+pub mod RerouteLemmas
 pub mod NoLabelLemmas
 pub mod Row
 pub mod WithdrawLemmas

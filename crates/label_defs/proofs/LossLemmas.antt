@@ -63,7 +63,6 @@ loss_tied place part peer fec t =
           let y = t.toward i u x.0 in
           (y.0, ready_stays part peer u x.1 ∙ y.1);
       apart = λ i u p. t.apart i u (freed_was part peer fec i u p).0;
-      root = t.root;
     }
 
 -- ---- trees that the node does not have

@@ -15,13 +15,14 @@ use Rattle.label_defs.specs.declared.label_use.LabelUse.TheVariants as uses
 use Rattle.label_defs.specs.declared.put.Put.{Put}
 use Rattle.label_defs.specs.LabelData.{Place, LabelData, use_of, has_tree, is_ready}
 use Rattle.label_defs.specs.Settling.{Stepped, with_use}
-use Rattle.label_defs.specs.Steps.{Call, Taken, Want, Unwant, Raised, Noticed, Timers, effect, label_step}
+use Rattle.label_defs.specs.Steps.{Call, Taken, Want, Unwant, Raised, Noticed, Timers, Rerouted, effect, label_step}
 use Rattle.label_defs.specs.Settled.{Maps}
-use Rattle.label_defs.specs.Laws.{takes, MappingIs}
+use Rattle.label_defs.specs.Laws.{takes, mapping_to, MappingIs}
 use Rattle.label_defs.proofs.UseLemmas.{used, set_here, set_there}
-use Rattle.label_defs.proofs.TreeLemmas.{not_both, one_tree}
+use Rattle.label_defs.proofs.TreeLemmas.{one_tree}
 use Rattle.label_defs.proofs.EffectLemmas.{held}
-use Rattle.label_defs.proofs.TurnLemmas.{Turn, Quiet, Takes, Gives}
+use Rattle.label_defs.proofs.TurnLemmas.{Turn, Quiet, Takes, Gives, Off, on_it}
+use Rattle.label_defs.proofs.IdLemmas.{counted_ready}
 use Rattle.label_defs.proofs.OwnLemmas.{step_keeps, rest_tree, rest_ready, free_then, then_free}
 
 -- a part of a list with one more element behind it
@@ -37,9 +38,6 @@ snoc_split (w ∷ xs) (y ∷ front) x put behind e =
       | inl r ↦ inl (r.0, λ i. same i ∷ r.1 i)
       | inr r ↦ inr (λ i. same i ∷ r.0 i, r.1)
     ]
-
-abbrev mapping : NodeId → Fec → ℕ → Put
-mapping to fec label = record { to = to; message = messages.Mapping fec label }
 
 abbrev takes_by : ℕ → Put → Bool
 takes_by label put = takes label put.message
@@ -57,7 +55,7 @@ record Traced (place : Place) (start part : LabelData) (puts : List Put) : Type 
   -- what is free was so, and what was free is so or was taken
   free : (label : ℕ) → use_of part label ≡ Some uses.Free → use_of start label ≡ Some uses.Free
   taken : (label : ℕ) → use_of start label ≡ Some uses.Free → (use_of part label ≡ Some uses.Free) ⊎ (list_any (takes_by label) puts ≡ true)
-  found : (before behind : List Put) (to : NodeId) (fec : Fec) (label : ℕ) → puts ≡ before ++ mapping to fec label ∷ behind → Found place start part before to fec label
+  found : (before behind : List Put) (to : NodeId) (fec : Fec) (label : ℕ) → puts ≡ before ++ mapping_to to fec label ∷ behind → Found place start part before to fec label
 
 same_found : (place : Place) (start part : LabelData) (a b : List Put) (u v : NodeId) (f g : Fec) (l k : ℕ) → a ≡ b → u ≡ v → f ≡ g → l ≡ k → Found place start part a u f l → Found place start part b v g k
 same_found place start part a b u v f g l k ea eu ef el x =
@@ -84,7 +82,7 @@ module _ (place : Place) (start old : LabelData) (fec : Fec) (next : LabelData) 
 
   takes_traced : Turn place old fec next more → Takes place old fec next more → Traced place start old puts → Traced place start next (puts ++ more)
   takes_traced t m x =
-      let one : Put = mapping m.to fec m.label in
+      let one : Put = mapping_to m.to fec m.label in
       let same : (k : ℕ) → use_of next k ≡ use_of (with_use old m.label (uses.Mapped fec m.to)) k = same_uses old next (with_use old m.label (uses.Mapped fec m.to)).labels m.labels in
       let here : Maps next fec m.label m.to = same m.label ∙ set_here old m.label uses.Free (uses.Mapped fec m.to) m.least.free in
       let there : (k : ℕ) → (k ≡ m.label → ⊥) → use_of next k ≡ use_of old k = λ k ne. same k ∙ set_there old m.label uses.Free (uses.Mapped fec m.to) k m.least.free ne in
@@ -102,7 +100,7 @@ module _ (place : Place) (start old : LabelData) (fec : Fec) (next : LabelData) 
                 ∙ or_right (list_any (takes_by k) puts) (list_any (takes_by k) (one ∷ [])) (or_left (m.label == k) false (eq-eqb m.label k (sym p))))
           ]
         ];
-        found = λ before behind to own label e. elim (snoc_split puts before one (mapping to own label) behind (sym all ∙ e)) [
+        found = λ before behind to own label e. elim (snoc_split puts before one (mapping_to to own label) behind (sym all ∙ e)) [
           | inl r ↦
               let f = x.found before r.0 to own label r.1 in
               record {
@@ -128,7 +126,7 @@ module _ (place : Place) (start old : LabelData) (fec : Fec) (next : LabelData) 
         ];
       }
 
-  gives_traced : Turn place old fec next more → Gives old fec next more → Traced place start old puts → Traced place start next (puts ++ more)
+  gives_traced : Turn place old fec next more → Gives place old fec next more → Traced place start old puts → Traced place start next (puts ++ more)
   gives_traced t w x =
       let one : Put = record { to = w.to; message = messages.Withdraw fec w.label } in
       let same : (k : ℕ) → use_of next k ≡ use_of (with_use old w.label (uses.Leaving fec w.to)) k = same_uses old next (with_use old w.label (uses.Leaving fec w.to)).labels w.labels in
@@ -147,7 +145,7 @@ module _ (place : Place) (start old : LabelData) (fec : Fec) (next : LabelData) 
             | inl p ↦ (let both = same_Some (uses.Mapped fec w.to) uses.Free (sym (ap (use_of old) p ∙ w.was) ∙ is) in absurd cc)
           ]
         ];
-        found = λ before behind to own label e. elim (snoc_split puts before one (mapping to own label) behind (sym all ∙ e)) [
+        found = λ before behind to own label e. elim (snoc_split puts before one (mapping_to to own label) behind (sym all ∙ e)) [
           | inr r ↦ (let message : messages.Withdraw fec w.label ≡ messages.Mapping own label = ap (λ (put : Put). put.message) r.1 in absurd cc)
           | inl r ↦
               let f = x.found before r.0 to own label r.1 in
@@ -158,8 +156,8 @@ module _ (place : Place) (start old : LabelData) (fec : Fec) (next : LabelData) 
                 least = f.least;
                 tree = rest_tree old next t.rest own ∙ f.tree;
                 holds = there label (λ p.
-                    let tree = (one_tree own fec to w.to (same_Some (uses.Mapped own to) (uses.Mapped fec w.to) (sym f.holds ∙ ap (use_of old) p ∙ w.was))).0 in
-                    not_both (has_tree old own) f.tree (ap (has_tree old) tree ∙ w.tree)) ∙ f.holds;
+                    let both = one_tree own fec to w.to (same_Some (uses.Mapped own to) (uses.Mapped fec w.to) (sym f.holds ∙ ap (use_of old) p ∙ w.was)) in
+                    on_it place old own to f.tree f.toward (subst (λ (x : Fec). Off place old x to) (sym both.0) (subst (Off place old fec) (sym both.1) w.off))) ∙ f.holds;
               }
         ];
       }
@@ -181,31 +179,32 @@ pub none_first : (before behind : List Put) (put : Put) → [] ≡ before ++ put
 none_first [] behind put e = absurd cc
 none_first (first ∷ before) behind put e = absurd cc
 
-one_first : (from to : NodeId) (fec own : Fec) (number label : ℕ) (before behind : List Put) → record { to = from; message = messages.Release fec number } ∷ [] ≡ before ++ mapping to own label ∷ behind → ⊥
+one_first : (from to : NodeId) (fec own : Fec) (number label : ℕ) (before behind : List Put) → record { to = from; message = messages.Release fec number } ∷ [] ≡ before ++ mapping_to to own label ∷ behind → ⊥
 one_first from to fec own number label [] behind e =
     let release : Put = record { to = from; message = messages.Release fec number } in
-    let same : release ≡ mapping to own label = cc in
+    let same : release ≡ mapping_to to own label = cc in
     let message : messages.Release fec number ≡ messages.Mapping own label = ap (λ (put : Put). put.message) same in
     absurd cc
-one_first from to fec own number label (first ∷ before) behind e = (let rest : [] ≡ before ++ mapping to own label ∷ behind = cc in none_first before behind (mapping to own label) rest)
+one_first from to fec own number label (first ∷ before) behind e = (let rest : [] ≡ before ++ mapping_to to own label ∷ behind = cc in none_first before behind (mapping_to to own label) rest)
 
-no_mapping : (place : Place) (now : ℕ) (part : LabelData) (call : Call) (before behind : List Put) (to : NodeId) (fec : Fec) (label : ℕ) → (effect place now part call).0.puts ≡ before ++ mapping to fec label ∷ behind → ⊥
-no_mapping place now part (Taken from (messages.Mapping own number)) before behind to fec label e = none_first before behind (mapping to fec label) e
+no_mapping : (place : Place) (now : ℕ) (part : LabelData) (call : Call) (before behind : List Put) (to : NodeId) (fec : Fec) (label : ℕ) → (effect place now part call).0.puts ≡ before ++ mapping_to to fec label ∷ behind → ⊥
+no_mapping place now part (Taken from (messages.Mapping own number)) before behind to fec label e = none_first before behind (mapping_to to fec label) e
 no_mapping place now part (Taken from (messages.Withdraw own number)) before behind to fec label e = one_first from to own fec number label before behind e
-no_mapping place now part (Taken from (messages.Release own number)) before behind to fec label e = none_first before behind (mapping to fec label) e
-no_mapping place now part (Taken from (messages.Ignored kind)) before behind to fec label e = none_first before behind (mapping to fec label) e
-no_mapping place now part (Want own) before behind to fec label e = none_first before behind (mapping to fec label) e
-no_mapping place now part (Unwant own) before behind to fec label e = none_first before behind (mapping to fec label) e
-no_mapping place now part (Raised peer) before behind to fec label e = none_first before behind (mapping to fec label) e
-no_mapping place now part (Noticed peer) before behind to fec label e = none_first before behind (mapping to fec label) e
-no_mapping place now part Timers before behind to fec label e = none_first before behind (mapping to fec label) e
+no_mapping place now part (Taken from (messages.Release own number)) before behind to fec label e = none_first before behind (mapping_to to fec label) e
+no_mapping place now part (Taken from (messages.Ignored kind)) before behind to fec label e = none_first before behind (mapping_to to fec label) e
+no_mapping place now part (Want own) before behind to fec label e = none_first before behind (mapping_to to fec label) e
+no_mapping place now part (Unwant own) before behind to fec label e = none_first before behind (mapping_to to fec label) e
+no_mapping place now part (Raised peer) before behind to fec label e = none_first before behind (mapping_to to fec label) e
+no_mapping place now part (Noticed peer) before behind to fec label e = none_first before behind (mapping_to to fec label) e
+no_mapping place now part Timers before behind to fec label e = none_first before behind (mapping_to to fec label) e
+no_mapping place now part Rerouted before behind to fec label e = none_first before behind (mapping_to to fec label) e
 
 pub mapping_is : (place : Place) (now : ℕ) (part : LabelData) (call : Call) (new : Stepped) (before behind : List Put) (to : NodeId) (fec : Fec) (label : ℕ) → label_step place now part call ≡ Some new
-    → new.puts ≡ before ++ record { to = to; message = messages.Mapping fec label } ∷ behind → MappingIs place now part call new.part before to fec label
+    → new.puts ≡ before ++ mapping_to to fec label ∷ behind → MappingIs place now part call new.part before to fec label
 mapping_is place now part call new before behind to fec label e is =
     let start = (effect place now part call).0.part in
     let traced = step_keeps place now part call new (λ p puts. Traced place start p puts) (λ old puts own next more t x. turn_traced place start old own next puts more t x)
-    (λ old x. record { free = x.free; taken = x.taken; found = λ b r u f l h. (let y = x.found b r u f l h in record { toward = y.toward; ready = y.ready; free = y.free; least = y.least; tree = y.tree; holds = y.holds }) })
+    (λ old x. record { free = x.free; taken = x.taken; found = λ b r u f l h. (let y = x.found b r u f l h in record { toward = y.toward; ready = counted_ready old u ∙ y.ready; free = y.free; least = y.least; tree = y.tree; holds = y.holds }) })
     (record { free = λ k h. h; taken = λ k h. inl h; found = λ b r u f l h. absurd (no_mapping place now part call b r u f l h) }) e in
     let f = traced.found before behind to fec label is in
     record {

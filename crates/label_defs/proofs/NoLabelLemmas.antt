@@ -12,17 +12,18 @@ use Rattle.label_defs.specs.declared.label_use.LabelUse.TheVariants as uses
 use Rattle.label_defs.specs.Keys.{fec_cmp}
 use Rattle.label_defs.specs.LabelData.{Place, LabelData, same_fec, use_of, is_free, mapped_label, has_branch, has_tree, is_ready, trees}
 use Rattle.label_defs.specs.Settling.{Stepped, with_use, is_ready_to, settle_all}
-use Rattle.label_defs.specs.Steps.{Call, Taken, Want, Unwant, Raised, Noticed, Timers, released, with_release, freed, woken, without_session, effect, counted, label_step}
-use Rattle.label_defs.specs.Settled.{Settled, AllSettled}
-use Rattle.label_defs.specs.Laws.{is_free_in, needs_label, needing, LacksLabels}
+use Rattle.label_defs.specs.Steps.{Call, Taken, Want, Unwant, Raised, Noticed, Timers, Rerouted, released, with_release, freed, woken, without_session, effect, counted, label_step}
+use Rattle.label_defs.specs.Settled.{Settled, AllSettled, WereSettled}
+use Rattle.label_defs.specs.Laws.{is_free_in, needs_label, needs_new_label, passing, LacksLabels}
 use Rattle.label_defs.proofs.KeyLemmas.{same_fec_equal, node_equal, node_cmp_total, node_cmp_exact}
 use Rattle.label_defs.proofs.UseLemmas.{used_some, map_none}
 use Rattle.label_defs.proofs.SetLemmas.{cut_here}
-use Rattle.label_defs.proofs.TreeLemmas.{not_both}
+use Rattle.label_defs.proofs.TreeLemmas.{not_both, loose}
 use Rattle.label_defs.proofs.EffectLemmas.{held}
 use Rattle.label_defs.proofs.LossLemmas.{freed_stays, ready_stays, loss_adds_no_branch}
-use Rattle.label_defs.proofs.CountLemmas.{count_as, count-map, count_set}
+use Rattle.label_defs.proofs.CountLemmas.{Distinct, distinct_in_order, count_as, count-map, count_set}
 use Rattle.label_defs.proofs.LackLemmas.{is_mapped_by, none_where}
+use Rattle.label_defs.proofs.RerouteLemmas.{trees_once, none_moves}
 use Rattle.label_defs.proofs.StepLemmas.{needs_nothing}
 
 -- ---- how many labels are free in a step
@@ -74,6 +75,7 @@ count_free place now part (Taken from (messages.Ignored kind)) = as_before (is_f
 count_free place now part (Want fec) = as_before (is_free_in now (Want fec)) refl (λ own v. refl) (λ own v. refl) (λ until. refl) part.labels
 count_free place now part (Unwant fec) = as_before (is_free_in now (Unwant fec)) refl (λ own v. refl) (λ own v. refl) (λ until. refl) part.labels
 count_free place now part (Raised peer) = as_before (is_free_in now (Raised peer)) refl (λ own v. refl) (λ own v. refl) (λ until. refl) part.labels
+count_free place now part Rerouted = as_before (is_free_in now Rerouted) refl (λ own v. refl) (λ own v. refl) (λ until. refl) part.labels
 count_free place now part (Noticed peer) = count-map is_free (is_free_in now (Noticed peer)) (freed peer) (λ u. by u) part.labels
   where
     by : (u : LabelUse) → is_free (freed peer u) ≡ is_free_in now (Noticed peer) u
@@ -89,14 +91,36 @@ count_free place now part Timers = count-map is_free (is_free_in now Timers) (wo
     by (uses.Leaving own v) = refl
     by (uses.Resting until) = freed_test (nat_le until now) (uses.Resting until) refl
 
-pub no_step_where : (place : Place) (now : ℕ) (part : LabelData) (call : Call) → (label_step place now part call ≡ None) ↔ LacksLabels place now part call
-no_step_where place now part call =
+no_step : (place : Place) (now : ℕ) (part : LabelData) (call : Call) → Distinct (effect place now part call).1
+    → (label_step place now part call ≡ None) ↔ (count_by (is_free_in now call) part.labels < sets.len (passing (needs_label place (effect place now part call).0.part) (effect place now part call).1))
+no_step place now part call once =
     let own = effect place now part call in
-    let which = none_where place own.1 own.0 in
+    let which = none_where place own.1 own.0 once in
     let count = count_free place now part call in (
-      λ e. (let lt = which.0 (map_none counted (settle_all place own.1 own.0) e) in subst (λ n. n < sets.len (needing place own.0.part own.1)) count lt),
-      λ lt. ap (option_map counted) (which.1 (subst (λ n. n < sets.len (needing place own.0.part own.1)) (sym count) lt)),
+      λ e. (let lt = which.0 (map_none counted (settle_all place own.1 own.0) e) in subst (λ n. n < sets.len (passing (needs_label place own.0.part) own.1)) count lt),
+      λ lt. ap (option_map counted) (which.1 (subst (λ n. n < sets.len (passing (needs_label place own.0.part) own.1)) (sym count) lt)),
     )
+
+no_reroute : (place : Place) (now : ℕ) (part : LabelData) → WereSettled part Rerouted → (label_step place now part Rerouted ≡ None) ↔ LacksLabels place now part Rerouted
+no_reroute place now part were =
+    let own = effect place now part Rerouted in
+    let which = none_moves place (trees part) (record { part = part; puts = [] }) (trees_once part) (λ fec. loose were.0 part fec (were.1 fec)) in
+    let count = count_free place now part Rerouted in (
+      λ e. (let lt = which.0 (map_none counted (settle_all place own.1 own.0) e) in subst (λ n. n < sets.len (passing (needs_new_label place part) (trees part))) count lt),
+      λ lt. ap (option_map counted) (which.1 (subst (λ n. n < sets.len (passing (needs_new_label place part) (trees part))) (sym count) lt)),
+    )
+
+pub no_step_where : (place : Place) (now : ℕ) (part : LabelData) (call : Call) → WereSettled part call → (label_step place now part call ≡ None) ↔ LacksLabels place now part call
+no_step_where place now part (Taken from (messages.Mapping fec label)) were = no_step place now part (Taken from (messages.Mapping fec label)) (refl, tt)
+no_step_where place now part (Taken from (messages.Withdraw fec label)) were = no_step place now part (Taken from (messages.Withdraw fec label)) (refl, tt)
+no_step_where place now part (Taken from (messages.Release fec label)) were = no_step place now part (Taken from (messages.Release fec label)) tt
+no_step_where place now part (Taken from (messages.Ignored kind)) were = no_step place now part (Taken from (messages.Ignored kind)) tt
+no_step_where place now part (Want fec) were = no_step place now part (Want fec) (refl, tt)
+no_step_where place now part (Unwant fec) were = no_step place now part (Unwant fec) (refl, tt)
+no_step_where place now part (Raised peer) were = no_step place now part (Raised peer) tt
+no_step_where place now part (Noticed peer) were = no_step place now part (Noticed peer) (trees_once part)
+no_step_where place now part Timers were = no_step place now part Timers (distinct_in_order part.waiting)
+no_step_where place now part Rerouted were = no_reroute place now part were
 
 -- ---- losses and raises
 
@@ -132,7 +156,7 @@ loss_needs place part peer all fec =
 
 pub loss_steps : (place : Place) (now : ℕ) (part : LabelData) (peer : NodeId) → AllSettled place part → label_step place now part (Noticed peer) ≢ None
 loss_steps place now part peer all e =
-    let lt = (no_step_where place now part (Noticed peer)).0 e in
+    let lt = (no_step_where place now part (Noticed peer) tt).0 e in
     let empty = ap (λ fecs. sets.len (sets.from_list {R = fec_cmp} fecs)) (none_filtered (needs_label place (without_session part peer)) (loss_needs place part peer all) (trees part)) ∙ sets.len-empty fec_cmp in
     omega (arith, lt, empty)
 

@@ -12,7 +12,7 @@ use Rattle.label_defs.specs.declared.label_use.LabelUse.TheVariants as uses
 use Rattle.label_defs.specs.declared.put.Put.{Put}
 use Rattle.label_defs.specs.LabelData.{Place, LabelData, same_fec, use_of, has_tree, is_ready}
 use Rattle.label_defs.specs.Settling.{Stepped, with_use, settle_all}
-use Rattle.label_defs.specs.Steps.{Call, Taken, Want, Unwant, Raised, Noticed, Timers, released, with_release, freed, woken, effect, counted, label_step}
+use Rattle.label_defs.specs.Steps.{Call, Taken, Want, Unwant, Raised, Noticed, Timers, Rerouted, released, with_release, freed, woken, effect, counted, label_step}
 use Rattle.label_defs.specs.Laws.{is_free_in, FreeIn}
 use Rattle.label_defs.specs.Members.{in_order}
 use Rattle.label_defs.proofs.UseLemmas.{set_here, set_there, used-map, map_some}
@@ -45,6 +45,7 @@ own_use place now (Unwant fec) label usage = usage
 own_use place now (Raised peer) label usage = usage
 own_use place now (Noticed peer) label usage = freed peer usage
 own_use place now Timers label usage = woken now usage
+own_use place now Rerouted label usage = usage
 
 map_same : {A : Type 0} (f : A → A) → ((x : A) → f x ≡ x) → (o : Option A) → o ≡ option_map f o
 map_same f same None = refl
@@ -85,6 +86,7 @@ effect_use place now part (Unwant fec) label = map_same (λ x. x) (λ x. refl) (
 effect_use place now part (Raised peer) label = map_same (λ x. x) (λ x. refl) (use_of part label)
 effect_use place now part (Noticed peer) label = used-map (freed peer) part.labels label
 effect_use place now part Timers label = used-map (woken now) part.labels label
+effect_use place now part Rerouted label = map_same (λ x. x) (λ x. refl) (use_of part label)
 
 -- ---- what is free then
 
@@ -125,6 +127,7 @@ own_free place now (Noticed peer) label uses.Free e = refl
 own_free place now (Noticed peer) label (uses.Mapped own v) e = by_test (v.0 == peer.0) (uses.Mapped own v) (λ h. absurd cc) e
 own_free place now (Noticed peer) label (uses.Leaving own v) e = by_test (v.0 == peer.0) (uses.Leaving own v) (λ h. absurd cc) e
 own_free place now (Noticed peer) label (uses.Resting until) e = absurd cc
+own_free place now Rerouted label usage e = is_free_then now Rerouted usage e
 own_free place now Timers label uses.Free e = refl
 own_free place now Timers label (uses.Mapped own v) e = absurd cc
 own_free place now Timers label (uses.Leaving own v) e = absurd cc
@@ -144,6 +147,7 @@ free_own place now (Unwant fec) label uses.Free e = refl
 free_own place now (Raised peer) label uses.Free e = refl
 free_own place now (Noticed peer) label uses.Free e = refl
 free_own place now Timers label uses.Free e = refl
+free_own place now Rerouted label uses.Free e = refl
 free_own place now (Noticed peer) label (uses.Mapped own v) e = cond-true (v.0 == peer.0) uses.Free (uses.Mapped own v) e
 free_own place now (Noticed peer) label (uses.Leaving own v) e = cond-true (v.0 == peer.0) uses.Free (uses.Leaving own v) e
 free_own place now (Noticed peer) label (uses.Resting until) e = absurd cc
@@ -160,6 +164,9 @@ free_own place now (Unwant fec) label (uses.Mapped own v) e = absurd cc
 free_own place now (Unwant fec) label (uses.Leaving own v) e = absurd cc
 free_own place now (Unwant fec) label (uses.Resting until) e = absurd cc
 free_own place now (Raised peer) label (uses.Mapped own v) e = absurd cc
+free_own place now Rerouted label (uses.Mapped own v) e = absurd cc
+free_own place now Rerouted label (uses.Leaving own v) e = absurd cc
+free_own place now Rerouted label (uses.Resting until) e = absurd cc
 free_own place now (Raised peer) label (uses.Leaving own v) e = absurd cc
 free_own place now (Raised peer) label (uses.Resting until) e = absurd cc
 

@@ -11,7 +11,7 @@ use Rattle.label_defs.specs.declared.label_use.LabelUse.TheVariants as uses
 use Rattle.label_defs.specs.declared.put.Put.{Put}
 use Rattle.label_defs.specs.LabelData.{Place, LabelData, same_fec, use_of}
 use Rattle.label_defs.specs.Settling.{Stepped}
-use Rattle.label_defs.specs.Steps.{Call, Taken, Want, Unwant, Raised, Noticed, Timers, released, effect, label_step}
+use Rattle.label_defs.specs.Steps.{Call, Taken, Want, Unwant, Raised, Noticed, Timers, Rerouted, released, effect, label_step}
 use Rattle.label_defs.specs.Laws.{releases, owed_releases, StopsLeaving}
 use Rattle.label_defs.proofs.KeyLemmas.{same_fec_equal, same_fec_itself, node_equal, node_itself}
 use Rattle.label_defs.proofs.UseLemmas.{used, set_there}
@@ -55,6 +55,7 @@ own_releases place now part (Unwant fec) = refl
 own_releases place now part (Raised peer) = refl
 own_releases place now part (Noticed peer) = refl
 own_releases place now part Timers = refl
+own_releases place now part Rerouted = refl
 
 pub only_answers : (place : Place) (now : ℕ) (part : LabelData) (call : Call) (new : Stepped) → label_step place now part call ≡ Some new → filter (λ (put : Put). releases put.message) new.puts ≡ owed_releases call
 only_answers place now part call new e =
@@ -103,6 +104,7 @@ own_rests place now (Want fec) label until later = refl
 own_rests place now (Unwant fec) label until later = refl
 own_rests place now (Raised peer) label until later = refl
 own_rests place now (Noticed peer) label until later = refl
+own_rests place now Rerouted label until later = refl
 own_rests place now Timers label until later = cond-false (nat_le until now) uses.Free (uses.Resting until) (lt-leb until now (later refl))
 
 pub rests_on : (place : Place) (now : ℕ) (part : LabelData) (call : Call) (new : Stepped) (label until : ℕ) → (call ≡ Timers → now < until) → use_of part label ≡ Some (uses.Resting until)
@@ -136,6 +138,7 @@ own_leaves place now (Noticed peer) label fec to = elim (cases_Bool (to.0 == pee
   | inr f ↦ inl (cond-false (to.0 == peer.0) uses.Free (uses.Leaving fec to) f)
 ]
 own_leaves place now Timers label fec to = inl refl
+own_leaves place now Rerouted label fec to = inl refl
 
 pub leaves_on : (place : Place) (now : ℕ) (part : LabelData) (call : Call) (new : Stepped) (label : ℕ) (fec : Fec) (to : NodeId) → use_of part label ≡ Some (uses.Leaving fec to)
     → label_step place now part call ≡ Some new → (use_of new.part label ≡ Some (uses.Leaving fec to)) ⊎ StopsLeaving call fec to label

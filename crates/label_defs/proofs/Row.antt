@@ -49,9 +49,9 @@ maps_first place part fec to label tree none up ready free =
 
 -- a tree at its root needs none
 keeps_root : (place : Place) (part : LabelData) (fec : Fec) → has_tree part fec ≡ true → mapped_label part fec ≡ None → place.upstream fec ≡ None
-    → settle_all place (fec ∷ []) (record { part = part; puts = [] }) ≡ Some (record { part = part; puts = [] })
+    → settle_all place (fec ∷ []) (record { part = part; puts = [] }) ≡ Some (record { part = record part { waiting = sets.remove part.waiting fec }; puts = [] })
 keeps_root place part fec tree none up =
-    let need : change_of place part fec ≡ changes.Keep =
+    let need : change_of place part fec ≡ changes.Cancel =
     λ i. change_by (tree i) (none i) (none i >>? λ label. upstream_of (use_of part label)) (up i) (is_ready_to part (up i)) (free_label part) in
     ap (λ (change : Change). changed part fec change >>? λ new. Some (record { part = new; puts = [] ++ put_by fec change })) need
 
@@ -66,8 +66,8 @@ has_wanted part fec =
     or_right (has_branch part fec) (sets.contains (sets.insert part.leaves fec) fec) (inserted_here fec_cmp_total fec_cmp_exact part.leaves fec)
 
 -- a session whose hold was run is ready
-ready_first : (part : LabelData) (peer : NodeId) (raised : ℕ) → is_ready (record part { ends = maps.insert part.ends peer (record { raised = raised; held = true }) }) peer ≡ true
-ready_first part peer raised = ap held (put_here node_cmp_total node_cmp_exact part.ends peer (record { raised = raised; held = true }))
+ready_first : (part : LabelData) (peer : NodeId) (raised : ℕ) → is_ready (record part { ends = maps.insert part.ends peer (record { raised = raised; held = true; next = 1 }) }) peer ≡ true
+ready_first part peer raised = ap held (put_here node_cmp_total node_cmp_exact part.ends peer (record { raised = raised; held = true; next = 1 }))
 
 leaf_reaches_root : (life now raised more : ℕ) (fec : Fec) → LeafToRoot life now raised (suc more) fec
 leaf_reaches_root life now raised more fec =

@@ -8,7 +8,7 @@ use Rattle.label_defs.specs.LabelData.{Place, LabelData, same_fec}
 use Rattle.label_defs.specs.Settling.{change_of, changed, put_by, Stepped, settle_all}
 use Rattle.label_defs.specs.Settled.{Settled, AllSettled}
 use Rattle.label_defs.proofs.KeyLemmas.{fec_cases, fec_apart}
-use Rattle.label_defs.proofs.TreeLemmas.{Tied, After, tied, step_after}
+use Rattle.label_defs.proofs.TreeLemmas.{Tied, After, tied, beside_tied, beside_settled, step_after}
 
 pub bind_some : {A B : Type 0} (o : Option A) (next : A → Option B) (y : B) → (o >>? next) ≡ Some y → (x : A) × (o ≡ Some x) × (next x ≡ Some y)
 bind_some None next y e = absurd (none-some y e)
@@ -24,11 +24,11 @@ after_good place fec more old new a weaker g =
     record {
       tied = λ x. elim (fec_cases x fec) [
         | inl e ↦ subst (Tied place new) (sym e) (weaker fec a.done)
-        | inr ne ↦ a.others x ne (g.tied x)
+        | inr ne ↦ beside_tied place old new x (a.others x ne) (g.tied x)
       ];
       settled = λ x h. elim (fec_cases x fec) [
         | inl e ↦ subst (Settled place new) (sym e) a.done
-        | inr ne ↦ a.stay x ne (g.settled x (ap (λ b. b || list_any (same_fec x) more) (fec_apart x fec ne) ∙ h))
+        | inr ne ↦ beside_settled place old new x (a.others x ne) (g.settled x (ap (λ b. b || list_any (same_fec x) more) (fec_apart x fec ne) ∙ h))
       ];
     }
 

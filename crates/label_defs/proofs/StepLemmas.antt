@@ -14,16 +14,17 @@ use Rattle.label_defs.specs.declared.put.Put.{Put}
 use Rattle.label_defs.specs.declared.label_use.LabelUse.{LabelUse}
 use Rattle.label_defs.specs.declared.label_use.LabelUse.TheVariants as uses
 use Rattle.label_defs.specs.Keys.{fec_cmp, branch_cmp}
-use Rattle.label_defs.specs.LabelData.{Place, LabelData, fresh, same_fec, use_of, free_label, mapped_label, has_branch, has_tree}
-use Rattle.label_defs.specs.Settling.{Stepped, upstream_of, is_ready_to, change_by, change_of, changed, put_by, settle_all}
-use Rattle.label_defs.specs.Steps.{Call, Taken, Want, Unwant, Raised, Noticed, Timers, branch_to, effect, counted, label_step}
+use Rattle.label_defs.specs.LabelData.{Place, LabelData, fresh, same_fec, use_of, free_label, mapped_label, has_branch, has_tree, trees}
+use Rattle.label_defs.specs.Settling.{Stepped, upstream_of, holder_of, is_ready_to, change_by, change_of, changed, put_by, settle_all}
+use Rattle.label_defs.specs.Steps.{Call, Taken, Want, Unwant, Raised, Noticed, Timers, Rerouted, twice, branch_to, effect, counted, label_step}
 use Rattle.label_defs.specs.Settled.{Settled, AllSettled, MayBe}
 use Rattle.label_defs.proofs.KeyLemmas.{fec_cmp_total, fec_cmp_exact, branch_cmp_total, branch_cmp_exact}
 use Rattle.label_defs.proofs.UseLemmas.{used_some, map_some, mapped_none, mapped_some}
 use Rattle.label_defs.proofs.SetLemmas.{passing_member, inserted_again, removed_again}
-use Rattle.label_defs.proofs.TreeLemmas.{like_settled, not_both, is_ready_at, needs_end}
+use Rattle.label_defs.proofs.TreeLemmas.{like_settled, not_both, is_ready_at, at_root, needs_end, holder, one_neighbour, kept_change}
 use Rattle.label_defs.proofs.SettleLemmas.{Good, settle_all_good}
 use Rattle.label_defs.proofs.EffectLemmas.{branch_dropped, nothing_changed, mapping_taken, leaf_added, leaf_dropped, raised, release_taken}
+use Rattle.label_defs.proofs.IdLemmas.{counted_ready}
 use Rattle.label_defs.proofs.LossLemmas.{loss_good}
 use Rattle.label_defs.proofs.TimerLemmas.{timed_good}
 
@@ -61,14 +62,19 @@ effect_good place now part (Unwant fec) may all = leaf_dropped place part fec al
 effect_good place now part (Raised peer) may all = raised place part peer now may all
 effect_good place now part (Noticed peer) may all = loss_good place part peer all
 effect_good place now part Timers may all = timed_good place now part all
+effect_good place now part Rerouted may all = nothing_changed place (twice (trees part)) part all
+
+-- ids that are counted change no tree
+pub counted_settled : (place : Place) (mid : Stepped) (fec : Fec) → Settled place mid.part fec → Settled place (counted mid).part fec
+counted_settled place mid fec s =
+    like_settled place mid.part (counted mid).part fec (record { maps = λ l u p. p; ready = counted_ready mid; waiting = refl }) (λ l u p. p) refl s
 
 pub step_settled : (place : Place) (now : ℕ) (part : LabelData) (call : Call) (new : Stepped) → MayBe part call → AllSettled place part → label_step place now part call ≡ Some new → AllSettled place new.part
 step_settled place now part call new may all e fec =
     let own = effect place now part call in
     let x = map_some counted (settle_all place own.1 own.0) new e in
     let settled = settle_all_good place own.1 own.0 x.0 (effect_good place now part call may all) x.1 in
-    let kept = like_settled place x.0.part (counted x.0).part fec (record { maps = λ l u p. p; ready = λ node. refl; waiting = refl }) (λ l u p. p) refl (settled fec) in
-    subst (λ (s : Stepped). Settled place s.part fec) x.2 kept
+    subst (λ (s : Stepped). Settled place s.part fec) x.2 (counted_settled place x.0 fec (settled fec))
 
 -- ---- a settled tree
 
@@ -78,17 +84,23 @@ record Nothing (part : LabelData) (fec : Fec) (change : Change) : Type 0 where
   silent : put_by fec change ≡ []
 
 nothing_by : (place : Place) (part : LabelData) (fec : Fec) (t : Bool) (mapped : Option ℕ) (holds up : Option NodeId) (ready : Bool) (free : Option ℕ)
-    → has_tree part fec ≡ t → mapped_label part fec ≡ mapped → place.upstream fec ≡ up → is_ready_to part up ≡ ready → Settled place part fec → Nothing part fec (change_by t mapped holds up ready free)
-nothing_by place part fec true (Some label) holds up ready free h m p q s = record { stays = refl; silent = refl }
-nothing_by place part fec true None holds (Some u) true free h m p q s = (let x = s.mapped u h p q in absurd (mapped_none part fec m x.0 u x.1))
-nothing_by place part fec true None holds (Some u) false free h m p q s =
+    → has_tree part fec ≡ t → mapped_label part fec ≡ mapped → (mapped >>? λ label. upstream_of (use_of part label)) ≡ holds → place.upstream fec ≡ up → is_ready_to part up ≡ ready → Settled place part fec → Nothing part fec (change_by t mapped holds up ready free)
+nothing_by place part fec true (Some label) holds up ready free h m o p q s =
+    let x = mapped_some part fec label m in
+    let near = one_neighbour holds up (sym o ∙ holder part fec label x.0 x.1 ∙ sym (s.toward label x.0 x.1).0 ∙ p) in
+    let kept = kept_change holds up label ready free near in
+    record { stays = ap (changed part fec) kept; silent = ap (put_by fec) kept }
+nothing_by place part fec true None holds (Some u) true free h m o p q s = (let x = s.mapped u h p q in absurd (mapped_none part fec m x.0 u x.1))
+nothing_by place part fec true None holds (Some u) false free h m o p q s =
     let waits = s.waiting ∙ needs_end (has_tree part fec) (place.upstream fec) u (is_ready_to part (place.upstream fec)) h p (is_ready_at place part fec u p ∙ q) in
     record { stays = ap (λ (w : FinSet fec_cmp). Some (record part { waiting = w })) (inserted_again fec_cmp_total fec_cmp_exact part.waiting fec waits); silent = refl }
-nothing_by place part fec true None holds None ready free h m p q s = record { stays = refl; silent = refl }
-nothing_by place part fec false (Some label) holds up ready free h m p q s =
+nothing_by place part fec true None holds None ready free h m o p q s =
+    let waits = s.waiting ∙ at_root (has_tree part fec) (place.upstream fec) (is_ready_to part (place.upstream fec)) p in
+    record { stays = ap (λ (w : FinSet fec_cmp). Some (record part { waiting = w })) (removed_again fec_cmp_total fec_cmp_exact part.waiting fec waits); silent = refl }
+nothing_by place part fec false (Some label) holds up ready free h m o p q s =
     let x = mapped_some part fec label m in
     absurd (not_both (has_tree part fec) (s.needed label x.0 x.1) h)
-nothing_by place part fec false None holds up ready free h m p q s =
+nothing_by place part fec false None holds up ready free h m o p q s =
     let waits = s.waiting ∙ and_left (has_tree part fec) (is_some (place.upstream fec) && not (is_ready_to part (place.upstream fec))) h in
     record { stays = ap (λ (w : FinSet fec_cmp). Some (record part { waiting = w })) (removed_again fec_cmp_total fec_cmp_exact part.waiting fec waits); silent = refl }
 
@@ -96,7 +108,7 @@ pub needs_nothing : (place : Place) (old : Stepped) (fec : Fec) → Settled plac
 needs_nothing place old fec s =
     let part = old.part in
     let change = change_of place part fec in
-    let x = nothing_by place part fec (has_tree part fec) (mapped_label part fec) (mapped_label part fec >>? λ label. upstream_of (use_of part label)) (place.upstream fec) (is_ready_to part (place.upstream fec)) (free_label part) refl refl refl refl s in
+    let x = nothing_by place part fec (has_tree part fec) (mapped_label part fec) (holder_of part fec) (place.upstream fec) (is_ready_to part (place.upstream fec)) (free_label part) refl refl refl refl refl s in
     ap (λ (o : Option LabelData). o >>? λ new. Some (record { part = new; puts = old.puts ++ put_by fec change })) x.stays
     ∙ ap (λ (puts : List Put). Some (record { part = part; puts = old.puts ++ puts })) x.silent
     ∙ ap (λ (puts : List Put). Some (record { part = part; puts = puts })) (append-nil old.puts)

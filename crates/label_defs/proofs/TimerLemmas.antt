@@ -57,7 +57,6 @@ module _ (place : Place) (now : ℕ) (part : LabelData) where
         one = λ i j u v p q. t.one i j u v (timed_was fec i u p) (timed_was fec j v q);
         toward = λ i u p. (let x = t.toward i u (timed_was fec i u p) in (x.0, stays_ready u x.1));
         apart = λ i u p. t.apart i u (timed_was fec i u p);
-        root = t.root;
       }
 
   -- a tree whose binding does not wait is towards an end that is ready, where it needs one

@@ -12,7 +12,7 @@ use Rattle.label_defs.specs.declared.label_use.LabelUse.{LabelUse}
 use Rattle.label_defs.specs.declared.label_use.LabelUse.TheVariants as uses
 use Rattle.label_defs.specs.Keys.{fec_cmp, branch_cmp, node_cmp}
 use Rattle.label_defs.specs.LabelData.{LabelData, fresh, use_of}
-use Rattle.label_defs.specs.Steps.{branch_to, freed, without_session}
+use Rattle.label_defs.specs.Steps.{branch_to, freed, without_session, raised_end}
 use Rattle.label_defs.proofs.KeyLemmas.{branch_cmp_total, branch_cmp_exact, node_cmp_total, node_cmp_exact, node_cases, node_itself, node_apart}
 use Rattle.label_defs.proofs.SetLemmas.{retained, put_here, put_other, cut_here, cut_other}
 use Rattle.label_defs.proofs.UseLemmas.{used_some, used-map}
@@ -153,10 +153,10 @@ fresh_rule w a count lost rule =
 -- ---- an end comes up
 
 abbrev pub new_end : ℕ → End
-new_end now = record { raised = now; held = false }
+new_end now = raised_end now
 
 abbrev pub risen : LabelData → NodeId → ℕ → LabelData
-risen d b now = record d { ends = maps.insert d.ends b (new_end now); ids = maps.insert d.ids b 1 }
+risen d b now = record d { ends = maps.insert d.ends b (new_end now) }
 
 pub risen_here : (d : LabelData) (b : NodeId) (now : ℕ) → end_of (risen d b now) b ≡ Some (new_end now)
 risen_here d b now = put_here node_cmp_total node_cmp_exact d.ends b (new_end now)

@@ -1,12 +1,12 @@
 -- The rule gives the label rule in full, and a network in which nothing has happened meets it.
-use Rattle.std.proofs.Common.{◌≡◌, ℕ, ◌+◌, ◌≤◌, Bool, true, false, inl, inr, refl, [], filter, Option, Some, None, is_some}
+use Rattle.std.proofs.Common.{◌≡◌, ℕ, ◌+◌, ◌≤◌, Bool, true, false, inl, inr, refl, filter, Option, Some, None, is_some}
 use Rattle.std.proofs.lemmas.Bool.{cases_Bool}
 use Rattle.mv_base.specs.declared.ids.NodeId.{NodeId}
 use Rattle.mldp_fec.specs.declared.fec.Fec.{Fec}
 use Rattle.label_defs.specs.declared.end.End.{End}
 use Rattle.label_defs.specs.LabelData.{fresh, use_of}
 use Rattle.label_defs.proofs.StepLemmas.{fresh_settled}
-use Rattle.label_laws.specs.Network.{PacketCopy, LabelNetwork}
+use Rattle.label_laws.specs.Network.{PacketCopy, LabelNetwork, at_start}
 use Rattle.label_laws.specs.Rule.{CopyCase, is_mapped, is_leaving, is_resting, is_down, is_unheld, LabelCovers, mapped, leaving, resting, CopyOk, LabelRule, Rule, Kept, end_of, branch_trees, is_of_owner, is_release_of}
 use Rattle.label_laws.proofs.Frames.{along_view, each_kept}
 use Rattle.label_laws.proofs.Phases.{branch_stands}
@@ -45,15 +45,15 @@ label_rule w rule =
       unjoined = λ u n l f j off e. (rule.view u n l j).alone f off e;
     }
 
-pub start_kept : (life : ℕ) (is_tree : Fec → Bool) (upstream : NodeId → Fec → Option NodeId) (vpn_of : Fec → ℕ) (origin : ℕ → ℕ) (count : NodeId → ℕ)
-    → Kept (record { clock = 0; life = life; is_tree = is_tree; upstream = upstream; vpn_of = vpn_of; origin = origin; node = λ n. fresh (count n); direction = λ u n. record { joined = false; transit = []; copies = [] } })
-start_kept life is_tree upstream vpn_of origin count =
+pub start_kept : (life : ℕ) (labels : NodeId → ℕ) (is_tree : Fec → Bool) (upstream : NodeId → Fec → Option NodeId) (vpn_of : Fec → ℕ) (origin : ℕ → ℕ)
+    → Kept (at_start life labels is_tree upstream vpn_of origin)
+start_kept life labels is_tree upstream vpn_of origin =
     record {
       rule = record {
-        view = λ u n l j. along_view refl refl refl refl refl refl (fresh_bare (count u) n l) (idle_view u l false (end_of (fresh (count n)) u) (end_of (fresh (count u)) n) (use_of (fresh (count n)) l) (fresh_other (count n) u l));
+        view = λ u n l j. along_view refl refl refl refl refl refl (fresh_bare (labels u) n l) (idle_view u l false (end_of (fresh (labels n)) u) (end_of (fresh (labels u)) n) (use_of (fresh (labels n)) l) (fresh_other (labels n) u l));
         session = λ u n j. record { alike = refl; quiet = λ e. refl; ends = λ e. absurd cc };
         copies = λ u n j. tt;
-        trees = λ n. fresh_trees is_tree (count n);
+        trees = λ n. fresh_trees is_tree (labels n);
       };
-      settled = λ n. fresh_settled (record { life = life; is_tree = is_tree; upstream = upstream n }) (count n);
+      settled = λ n. fresh_settled (record { life = life; is_tree = is_tree; upstream = upstream n }) (labels n);
     }

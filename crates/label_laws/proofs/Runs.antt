@@ -1,5 +1,5 @@
 -- Each act keeps the rule and leaves all trees settled, and so does each run.
-use Rattle.std.proofs.Common.{◌≡◌, ◌≢◌, ℕ, ◌==◌, ◌&&◌, Bool, true, false, not, inl, inr, refl, sym, ap, subst, ◌∙◌, List, [], ◌∷◌, Option, Some, None, is_some, length}
+use Rattle.std.proofs.Common.{◌≡◌, ◌≢◌, ℕ, ◌==◌, ◌&&◌, Bool, true, false, not, inl, inr, refl, sym, ap, subst, ◌∙◌, List, [], ◌∷◌, Option, Some, None, is_some}
 use Rattle.std.proofs.lemmas.Bool.{cases_Bool, and_right, or_right, or_cases, and_parts, eqb-true}
 use Rattle.std.specs.Cmp.{Equal-is}
 use Rattle.std.specs.Ordering.{eq_by_cmp}
@@ -18,7 +18,7 @@ use Rattle.label_defs.specs.Steps.{Call, without_session, timed, label_step}
 use Rattle.label_defs.proofs.KeyLemmas.{fec_cmp_total, fec_cmp_exact, node_itself, node_equal, node_cases}
 use Rattle.label_defs.proofs.StepLemmas.{fresh_settled}
 use Rattle.label_laws.specs.Network.{LabelNetwork, place_of, at_node, behind}
-use Rattle.label_laws.specs.Acts.{Act, Deliver, Want, Unwant, Put, Land, Drop, Lose, Notice, Raise, Restart, Tick, Timers, stepped, left_in_transit, delivered, wanted, is_between, is_at, unjoined, noticed, with_joined, raised, act, run}
+use Rattle.label_laws.specs.Acts.{Act, Deliver, Want, Unwant, Put, Land, Drop, Lose, Notice, Raise, Restart, Tick, Timers, Reroute, stepped, left_in_transit, delivered, wanted, is_between, is_at, unjoined, noticed, with_joined, raised, act, run}
 use Rattle.label_laws.specs.Rule.{Rule, Kept, OnNetwork, end_of, branch_trees, is_held, none}
 use Rattle.label_laws.proofs.Frames.{node_here, node_there, behind_silent}
 use Rattle.label_laws.proofs.NodeRule.{node_rule}
@@ -26,7 +26,7 @@ use Rattle.label_laws.proofs.Sessions.{Begins, between_swap, at_swap, unjoined_r
 use Rattle.label_laws.proofs.Ends.{with_node, noticed_rule, fresh_rule, new_end, risen, risen_here, risen_rule, bare_where}
 use Rattle.label_laws.proofs.Times.{tick_rule, timed_rule}
 use Rattle.label_laws.proofs.Copies.{put_kept, dropped_rule, landed_kept}
-use Rattle.label_laws.proofs.Steps.{settled_behind, call_kept, taken_rule}
+use Rattle.label_laws.proofs.Steps.{settled_behind, call_kept, rerouted_kept, taken_rule}
 
 apart : (a b : NodeId) → (a.0 == b.0) ≡ false → a ≢ b
 apart a b t e = (let x = node_itself a b e in absurd cc)
@@ -230,9 +230,10 @@ act_kept w (Drop a b place) k = record { rule = dropped_rule w a b place k.rule;
 act_kept w (Lose a b) k = record { rule = unjoined_rule w (is_between a b) (between_swap a b) k.rule; settled = k.settled }
 act_kept w (Notice a b) k = noticed_kept w a b (w.direction a b).joined (is_up (w.node a) b) refl k
 act_kept w (Raise a b) k = raised_kept w a b (a.0 == b.0) (is_up (w.node a) b) (is_up (w.node b) a) refl refl refl k
-act_kept w (Restart n) k = restarted_kept w n (length (w.node n).labels) k
+act_kept w (Restart n) k = restarted_kept w n (w.labels n) k
 act_kept w (Tick ticks) k = record { rule = tick_rule w ticks k.rule; settled = k.settled }
 act_kept w (Timers n) k = timers_kept w n k
+act_kept w (Reroute n upstream) k = rerouted_kept w n upstream k
 
 bind_kept : (o : Option LabelNetwork) (next : LabelNetwork → Option LabelNetwork) → OnNetwork Kept o → ((v : LabelNetwork) → Kept v → OnNetwork Kept (next v)) → OnNetwork Kept (o >>? next)
 bind_kept None next k h = tt

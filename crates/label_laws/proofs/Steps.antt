@@ -1,6 +1,6 @@
 -- A label step of one node keeps the rule where its call's own effect does.
-use Rattle.std.proofs.Common.{◌≡◌, ◌≢◌, ◌+◌, inl, inr, refl, sym, ap, subst, List, [], ◌∷◌, ◌++◌, option_map, Option, Some, None}
-use Rattle.std.proofs.lemmas.Bool.{cond-true}
+use Rattle.std.proofs.Common.{◌≡◌, ◌≢◌, ◌+◌, ◌==◌, inl, inr, refl, sym, ap, subst, List, [], ◌∷◌, ◌++◌, option_map, Option, Some, None}
+use Rattle.std.proofs.lemmas.Bool.{cond-true, cond-false}
 use Rattle.std.proofs.lemmas.List.{append-nil}
 use Rattle.std.specs.FinSet as sets
 use Rattle.mv_base.specs.declared.ids.NodeId.{NodeId}
@@ -8,20 +8,22 @@ use Rattle.mldp_fec.specs.declared.fec.Fec.{Fec}
 use Rattle.mldp_msgs.specs.declared.message.LabelMessage.{LabelMessage}
 use Rattle.mldp_msgs.specs.declared.message.LabelMessage.TheVariants as messages
 use Rattle.label_defs.specs.declared.put.Put.{Put}
-use Rattle.label_defs.specs.LabelData.{LabelData}
+use Rattle.label_defs.specs.LabelData.{Place, LabelData}
 use Rattle.label_defs.specs.Settling.{Stepped}
 use Rattle.label_defs.specs.Steps as steps
 use Rattle.label_defs.specs.Steps.{Call, effect, counted, label_step, branch_to}
 use Rattle.label_defs.specs.Settled.{Settled, AllSettled, MayBe}
-use Rattle.label_defs.proofs.KeyLemmas.{node_cases}
+use Rattle.label_defs.proofs.KeyLemmas.{node_apart, node_cases}
 use Rattle.label_defs.proofs.OwnLemmas.{step_keeps}
 use Rattle.label_defs.proofs.StepLemmas.{step_settled}
+use Rattle.label_defs.proofs.RerouteLemmas.{rerouted_settled}
 use Rattle.label_defs.proofs.TurnLemmas.{Turn}
+use Rattle.label_defs.proofs.IdLemmas.{get_after}
 use Rattle.label_laws.specs.Network.{LabelNetwork, place_of, at_node, behind}
-use Rattle.label_laws.specs.Acts.{stepped, left_in_transit}
-use Rattle.label_laws.specs.Rule.{Rule, Kept, OnNetwork}
+use Rattle.label_laws.specs.Acts.{stepped, left_in_transit, with_upstream}
+use Rattle.label_laws.specs.Rule.{Rule, Kept, OnNetwork, end_of}
 use Rattle.label_laws.proofs.Frames.{node_here, node_there, behind_again, behind_silent}
-use Rattle.label_laws.proofs.Turns.{same_rule, turn_rule}
+use Rattle.label_laws.proofs.Turns.{AlikeEnd, passed_end, alike_rule, same_rule, turn_rule}
 use Rattle.label_laws.proofs.Pops.{mapped_tree, mapping_rule, ignored_rule}
 use Rattle.label_laws.proofs.Withdraws.{withdraw_rule}
 use Rattle.label_laws.proofs.Releases.{release_rule}
@@ -40,7 +42,10 @@ counted_behind w n old rule =
     let v = behind w n old in
     let next = (counted old).part in
     let here = node_here n old.part w.node in
-    let same = same_rule v n next (ap (λ (d : LabelData). d.labels) (sym here)) (record { branches = ap (λ (d : LabelData). d.branches) (sym here); leaves = ap (λ (d : LabelData). d.leaves) (sym here); ends = ap (λ (d : LabelData). d.ends) (sym here) }) rule in
+    let ends : (u : NodeId) → AlikeEnd (end_of (v.node n) u) (end_of next u) = λ u.
+    subst (λ (d : LabelData). AlikeEnd (end_of d u) (end_of next u)) (sym here)
+    (subst (AlikeEnd (end_of old.part u)) (sym (get_after old.part.ends old.puts u)) (passed_end u old.puts (end_of old.part u))) in
+    let same = alike_rule v n next (ap (λ (d : LabelData). d.labels) (sym here)) (ap (λ (d : LabelData). d.branches) (sym here)) (ap (λ (d : LabelData). d.leaves) (sym here)) ends rule in
     let P : List Put → Type 0 = λ ps. Rule (behind w n (record { part = next; puts = ps })) in
     subst P (append-nil old.puts) (subst Rule (behind_again w n old.part next old.puts []) same)
 
@@ -50,16 +55,20 @@ step_rule w n call new start e =
     step_keeps (place_of w n) w.clock (w.node n) call new (λ part puts. Rule (behind w n (record { part = part; puts = puts })))
     (λ old puts fec next more t rule. turn_behind w n old puts fec next more t rule) (λ old rule. counted_behind w n old rule) start e
 
+-- all other nodes are settled, and this one is behind the step
+part_settled : (w : LabelNetwork) (n : NodeId) (new : LabelData) → ((m : NodeId) → m ≢ n → AllSettled (place_of w m) (w.node m)) → AllSettled (place_of w n) new → (m : NodeId) → AllSettled (place_of w m) (at_node n new w.node m)
+part_settled w n new others own m fec =
+    elim (node_cases m n) [
+      | inr ne ↦ let P : LabelData → Type 0 = λ d. Settled (place_of w m) d fec in subst P (sym (node_there n new w.node m ne)) (others m ne fec)
+      | inl same ↦
+          let Q : NodeId → Type 0 = λ x. Settled (place_of w x) (at_node n new w.node x) fec in
+          let P : LabelData → Type 0 = λ d. Settled (place_of w n) d fec in
+          subst Q (sym same) (subst P (sym (node_here n new w.node)) (own fec))
+    ]
+
 pub settled_behind : (w : LabelNetwork) (n : NodeId) (call : Call) (new : Stepped) → MayBe (w.node n) call → ((m : NodeId) → AllSettled (place_of w m) (w.node m)) → label_step (place_of w n) w.clock (w.node n) call ≡ Some new
     → (m : NodeId) → AllSettled (place_of w m) (at_node n new.part w.node m)
-settled_behind w n call new may all e m fec =
-    elim (node_cases m n) [
-      | inr ne ↦ let P : LabelData → Type 0 = λ d. Settled (place_of w m) d fec in subst P (sym (node_there n new.part w.node m ne)) (all m fec)
-      | inl same ↦
-          let Q : NodeId → Type 0 = λ x. Settled (place_of w x) (at_node n new.part w.node x) fec in
-          let P : LabelData → Type 0 = λ d. Settled (place_of w n) d fec in
-          subst Q (sym same) (subst P (sym (node_here n new.part w.node)) (step_settled (place_of w n) w.clock (w.node n) call new may (all n) e fec))
-    ]
+settled_behind w n call new may all e = part_settled w n new.part (λ m ne. all m) (step_settled (place_of w n) w.clock (w.node n) call new may (all n) e)
 
 pub call_kept : (w : LabelNetwork) (n : NodeId) (call : Call) → MayBe (w.node n) call → Rule (behind w n (effect (place_of w n) w.clock (w.node n) call).0) → ((m : NodeId) → AllSettled (place_of w m) (w.node m)) → OnNetwork Kept (stepped w n call)
 call_kept w n call may start all = by (label_step (place_of w n) w.clock (w.node n) call) refl
@@ -67,6 +76,31 @@ call_kept w n call may start all = by (label_step (place_of w n) w.clock (w.node
     by : (o : Option Stepped) → label_step (place_of w n) w.clock (w.node n) call ≡ o → OnNetwork Kept (option_map (behind w n) o)
     by None e = tt
     by (Some new) e = record { rule = step_rule w n call new start e; settled = settled_behind w n call new may all e }
+
+-- ---- next hops change
+
+-- the rule does not speak of next hops
+upstream_rule : (w : LabelNetwork) (n : NodeId) (upstream : Fec → Option NodeId) → Rule w → Rule (with_upstream w n upstream)
+upstream_rule w n upstream rule = record { view = rule.view; session = λ u v ne. (let s = rule.session u v ne in record { alike = s.alike; quiet = s.quiet; ends = s.ends }); copies = rule.copies; trees = rule.trees }
+
+-- the place of another node stays
+other_place : (w : LabelNetwork) (n : NodeId) (upstream : Fec → Option NodeId) (m : NodeId) → m ≢ n → place_of (with_upstream w n upstream) m ≡ place_of w m
+other_place w n upstream m ne = ap (λ (next : Fec → Option NodeId). record { life = w.life; is_tree = w.is_tree; upstream = next }) (cond-false (m.0 == n.0) upstream (w.upstream m) (node_apart m n ne))
+
+module _ (w : LabelNetwork) (n : NodeId) (upstream : Fec → Option NodeId) (k : Kept w) where
+  abbrev aimed : LabelNetwork
+  aimed = with_upstream w n upstream
+
+  pub rerouted_kept : OnNetwork Kept (stepped aimed n steps.Rerouted)
+  rerouted_kept = by (label_step (place_of aimed n) w.clock (w.node n) steps.Rerouted) refl
+    where
+      by : (o : Option Stepped) → label_step (place_of aimed n) w.clock (w.node n) steps.Rerouted ≡ o → OnNetwork Kept (option_map (behind aimed n) o)
+      by None e = tt
+      by (Some new) e = record {
+        rule = step_rule aimed n steps.Rerouted new (same_rule aimed n (w.node n) refl (record { branches = refl; leaves = refl; ends = refl }) (upstream_rule w n upstream k.rule)) e;
+        settled = part_settled aimed n new.part (λ m ne. subst (λ (p : Place). AllSettled p (w.node m)) (sym (other_place w n upstream m ne)) (k.settled m))
+            (rerouted_settled (place_of w n) (place_of aimed n) w.clock (w.node n) new (k.settled n) e);
+      }
 
 -- ---- a message is taken
 

@@ -1,6 +1,7 @@
 -- A tree of a node settles: no label changes, or one does and one message of it is put.
-use Rattle.std.proofs.Common.{◌≡◌, ◌≢◌, ℕ, ◌==◌, Bool, true, false, inl, inr, refl, sym, ap, subst, ◌∙◌, List, [], ◌∷◌, ◌++◌, filter, Option, Some, is_some}
+use Rattle.std.proofs.Common.{◌≡◌, ◌≢◌, ℕ, ◌==◌, Bool, true, false, inl, inr, refl, sym, ap, subst, ◌∙◌, List, [], ◌∷◌, ◌++◌, filter, Option, Some, None, option_map, is_some, ◌≤◌}
 use Rattle.std.proofs.lemmas.Bool.{cases_eq, ne_eqb, eq-eqb}
+use Rattle.std.proofs.lemmas.Option.{same_Some, none-some}
 use Rattle.std.specs.FinMap as maps
 use Rattle.std.specs.FinMap.{FinMap}
 use Rattle.std.specs.FinSet as sets
@@ -19,8 +20,9 @@ use Rattle.label_defs.specs.Steps.{branch_to}
 use Rattle.label_defs.proofs.KeyLemmas.{node_cases}
 use Rattle.label_defs.proofs.UseLemmas.{used, set_here, set_there}
 use Rattle.label_defs.proofs.TurnLemmas.{Turn, SameRest}
+use Rattle.label_defs.proofs.IdLemmas.{passed, passed_held, passed_raised}
 use Rattle.label_laws.specs.Network.{LabelNetwork, place_of, sent, behind}
-use Rattle.label_laws.specs.Rule.{Holds, View, ViewAt, LabelCovers, Covered, Rule, end_of, branch_trees, is_of_owner, is_release_of}
+use Rattle.label_laws.specs.Rule.{Holds, View, ViewAt, LabelCovers, Covered, Unheld, Rule, is_held, end_of, branch_trees, is_of_owner, is_release_of}
 use Rattle.label_laws.proofs.Frames.{along_view, none_to, fails_to, sent_other, sent_quiet, sent_skips, sent_passes, stand_along, covered_along, covered_if, behind_silent}
 use Rattle.label_laws.proofs.Phases.{free_other}
 use Rattle.label_laws.proofs.Views.{SameOrOther, same_view, free_view, left_view}
@@ -34,22 +36,73 @@ same_ends d e h u = ap (λ (ends : FinMap node_cmp End). maps.get ends u) h
 pub same_branches : (d e : LabelData) → d.branches ≡ e.branches → (n : NodeId) (l : ℕ) → branch_trees d n l ≡ branch_trees e n l
 same_branches d e h n l = λ i fec. sets.contains (h i) (branch_to n fec l)
 
+-- the rule reads alike of both ends
+pub record AlikeEnd (old new : Option End) : Type 0 where
+  pub down : old ≡ None → new ≡ None
+  pub held : is_held new ≡ is_held old
+  pub up : is_some new ≡ is_some old
+  pub unheld : (put_at : ℕ) → Unheld old put_at → Unheld new put_at
+
+near_alike : (u : NodeId) (l : ℕ) (live : Bool) (near also far : Option End) (s : Option LabelUse) (ms bs : List LabelMessage) (o : Fec → Bool) → AlikeEnd near also → View u l live near far s ms bs o → View u l live also far s ms bs o
+near_alike u l live near also far s ms bs o a v =
+    record {
+      phase = v.phase;
+      alone = λ f off h. elim (v.alone f off h) [ inl none ↦ inl (a.down none) | inr holds ↦ inr holds ];
+      owner = λ f h. a.held ∙ v.owner f h;
+      branch = v.branch;
+    }
+
+far_alike : (u : NodeId) (l : ℕ) (live : Bool) (near far also : Option End) (s : Option LabelUse) (ms bs : List LabelMessage) (o : Fec → Bool) → AlikeEnd far also → View u l live near far s ms bs o → View u l live near also s ms bs o
+far_alike u l live near far also s ms bs o a v = record { phase = v.phase; alone = v.alone; owner = v.owner; branch = λ f h. a.up ∙ v.branch f h }
+
+covered_alike : (life : ℕ) (vpn_of : Fec → ℕ) (u : NodeId) (vpn t : ℕ) (c d : Option End) (s : Option LabelUse) → AlikeEnd c d → Covered life vpn_of u c s vpn t → Covered life vpn_of u d s vpn t
+covered_alike life vpn_of u vpn t c d s a h = elim h [
+  | inl none ↦ inl (a.down none)
+  | inr x ↦ elim x [ inl young ↦ inr (inl (a.unheld t young)) | inr stands ↦ inr (inr stands) ]
+]
+
 -- what the rule reads of the data stays
-pub same_rule : (w : LabelNetwork) (b : NodeId) (d : LabelData) → d.labels ≡ (w.node b).labels → SameRest (w.node b) d → Rule w → Rule (behind w b (record { part = d; puts = [] }))
-same_rule w b d labels rest rule =
-    let ends = same_ends d (w.node b) rest.ends in
-    let branches = same_branches d (w.node b) rest.branches in
+pub alike_rule : (w : LabelNetwork) (b : NodeId) (d : LabelData) → d.labels ≡ (w.node b).labels → d.branches ≡ (w.node b).branches → d.leaves ≡ (w.node b).leaves
+    → ((u : NodeId) → AlikeEnd (end_of (w.node b) u) (end_of d u)) → Rule w → Rule (behind w b (record { part = d; puts = [] }))
+alike_rule w b d labels own_branches own_leaves ends rule =
+    let branches = same_branches d (w.node b) own_branches in
     let same : (l : ℕ) → use_of d l ≡ use_of (w.node b) l = λ l. ap (λ (ls : List LabelUse). used ls l) labels in
     subst Rule (behind_silent w b d) (node_rule w b d (λ u n. (w.direction u n).transit) (record {
-      owner = λ u l j v. along_view refl (ends u) refl (same l) refl refl refl v;
-      branch = λ n l j v. along_view refl refl (ends n) refl refl refl (branches n l) v;
+      owner = λ u l j v. near_alike u l (w.direction u b).joined (end_of (w.node b) u) (end_of d u) (end_of (w.node u) b) (use_of d l) (filter (is_of_owner l) (w.direction b u).transit) (filter (is_release_of l) (w.direction u b).transit) (branch_trees (w.node u) b l) (ends u)
+          (along_view refl refl refl (same l) refl refl refl v);
+      branch = λ n l j v. far_alike b l (w.direction b n).joined (end_of (w.node n) b) (end_of (w.node b) n) (end_of d n) (use_of (w.node n) l) (filter (is_of_owner l) (w.direction n b).transit) (filter (is_release_of l) (w.direction b n).transit) (branch_trees d n l) (ends n)
+          (along_view refl refl refl refl refl refl (branches n l) v);
       others = λ u n p q. refl;
       quiet = λ u n j off e. e;
-      ends = λ n j up. ap is_some (ends n) ∙ (rule.session b n j).ends up;
-      covered = λ u l vpn t j past young h. covered_along w.life w.vpn_of u vpn t (end_of (w.node b) u) (end_of d u) (use_of (w.node b) l) (use_of d l) (ends u) (same l) h;
-      trees = fewer_trees w.is_tree (w.node b) d (λ f h. ap (λ (s : FinSet fec_cmp). sets.contains s f) (sym rest.leaves) ∙ h) (λ x h. ap (λ (s : FinSet branch_cmp). sets.contains s x) (sym rest.branches) ∙ h)
+      ends = λ n j up. (ends n).up ∙ (rule.session b n j).ends up;
+      covered = λ u l vpn t j past young h. covered_alike w.life w.vpn_of u vpn t (end_of (w.node b) u) (end_of d u) (use_of d l) (ends u)
+          (covered_along w.life w.vpn_of u vpn t (end_of (w.node b) u) (end_of (w.node b) u) (use_of (w.node b) l) (use_of d l) refl (same l) h);
+      trees = fewer_trees w.is_tree (w.node b) d (λ f h. ap (λ (s : FinSet fec_cmp). sets.contains s f) (sym own_leaves) ∙ h) (λ x h. ap (λ (s : FinSet branch_cmp). sets.contains s x) (sym own_branches) ∙ h)
           (λ l f u h. holds_along f u (use_of d l) (use_of (w.node b) l) (same l) h) (rule.trees b);
     }) rule)
+
+pub same_end : (old new : Option End) → new ≡ old → AlikeEnd old new
+same_end old new e = record { down = λ none. e ∙ none; held = ap is_held e; up = ap is_some e; unheld = λ t x. record { end = x.end; up = e ∙ x.up; since = x.since; unheld = x.unheld } }
+
+-- an end behind messages
+pub passed_end : (n : NodeId) (puts : List Put) (old : Option End) → AlikeEnd old (option_map (passed n puts) old)
+passed_end n puts None = same_end None None refl
+passed_end n puts (Some end) = record {
+  down = λ none. absurd (none-some end (sym none));
+  held = passed_held n puts end;
+  up = refl;
+  unheld = λ t x.
+      let same = same_Some end x.end x.up in
+      record {
+        end = passed n puts end;
+        up = refl;
+        since = subst (λ (moment : ℕ). t ≤ moment) (sym (passed_raised n puts end ∙ ap (λ (y : End). y.raised) same)) x.since;
+        unheld = passed_held n puts end ∙ ap (λ (y : End). y.held) same ∙ x.unheld;
+      };
+}
+
+pub same_rule : (w : LabelNetwork) (b : NodeId) (d : LabelData) → d.labels ≡ (w.node b).labels → SameRest (w.node b) d → Rule w → Rule (behind w b (record { part = d; puts = [] }))
+same_rule w b d labels rest rule = alike_rule w b d labels rest.branches rest.leaves (λ u. same_end (end_of (w.node b) u) (end_of d u) (same_ends d (w.node b) rest.ends u)) rule
 
 -- one label of b goes from one use to another, and a message of that label is put to x
 module _ (w : LabelNetwork) (b x : NodeId) (d : LabelData) (l : ℕ) (s : Option LabelUse) (m : LabelMessage) (rule : Rule w)

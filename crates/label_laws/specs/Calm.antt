@@ -25,4 +25,6 @@ Calm network depth root fec = (n : NodeId) → has_tree (network.node n) fec ≡
 -- a node is reached from the root of a tree: by branches, each under a label that its neighbour has mapped to the tree
 pub data Reached (network : LabelNetwork) (fec : Fec) (root : NodeId) : NodeId → Type 0 where
   at_root : Reached network fec root root
-  below : {n : NodeId} (u : NodeId) (label : ℕ) → Reached network fec root u → sets.contains (network.node u).branches (branch_to n fec label) ≡ true → use_of (network.node n) label ≡ Some (uses.Mapped fec u) → Reached network fec root n
+  below : {n : NodeId} (u : NodeId) (label : ℕ) → Reached network fec root u →
+      sets.contains (network.node u).branches (branch_to n fec label) ≡ true →
+      use_of (network.node n) label ≡ Some (uses.Mapped fec u) → Reached network fec root n

@@ -1,10 +1,10 @@
 -- A network of label nodes at the level of messages.
-use Rattle.std.specs.Prelude.{ℕ, ◌==◌, ◌&&◌, Bool, List, [], ◌∷◌, ◌++◌, Option, if◌then◌else◌}
+use Rattle.std.specs.Prelude.{ℕ, ◌==◌, ◌&&◌, Bool, false, List, [], ◌∷◌, ◌++◌, Option, if◌then◌else◌}
 use Rattle.mv_base.specs.declared.ids.NodeId.{NodeId}
 use Rattle.mldp_fec.specs.declared.fec.Fec.{Fec}
 use Rattle.mldp_msgs.specs.declared.message.LabelMessage.{LabelMessage}
 use Rattle.label_defs.specs.declared.put.Put.{Put}
-use Rattle.label_defs.specs.LabelData.{Place, LabelData}
+use Rattle.label_defs.specs.LabelData.{Place, LabelData, fresh}
 use Rattle.label_defs.specs.Settling.{Stepped}
 
 -- A copy of a datagram on a link: the label that it carries, when it was put on the link, and the number of its datagram.
@@ -20,17 +20,33 @@ pub record Direction : Type 0 where
   pub transit : List LabelMessage
   pub copies : List PacketCopy
 
--- A network: its clock; how long a copy may be on a link; which FECs are those of trees; each node's neighbour towards the root
--- of a tree; the VPN of a tree, and that of a datagram; the label part of each node; and what is between each two nodes.
+-- A network: its clock; how long a copy may be on a link; how many labels each node has; which FECs are those of trees; each
+-- node's neighbour towards the root of a tree; the VPN of a tree, and that of a datagram; the label part of each node; and what is
+-- between each two nodes.
 pub record LabelNetwork : Type 0 where
   pub clock : ℕ
   pub life : ℕ
+  pub labels : NodeId → ℕ
   pub is_tree : Fec → Bool
   pub upstream : NodeId → Fec → Option NodeId
   pub vpn_of : Fec → ℕ
   pub origin : ℕ → ℕ
   pub node : NodeId → LabelData
   pub direction : NodeId → NodeId → Direction
+
+-- a network in which nothing has happened
+abbrev pub at_start : ℕ → (NodeId → ℕ) → (Fec → Bool) → (NodeId → Fec → Option NodeId) → (Fec → ℕ) → (ℕ → ℕ) → LabelNetwork
+at_start life labels is_tree upstream vpn_of origin = record {
+  clock = 0;
+  life = life;
+  labels = labels;
+  is_tree = is_tree;
+  upstream = upstream;
+  vpn_of = vpn_of;
+  origin = origin;
+  node = λ n. fresh (labels n);
+  direction = λ u n. record { joined = false; transit = []; copies = [] };
+}
 
 -- the place of a node in the network
 abbrev pub place_of : LabelNetwork → NodeId → Place
@@ -47,7 +63,10 @@ messages_to to (put ∷ more) = if put.to.0 == to.0 then put.message ∷ message
 
 -- what is in transit from one node to another once a node has put these: they are lost where the session is not joined
 abbrev pub sent : NodeId → List Put → (NodeId → NodeId → Direction) → NodeId → NodeId → List LabelMessage
-sent from puts direction u n = if (u.0 == from.0) && (direction u n).joined then (direction u n).transit ++ messages_to n puts else (direction u n).transit
+sent from puts direction u n =
+    if (u.0 == from.0) && (direction u n).joined
+    then (direction u n).transit ++ messages_to n puts
+    else (direction u n).transit
 
 -- the network once a node has stepped
 abbrev pub behind : LabelNetwork → NodeId → Stepped → LabelNetwork

@@ -1,5 +1,6 @@
 -- What holds of a network of label nodes after every run.
-use Rattle.std.specs.Prelude.{◌≡◌, ◌≢◌, ℕ, ◌+◌, ◌≤◌, ◌==◌, Bool, true, false, List, [], ◌∷◌, Option, Some, None, is_some, ◌⊎◌, ⊤}
+use Rattle.std.specs.Prelude.{◌≡◌, ◌≢◌, ◌⊎◌, ⊤, ℕ, ◌+◌, ◌≤◌, ◌==◌, Bool, true, false}
+use Rattle.std.specs.Prelude.{List, [], ◌∷◌, Option, Some, None, is_some}
 use Rattle.std.specs.List.{filter, AllByRecursion}
 use Rattle.std.specs.FinMap as maps
 use Rattle.std.specs.FinSet as sets
@@ -54,7 +55,8 @@ abbrev pub only : Fec → Fec → Bool
 only own fec = same_fec fec own
 
 -- the use of the label, its messages to the neighbour, its releases back, and the branches there
-pub record Parts (usage own : Option LabelUse) (down own_down up own_up : List LabelMessage) (branches own_branches : Fec → Bool) : Type 0 where
+pub record Parts (usage own : Option LabelUse) (down own_down up own_up : List LabelMessage)
+    (branches own_branches : Fec → Bool) : Type 0 where
   pub used : usage ≡ own
   pub put : down ≡ own_down
   pub back : up ≡ own_up
@@ -62,11 +64,15 @@ pub record Parts (usage own : Option LabelUse) (down own_down up own_up : List L
 
 -- the label is in that phase
 abbrev pub PhaseIs : Kind → NodeId → ℕ → Option LabelUse → List LabelMessage → List LabelMessage → (Fec → Bool) → Type 0
-PhaseIs (Mapping fec) u label usage down up branches = Parts usage (Some (uses.Mapped fec u)) down (messages.Mapping fec label ∷ []) up [] branches none
+PhaseIs (Mapping fec) u label usage down up branches =
+    Parts usage (Some (uses.Mapped fec u)) down (messages.Mapping fec label ∷ []) up [] branches none
 PhaseIs (Stands fec) u label usage down up branches = Parts usage (Some (uses.Mapped fec u)) down [] up [] branches (only fec)
-PhaseIs (MappingAndWithdraw fec) u label usage down up branches = Parts usage (Some (uses.Leaving fec u)) down (messages.Mapping fec label ∷ messages.Withdraw fec label ∷ []) up [] branches none
-PhaseIs (Withdraw fec) u label usage down up branches = Parts usage (Some (uses.Leaving fec u)) down (messages.Withdraw fec label ∷ []) up [] branches (only fec)
-PhaseIs (Release fec) u label usage down up branches = Parts usage (Some (uses.Leaving fec u)) down [] up (messages.Release fec label ∷ []) branches none
+PhaseIs (MappingAndWithdraw fec) u label usage down up branches =
+    Parts usage (Some (uses.Leaving fec u)) down (messages.Mapping fec label ∷ messages.Withdraw fec label ∷ []) up [] branches none
+PhaseIs (Withdraw fec) u label usage down up branches =
+    Parts usage (Some (uses.Leaving fec u)) down (messages.Withdraw fec label ∷ []) up [] branches (only fec)
+PhaseIs (Release fec) u label usage down up branches =
+    Parts usage (Some (uses.Leaving fec u)) down [] up (messages.Release fec label ∷ []) branches none
 PhaseIs Idle u label usage down up branches = IsOther u usage × Parts usage usage down [] up [] branches none
 
 -- a label of a joined session is in one of the phases
@@ -82,7 +88,8 @@ is_held (Some end) = end.held
 -- What holds of one label of a node, seen from its neighbour u. The near end is the node's, the far one u's. The label of a joined
 -- session is in a phase; where the session is not joined, a branch is left only of a label that is held, or of a node whose end is
 -- down; a label is held only towards an end whose hold was run; and a branch is left only where the far end is up.
-pub record View (u : NodeId) (label : ℕ) (joined : Bool) (near far : Option End) (usage : Option LabelUse) (down up : List LabelMessage) (branches : Fec → Bool) : Type 0 where
+pub record View (u : NodeId) (label : ℕ) (joined : Bool) (near far : Option End) (usage : Option LabelUse)
+    (down up : List LabelMessage) (branches : Fec → Bool) : Type 0 where
   pub phase : joined ≡ true → Phase u label usage down up branches
   pub alone : (fec : Fec) → joined ≡ false → branches fec ≡ true → (near ≡ None) ⊎ Holds fec u usage
   pub owner : (fec : Fec) → Holds fec u usage → is_held near ≡ true
@@ -99,7 +106,8 @@ branch_trees part n label fec = sets.contains part.branches (branch_to n fec lab
 abbrev pub ViewAt : LabelNetwork → NodeId → NodeId → ℕ → Type 0
 ViewAt network u n label =
     View u label (network.direction u n).joined (end_of (network.node n) u) (end_of (network.node u) n) (use_of (network.node n) label)
-    (filter (is_of_owner label) (network.direction n u).transit) (filter (is_release_of label) (network.direction u n).transit) (branch_trees (network.node u) n label)
+    (filter (is_of_owner label) (network.direction n u).transit) (filter (is_release_of label) (network.direction u n).transit)
+    (branch_trees (network.node u) n label)
 
 -- ---- sessions, trees
 
@@ -145,7 +153,8 @@ pub record CopyOk (clock life : ℕ) (vpn_of : Fec → ℕ) (origin : ℕ → �
 pub record Rule (network : LabelNetwork) : Type 0 where
   pub view : (u n : NodeId) (label : ℕ) → u ≢ n → ViewAt network u n label
   pub session : (u n : NodeId) → u ≢ n → SessionAt network u n
-  pub copies : (u n : NodeId) → u ≢ n → AllByRecursion (CopyOk network.clock network.life network.vpn_of network.origin u (network.node n)) (network.direction u n).copies
+  pub copies : (u n : NodeId) → u ≢ n →
+      AllByRecursion (CopyOk network.clock network.life network.vpn_of network.origin u (network.node n)) (network.direction u n).copies
   pub trees : (n : NodeId) → OfTrees network.is_tree (network.node n)
 
 -- the rule, and each tree of each node is settled
@@ -164,21 +173,33 @@ OnNetwork P (Some network) = P network
 -- leaving towards u; or it rests until no copy of that moment is on a link; or the end of n towards u is down; or that end came
 -- up when the copy was put or later, and its hold was not run.
 pub data CopyCase (network : LabelNetwork) (u n : NodeId) (copy : PacketCopy) : Type 0 where
-  is_mapped : (fec : Fec) → is_some (end_of (network.node n) u) ≡ true → use_of (network.node n) copy.label ≡ Some (uses.Mapped fec u) → network.vpn_of fec ≡ network.origin copy.number → CopyCase network u n copy
-  is_leaving : (fec : Fec) → is_some (end_of (network.node n) u) ≡ true → use_of (network.node n) copy.label ≡ Some (uses.Leaving fec u) → CopyCase network u n copy
-  is_resting : (until : ℕ) → use_of (network.node n) copy.label ≡ Some (uses.Resting until) → copy.put_at + network.life + 1 ≤ until → CopyCase network u n copy
+  is_mapped : (fec : Fec) → is_some (end_of (network.node n) u) ≡ true → use_of (network.node n) copy.label ≡ Some (uses.Mapped fec u) →
+      network.vpn_of fec ≡ network.origin copy.number → CopyCase network u n copy
+  is_leaving : (fec : Fec) → is_some (end_of (network.node n) u) ≡ true → use_of (network.node n) copy.label ≡ Some (uses.Leaving fec u) →
+      CopyCase network u n copy
+  is_resting : (until : ℕ) → use_of (network.node n) copy.label ≡ Some (uses.Resting until) → copy.put_at + network.life + 1 ≤ until →
+      CopyCase network u n copy
   is_down : end_of (network.node n) u ≡ None → CopyCase network u n copy
   is_unheld : (end : End) → end_of (network.node n) u ≡ Some end → copy.put_at ≤ end.raised → end.held ≡ false → CopyCase network u n copy
+
+-- a label of n is leaving towards u, and its withdraw is in transit
+abbrev pub IsWithdrawn : LabelNetwork → NodeId → NodeId → ℕ → Fec → Type 0
+IsWithdrawn network u n label fec =
+    (use_of (network.node n) label ≡ Some (uses.Leaving fec u))
+    × (filter (is_of_owner label) (network.direction n u).transit ≡ messages.Withdraw fec label ∷ [])
 
 -- Each copy is in one of the cases, and has not been on its link for longer than it may. Where u has a branch of a tree to n under a
 -- label, the end of u towards n is up. If the session is joined, n holds the label for that tree towards u: it is mapped, or it is
 -- leaving and its withdraw is in transit. If the session is not joined, the end of n is down, or n holds the label so.
 pub record LabelRule (network : LabelNetwork) : Type 0 where
   pub copies : (u n : NodeId) → u ≢ n → AllByRecursion (CopyCase network u n) (network.direction u n).copies
-  pub young : (u n : NodeId) → u ≢ n → AllByRecursion (λ (copy : PacketCopy). network.clock ≤ copy.put_at + network.life) (network.direction u n).copies
-  pub branch_up : (u n : NodeId) (label : ℕ) (fec : Fec) → u ≢ n → sets.contains (network.node u).branches (branch_to n fec label) ≡ true → is_some (end_of (network.node u) n) ≡ true
-  pub joined : (u n : NodeId) (label : ℕ) (fec : Fec) → u ≢ n → (network.direction u n).joined ≡ true → sets.contains (network.node u).branches (branch_to n fec label) ≡ true
-      → (use_of (network.node n) label ≡ Some (uses.Mapped fec u))
-      ⊎ ((use_of (network.node n) label ≡ Some (uses.Leaving fec u)) × (filter (is_of_owner label) (network.direction n u).transit ≡ messages.Withdraw fec label ∷ []))
-  pub unjoined : (u n : NodeId) (label : ℕ) (fec : Fec) → u ≢ n → (network.direction u n).joined ≡ false → sets.contains (network.node u).branches (branch_to n fec label) ≡ true
-      → (end_of (network.node n) u ≡ None) ⊎ Holds fec u (use_of (network.node n) label)
+  pub young : (u n : NodeId) → u ≢ n →
+      AllByRecursion (λ (copy : PacketCopy). network.clock ≤ copy.put_at + network.life) (network.direction u n).copies
+  pub branch_up : (u n : NodeId) (label : ℕ) (fec : Fec) → u ≢ n →
+      sets.contains (network.node u).branches (branch_to n fec label) ≡ true → is_some (end_of (network.node u) n) ≡ true
+  pub joined : (u n : NodeId) (label : ℕ) (fec : Fec) → u ≢ n → (network.direction u n).joined ≡ true →
+      sets.contains (network.node u).branches (branch_to n fec label) ≡ true →
+      (use_of (network.node n) label ≡ Some (uses.Mapped fec u)) ⊎ IsWithdrawn network u n label fec
+  pub unjoined : (u n : NodeId) (label : ℕ) (fec : Fec) → u ≢ n → (network.direction u n).joined ≡ false →
+      sets.contains (network.node u).branches (branch_to n fec label) ≡ true →
+      (end_of (network.node n) u ≡ None) ⊎ Holds fec u (use_of (network.node n) label)

@@ -3,8 +3,8 @@ ghost use Rattle.std.specs.Prelude.{◌≡◌, ◌≢◌, ◌<◌, ◌≤◌, �
 ghost use Rattle.mv_base.specs.declared.ids.NodeId.{NodeId};
 ghost use Rattle.mldp_fec.specs.declared.fec.Fec.{Fec};
 ghost use Rattle.label_defs.specs.declared.label_use.LabelUse.TheVariants as uses;
-ghost use Rattle.label_defs.specs.LabelData.{fresh, use_of, has_tree};
-ghost use Rattle.label_laws.specs.Network.{PacketCopy, LabelNetwork};
+ghost use Rattle.label_defs.specs.LabelData.{use_of, has_tree};
+ghost use Rattle.label_laws.specs.Network.{PacketCopy, LabelNetwork, at_start};
 ghost use Rattle.label_laws.specs.Acts.{Act, Notice, Raise, act, run};
 ghost use Rattle.label_laws.specs.Calm.{Calm, Reached};
 ghost use Rattle.label_laws.specs.Rounds.{rounds, Lists, IsQuiet, IsNearer};
@@ -12,8 +12,8 @@ ghost use Rattle.label_laws.specs.Rule.{Rule, Kept, LabelRule, OnNetwork};
 
 /// A network in which nothing has happened meets the rule, and all its trees are settled.
 pub fn start_keeps_the_rule()
-    ensures { (life : ℕ) (is_tree : Fec → Bool) (upstream : NodeId → Fec → Option NodeId) (vpn_of : Fec → ℕ) (origin : ℕ → ℕ) (count : NodeId → ℕ) →
-        Kept (record { clock = 0; life = life; is_tree = is_tree; upstream = upstream; vpn_of = vpn_of; origin = origin; node = λ n. fresh (count n); direction = λ u n. record { joined = false; transit = []; copies = [] } }) }
+    ensures { (life : ℕ) (labels : NodeId → ℕ) (is_tree : Fec → Bool) (upstream : NodeId → Fec → Option NodeId)
+        (vpn_of : Fec → ℕ) (origin : ℕ → ℕ) → Kept (at_start life labels is_tree upstream vpn_of origin) }
 {}
 
 /// Whatever happens, the rule is kept, and all trees stay settled.
@@ -28,7 +28,8 @@ pub fn the_rule_in_full()
 
 /// A copy that goes on goes on for a tree of the VPN of its datagram.
 pub fn copies_land_in_their_vpn()
-    ensures { (network : LabelNetwork) (a b : NodeId) (place : ℕ) (copy : PacketCopy) (fec : Fec) → Rule network → a ≢ b → slice_get (network.direction a b).copies place ≡ Some copy →
+    ensures { (network : LabelNetwork) (a b : NodeId) (place : ℕ) (copy : PacketCopy) (fec : Fec) →
+        Rule network → a ≢ b → slice_get (network.direction a b).copies place ≡ Some copy →
         use_of (network.node b) copy.label ≡ Some (uses.Mapped fec a) → network.vpn_of fec ≡ network.origin copy.number }
 {}
 
@@ -40,14 +41,17 @@ pub fn losses_need_no_label()
 
 /// On a calm tree each node is reached from the root, by branches whose labels are mapped to the tree.
 pub fn calm_trees()
-    ensures { (network : LabelNetwork) (depth : NodeId → ℕ) (root n : NodeId) (fec : Fec) → Calm network depth root fec → Kept network → has_tree (network.node n) fec ≡ true → Reached network fec root n }
+    ensures { (network : LabelNetwork) (depth : NodeId → ℕ) (root n : NodeId) (fec : Fec) →
+        Calm network depth root fec → Kept network → has_tree (network.node n) fec ≡ true → Reached network fec root n }
 {}
 
 /// Where each neighbour towards the root of a tree is less deep in it, all depths are below a number, and each direction of a
 /// joined session has its turn in each round, that number of rounds and one more, or any number beyond, leave nothing in transit.
 /// The rule is kept, and all trees stay settled.
 pub fn rounds_empty_sessions()
-    ensures quiet { (network new : LabelNetwork) (depth : NodeId → Fec → ℕ) (nodes count : ℕ) (order : List (NodeId × NodeId)) → Kept network → IsNearer network depth → ((n : NodeId) (fec : Fec) → depth n fec < nodes) → Lists order network →
+    ensures quiet { (network new : LabelNetwork) (depth : NodeId → Fec → ℕ) (nodes count : ℕ) (order : List (NodeId × NodeId)) →
+        Kept network → IsNearer network depth → ((n : NodeId) (fec : Fec) → depth n fec < nodes) → Lists order network →
         nodes + 1 ≤ count → rounds order count network ≡ Some new → IsQuiet new }
-    ensures kept { (network new : LabelNetwork) (order : List (NodeId × NodeId)) (count : ℕ) → Kept network → rounds order count network ≡ Some new → Kept new }
+    ensures kept { (network new : LabelNetwork) (order : List (NodeId × NodeId)) (count : ℕ) →
+        Kept network → rounds order count network ≡ Some new → Kept new }
 {}

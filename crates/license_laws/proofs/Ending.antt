@@ -8,7 +8,7 @@ use Rattle.scenario_defs.specs.declared.event.Kind.{Kind}
 use Rattle.scenario_defs.specs.declared.event.Kind.TheVariants as kinds
 use Rattle.scenario_defs.specs.declared.scenario.Scenario.{Scenario}
 use Rattle.label_defs.specs.declared.end.End.{End}
-use Rattle.edge_defs.specs.Place.{Core}
+use Rattle.world_defs.specs.Costs.{Cores}
 use Rattle.edge_defs.specs.Steps as steps
 use Rattle.mvpn_model.specs.Unready.{SessionsStand}
 use Rattle.ready_laws.proofs.ActsStand as stand
@@ -16,7 +16,7 @@ use Rattle.ready_laws.proofs.ActsStand.{WorldStands, act_stand, act_gives}
 use Rattle.ready_laws.proofs.Ends.{end_run}
 use Rattle.ready_laws.proofs.Nodes.{call_stand, fresh_end}
 use Rattle.scenario_defs.specs.Kinds.{same_kind}
-use Rattle.world_defs.specs.Acts.{Act, Tick, Timers, Move, Lose, Notice, RaiseFirst, RaiseSecond, Restart, At, Enter, Land, Drop, Tell, Acted, act}
+use Rattle.world_defs.specs.Acts.{Act, Tick, Timers, Move, Lose, Notice, RaiseFirst, RaiseSecond, Restart, At, Enter, Land, Drop, Tell, SetCost, Reroute, Acted, act}
 use Rattle.world_defs.specs.Counts.{direction}
 use Rattle.world_defs.specs.Local.{is_up_after, is_up_in}
 use Rattle.world_defs.specs.Nodes.{part_of}
@@ -90,6 +90,7 @@ call_end scenario m (steps.Unselect vrf pattern) old n peer world sound fit = sa
 call_end scenario m (steps.Raised kind p) old n peer world sound fit = absurd fit
 call_end scenario m (steps.Noticed kind p) old n peer world sound fit = absurd fit
 call_end scenario m steps.Timers old n peer world sound fit = same_both (n.0 == m.0) (old.end kinds.Ldp n peer) (end_run scenario.life old.clock (old.end kinds.Ldp n peer)) (run_some scenario.life old.clock (old.end kinds.Ldp n peer))
+call_end scenario m steps.Rerouted old n peer world sound fit = same_both (n.0 == m.0) (old.end kinds.Ldp n peer) (old.end kinds.Ldp n peer) refl
 
 act_end : (scenario : Scenario) (world : World) (one : Act) → SoundAct scenario one → IsFit world one → (old : SessionsStand) (n peer : NodeId) → is_up_after kinds.Ldp n peer (is_some (old.end kinds.Ldp n peer)) (Some one) ≡ is_some ((act_stand scenario one old).end kinds.Ldp n peer)
 act_end scenario world (Tick ticks) sound fit old n peer = refl
@@ -105,6 +106,8 @@ act_end scenario world (Enter vrf) sound fit old n peer = refl
 act_end scenario world (Land a b place) sound fit old n peer = refl
 act_end scenario world (Drop a b place) sound fit old n peer = refl
 act_end scenario world Tell sound fit old n peer = refl
+act_end scenario world (SetCost a b cost) sound fit old n peer = refl
+act_end scenario world (Reroute m) sound fit old n peer = refl
 
 -- ---- runs
 
@@ -139,5 +142,5 @@ ending_kept scenario = record {
   refused = λ before number world line reason k n peer. up_next kinds.Ldp n peer before (refused_step number line reason) ∙ k n peer;
 }
 
-pub ending_start : (scenario : Scenario) (core : Core) → Ending [] (start scenario core)
-ending_start scenario core n peer = ap is_some (sym (fresh_end scenario n peer))
+pub ending_start : (scenario : Scenario) (cores : Cores) → Ending [] (start scenario cores)
+ending_start scenario cores n peer = ap is_some (sym (fresh_end scenario n peer))

@@ -43,7 +43,7 @@ use Rattle.edge_defs.proofs.KeyLemmas.{key_total}
 use Rattle.calm_laws.proofs.Lists.{any_among, found_among}
 use Rattle.calm_laws.proofs.Maps.{entry_get}
 use Rattle.calm_laws.proofs.Tables.{peer_table}
-use Rattle.world_defs.specs.Acts.{Act, Enter, RaiseFirst, RaiseSecond, Tick, Timers, Move, Lose, Notice, Restart, At, Land, Drop, Tell, Acted, hop_line, datagram_at, enters_at, entering, act}
+use Rattle.world_defs.specs.Acts.{Act, Enter, RaiseFirst, RaiseSecond, Tick, Timers, Move, Lose, Notice, Restart, At, Land, Drop, Tell, SetCost, Reroute, Acted, hop_line, datagram_at, enters_at, entering, act}
 use Rattle.world_defs.specs.Local.{MayHop, MayEnter, EntersBy, taken_since}
 use Rattle.world_defs.specs.Nodes.{NodeState, Edge, CoreNode, place_of, part_of}
 use Rattle.world_defs.specs.Refusals.{control_of}
@@ -215,6 +215,8 @@ step_more scenario old more before (Some (At n call)) all h = tt
 step_more scenario old more before (Some (Land a b place)) all h = tt
 step_more scenario old more before (Some (Drop a b place)) all h = tt
 step_more scenario old more before (Some Tell) all h = tt
+step_more scenario old more before (Some (SetCost a b cost)) all h = tt
+step_more scenario old more before (Some (Reroute n)) all h = tt
 
 act_enters : (scenario : Scenario) (trace : List Traced) (world : World) → InStep scenario world → Branched trace world → Tabling trace world → (one : Act) (acted : Acted) → act world one ≡ Ok acted → EnterMay scenario world.datagrams trace (Some one) acted.lines
 act_enters scenario trace world s branched tabling (Enter id) acted e =
@@ -231,6 +233,8 @@ act_enters scenario trace world s branched tabling (At n call) acted e = tt
 act_enters scenario trace world s branched tabling (Land a b place) acted e = tt
 act_enters scenario trace world s branched tabling (Drop a b place) acted e = tt
 act_enters scenario trace world s branched tabling Tell acted e = tt
+act_enters scenario trace world s branched tabling (SetCost a b cost) acted e = tt
+act_enters scenario trace world s branched tabling (Reroute n) acted e = tt
 
 pub entering_kept : (scenario : Scenario) → KeepsAlso scenario (λ trace world. (Taking trace world × Branched trace world) × Tabling trace world) (Entering scenario)
 entering_kept scenario = record {

@@ -42,7 +42,7 @@ use Rattle.calm_laws.proofs.Lists.{any_among}
 use Rattle.calm_laws.proofs.Maps.{entry_get}
 use Rattle.calm_laws.proofs.Tables.{peer_table}
 use Rattle.calm_laws.proofs.Vrfs.{own_at, own_edge}
-use Rattle.world_defs.specs.Acts.{Act, Tick, Timers, Move, Lose, Notice, RaiseFirst, RaiseSecond, Restart, At, Enter, Land, Drop, Tell, Acted, hop_line, datagram_at, fate_at, with_ttl, landed, without_copy, landing, act}
+use Rattle.world_defs.specs.Acts.{Act, Tick, Timers, Move, Lose, Notice, RaiseFirst, RaiseSecond, Restart, At, Enter, Land, Drop, Tell, SetCost, Reroute, Acted, hop_line, datagram_at, fate_at, with_ttl, landed, without_copy, landing, act}
 use Rattle.world_defs.specs.LabelRule.{part_at}
 use Rattle.world_defs.specs.Local.{goes_on, is_up_in, put_since, MayHop, HopsOf, MayDeliver, OutsOf, MayLand}
 use Rattle.world_defs.specs.Nodes.{NodeState, Edge, CoreNode, place_of, part_of}
@@ -300,6 +300,8 @@ land_fit world (At n call) fit = tt
 land_fit world (Enter vrf) fit = tt
 land_fit world (Drop a b place) fit = tt
 land_fit world Tell fit = tt
+land_fit world (SetCost a b cost) fit = tt
+land_fit world (Reroute n) fit = tt
 
 -- a label that is mapped was put, and the end is up
 knows_label : (scenario : Scenario) (trace : List Traced) (world : World) → InStep scenario world → Branched trace world → Tabling trace world → Ending trace world → Said scenario trace world → (a b : NodeId) → a ≢ b → (label : ℕ) (fec : Fec) → use_of (part_at world b) label ≡ Some (uses.Mapped fec a)
@@ -334,6 +336,8 @@ act_lands scenario trace world s branched tabling ending said one acted fit e = 
     by (At n call) fit e = plain (At n call) tt e
     by (Drop a b place) fit e = plain (Drop a b place) tt e
     by Tell fit e = plain Tell tt e
+    by (SetCost a b cost) fit e = plain (SetCost a b cost) tt e
+    by (Reroute n) fit e = plain (Reroute n) tt e
 
 abbrev pub LandStep : Scenario → List Traced → Traced → Type 0
 LandStep scenario before step = LandMay scenario before step.happened.act step.happened.lines

@@ -11,7 +11,7 @@ use Rattle.scenario_defs.specs.declared.event.Event.TheVariants as events
 use Rattle.scenario_defs.specs.declared.event.Timed.{Timed}
 use Rattle.scenario_defs.specs.declared.scenario.Scenario.{Scenario}
 use Rattle.scenario_defs.specs.Kinds.{same_kind}
-use Rattle.label_defs.specs.declared.end.End.{End}
+use Rattle.mvpn_model.specs.declared.readiness.UpEnd.{UpEnd}
 use Rattle.label_defs.proofs.KeyLemmas.{node_equal}
 use Rattle.mvpn_model.specs.declared.session.Session.{Session}
 use Rattle.mvpn_model.specs.declared.readiness.SessionStands.{SessionStands}
@@ -60,14 +60,14 @@ behind-even scenario old other h = h
 seen-raised : (kind : Kind) (a b : NodeId) (old : SessionsStand) (session : Session) (b1 : Bool) → is_that kind a b session.kind session.a session.b ≡ b1
     → seen session (raised kind a b old) ≡ cond b1 (raised_one (seen session old)) (seen session old)
 seen-raised kind a b old session true e =
-    let fresh : Option End = Some (record { raised = old.clock; held = false }) in
+    let fresh : Option UpEnd = Some (record { raised = old.clock; held = false }) in
     let there = other_way kind a b session.kind session.a session.b ∙ e in
     let joined = or_right (old.joined session.kind session.a session.b) (is_that kind a b session.kind session.a session.b) e in
     let near = cond-true (is_that kind a b session.kind session.a session.b) fresh (old.end session.kind session.a session.b) e in
     let far = cond-true (is_that kind a b session.kind session.b session.a) fresh (old.end session.kind session.b session.a) there in
     λ i. record { clock = old.clock; joined = joined i; near = near i; far = far i }
 seen-raised kind a b old session false e =
-    let fresh : Option End = Some (record { raised = old.clock; held = false }) in
+    let fresh : Option UpEnd = Some (record { raised = old.clock; held = false }) in
     let there = other_way kind a b session.kind session.a session.b ∙ e in
     let joined = ap (λ t. old.joined session.kind session.a session.b || t) e ∙ or-false (old.joined session.kind session.a session.b) in
     let near = cond-false (is_that kind a b session.kind session.a session.b) fresh (old.end session.kind session.a session.b) e in

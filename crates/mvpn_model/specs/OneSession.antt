@@ -7,25 +7,24 @@ use Rattle.scenario_defs.specs.declared.event.Event.{Event}
 use Rattle.scenario_defs.specs.declared.event.Event.TheVariants as events
 use Rattle.scenario_defs.specs.declared.event.Timed.{Timed}
 use Rattle.scenario_defs.specs.Kinds.{same_kind}
-use Rattle.label_defs.specs.declared.end.End.{End}
-use Rattle.label_defs.specs.Steps.{hold_run}
+use Rattle.mvpn_model.specs.declared.readiness.UpEnd.{UpEnd}
 use Rattle.mvpn_model.specs.declared.session.Session.{Session}
 use Rattle.mvpn_model.specs.declared.readiness.SessionStands.{SessionStands}
 use Rattle.mvpn_model.specs.Past.{Past, is_accepted}
-use Rattle.mvpn_model.specs.Unready.{is_that, is_held}
+use Rattle.mvpn_model.specs.Unready.{hold_run, is_that, is_held}
 
 -- an end whose hold is run where it is due, at the nodes that a test passes
-abbrev pub timed_end : ℕ → Bool → ℕ → Option End → Option End
+abbrev pub timed_end : ℕ → Bool → ℕ → Option UpEnd → Option UpEnd
 timed_end life runs clock old = elim old [ None ↦ None | Some end ↦ Some (if runs then hold_run life clock end else end) ]
 
 -- an end behind a loss that it notices
-abbrev pub noticed_end : Bool → Option End → Option End
+abbrev pub noticed_end : Bool → Option UpEnd → Option UpEnd
 noticed_end notices old = if notices then None else old
 
 -- the session behind a raise of itself
 abbrev pub raised_one : SessionStands → SessionStands
 raised_one old =
-    let fresh : End = record { raised = old.clock; held = false } in
+    let fresh : UpEnd = record { raised = old.clock; held = false } in
     record old { joined = true; near = Some fresh; far = Some fresh }
 
 -- the session behind a loss that the node notices on its session with the peer

@@ -1,5 +1,5 @@
 -- Which sessions are ready, by the events of a past alone.
-use Rattle.std.specs.Prelude.{ℕ, ◌+◌, ◌==◌, ◌&&◌, ◌||◌, Bool, true, false, not, fold, map, count_by, Option, None, Some, if◌then◌else◌}
+use Rattle.std.specs.Prelude.{ℕ, ◌+◌, ◌==◌, ◌&&◌, ◌||◌, Bool, true, false, not, nat_le, fold, map, count_by, Option, None, Some, if◌then◌else◌}
 use Rattle.std.specs.List.{filter}
 use Rattle.mv_base.specs.declared.ids.NodeId.{NodeId}
 use Rattle.scenario_defs.specs.declared.event.Event.{Event}
@@ -7,8 +7,7 @@ use Rattle.scenario_defs.specs.declared.event.Event.TheVariants as events
 use Rattle.scenario_defs.specs.declared.event.Kind.{Kind}
 use Rattle.scenario_defs.specs.declared.event.Kind.TheVariants as kinds
 use Rattle.scenario_defs.specs.declared.scenario.Scenario.{Scenario}
-use Rattle.label_defs.specs.declared.end.End.{End}
-use Rattle.label_defs.specs.Steps.{hold_run}
+use Rattle.mvpn_model.specs.declared.readiness.UpEnd.{UpEnd}
 use Rattle.mvpn_model.specs.Past.{Past, is_accepted}
 use Rattle.mvpn_model.specs.Sessions.{sessions, is_between}
 use Rattle.mvpn_model.specs.declared.session.Session.{Session}
@@ -19,7 +18,11 @@ use Rattle.scenario_defs.specs.Kinds.{same_kind}
 pub record SessionsStand : Type 0 where
   pub clock : ℕ
   pub joined : Kind → NodeId → NodeId → Bool
-  pub end : Kind → NodeId → NodeId → Option End
+  pub end : Kind → NodeId → NodeId → Option UpEnd
+
+-- a hold that is due is run: it is behind one tick more than the life of a copy
+abbrev pub hold_run : ℕ → ℕ → UpEnd → UpEnd
+hold_run life now end = record end { held = end.held || nat_le (end.raised + life + 1) now }
 
 -- nothing has happened yet
 abbrev pub none_joined : SessionsStand
@@ -73,7 +76,7 @@ abbrev pub sessions_stand : Past → SessionsStand
 sessions_stand past = fold (behind past.scenario) none_joined (map (λ timed. timed.event) (filter (is_accepted past.refused) past.events))
 
 -- whether the hold of an end was run
-abbrev pub is_held : Option End → Bool
+abbrev pub is_held : Option UpEnd → Bool
 is_held None = false
 is_held (Some end) = end.held
 

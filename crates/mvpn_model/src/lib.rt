@@ -13,7 +13,7 @@ mod vpn;
 
 pub use history::{History, LineNumbers, asks, home, receivers};
 pub use message::{Given, message_of, own_addr};
-pub use readiness::unready;
+pub use readiness::{UpEnd, unready};
 pub use routing::{home_among, local_routes};
 pub use session::Session;
 pub use standing::Standing;

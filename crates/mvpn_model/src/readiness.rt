@@ -4,18 +4,23 @@ ghost use Rattle.scenario_defs.specs.declared.event.Kind.TheVariants as kinds;
 ghost use Rattle.std.specs.List.{fold};
 ghost use Rattle.scenario_defs.specs.Rules.{Rules};
 ghost use Rattle.scenario_defs.specs.Kinds.{same_kind};
-ghost use Rattle.label_defs.specs.Steps.{hold_run};
 ghost use Rattle.mvpn_model.specs.Past.{past_of, ticks_of, ticks_in};
 ghost use Rattle.mvpn_model.specs.Sessions.{edges_from, bgp_session, bgp_sessions, ldp_session, is_between};
-ghost use Rattle.mvpn_model.specs.Unready.{is_that, is_held, unready_behind};
+ghost use Rattle.mvpn_model.specs.Unready.{hold_run, is_that, is_held, unready_behind};
 ghost use Rattle.mvpn_model.specs.OneSession.{timed_end, noticed_end, raised_one, noticed_one, restarted_one, behind_one, after_one, none_stands, is_ready_one, unready_among};
 
 use crate::history::{History, events_of};
 use crate::session::Session;
 use crate::standing::{is_accepted, ticks_of};
-use label_defs::End;
 use mv_base::{Link, NodeId};
 use scenario_defs::{Event, Kind, Node, Timed};
+
+/// An end of a session that is up: since when, and whether its hold was run.
+#[derive(Clone, Copy)]
+pub struct UpEnd {
+    pub raised: u64,
+    pub held: bool,
+}
 
 /// Where a session stands: the clock, whether it is joined, and its two ends where they are up.
 #[derive(Clone, Copy)]
@@ -23,8 +28,8 @@ pub(crate) struct SessionStands {
     pub clock: u64,
     pub joined: bool,
     /// The end of the session's first node, and that of its second.
-    pub near: Option<End>,
-    pub far: Option<End>,
+    pub near: Option<UpEnd>,
+    pub far: Option<UpEnd>,
 }
 
 /// A session that is followed through events.
@@ -71,16 +76,16 @@ fn is_end(
 }
 
 /// The end behind a run of its node's timers: its hold is run where it is due.
-fn hold_run(life: u64, clock: u64, end: End) -> End
+fn hold_run(life: u64, clock: u64, end: UpEnd) -> UpEnd
     ensures { result ≡ hold_run life clock end }
 {
-    End {
+    UpEnd {
         raised: end.raised,
         held: end.held || clock.saturating_sub(end.raised) > life,
     }
 }
 
-fn timed_end(life: u64, runs: bool, clock: u64, old: Option<End>) -> Option<End>
+fn timed_end(life: u64, runs: bool, clock: u64, old: Option<UpEnd>) -> Option<UpEnd>
     ensures { result ≡ timed_end life runs clock old }
 {
     match old {
@@ -90,7 +95,7 @@ fn timed_end(life: u64, runs: bool, clock: u64, old: Option<End>) -> Option<End>
     }
 }
 
-fn noticed_end(notices: bool, old: Option<End>) -> Option<End>
+fn noticed_end(notices: bool, old: Option<UpEnd>) -> Option<UpEnd>
     ensures { result ≡ noticed_end notices old }
 {
     if notices { None } else { old }
@@ -103,7 +108,7 @@ fn raised_where(raises: bool, old: SessionStands) -> SessionStands
     if !raises {
         return old;
     }
-    let fresh = End {
+    let fresh = UpEnd {
         raised: old.clock,
         held: false,
     };
@@ -215,7 +220,7 @@ fn stands_one(following: &Following<'_>, events: &[Timed]) -> SessionStands
     stands
 }
 
-fn is_held(end: Option<End>) -> bool
+fn is_held(end: Option<UpEnd>) -> bool
     ensures { result ≡ is_held end }
 {
     match end {

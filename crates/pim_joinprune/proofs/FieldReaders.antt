@@ -1,7 +1,8 @@
 -- Each field is read exactly where it stands, and its faults.
-use Rattle.std.proofs.Common.{◌≡◌, ◌≢◌, ℕ, ◌/◌, ◌%◌, ◌^◌, ◌<◌, ◌⊎◌, eqb, List, [], ◌∷◌, ◌++◌, length, get_or, Result, Ok, Err, refl, sym, ap, subst, ◌∙◌, arith, inl, inr}
+use Rattle.std.proofs.Common.{◌≡◌, ◌≢◌, ℕ, ◌/◌, ◌%◌, ◌^◌, ◌<◌, ◌⊎◌, eqb, ltb, Bool, true, false, cond, List, [], ◌∷◌, ◌++◌, length, get_or, take, drop, Result, Ok, Err, refl, sym, ap, subst, ◌∙◌, arith, inl, inr}
 use Rattle.std.specs.Int.{w16, from_be_bytes}
-use Rattle.std.proofs.lemmas.Bool.{eq-eqb, ne_eqb}
+use Rattle.std.proofs.lemmas.Bool.{eq-eqb, ne_eqb, ltb-false, ltb-true, le-ltb, lt-ltb}
+use Rattle.std.proofs.lemmas.List.{take_at, drop_at, take-append-drop, length-append, length-take-le}
 use Rattle.std.proofs.lemmas.Bool.Decides.{eqb_tells}
 use Rattle.mv_base.specs.Octets.{IsOctets}
 use Rattle.mv_base.specs.Cursor.{checked}
@@ -10,13 +11,16 @@ use Rattle.mv_base.specs.declared.addr.Addr.TheVariants.{V4, V6}
 use Rattle.mv_base.proofs.Fields.{wide16, octets_before, ok_is, err_is}
 use Rattle.pim_joinprune.specs.declared.fault.PimFault.{PimFault}
 use Rattle.pim_joinprune.specs.declared.fault.PimFault.TheVariants as faults
+use Rattle.pim_joinprune.specs.declared.family.Family.{Family}
+use Rattle.pim_joinprune.specs.declared.family.Family.TheVariants.{Ipv4, Ipv6}
 use Rattle.pim_joinprune.specs.declared.source.SourceKind.{SourceKind}
 use Rattle.pim_joinprune.specs.declared.source.SourceKind.TheVariants.{Sg, Star, Rpt}
-use Rattle.pim_joinprune.specs.Fields.{Read, IsOctet, IsKnown, IsNumber, AreFour, Lacks}
-use Rattle.pim_joinprune.specs.Reading.{octet_at, known_at, number_at, four_at, kind_of, kind_or, kind_at, multicast_at}
-use Rattle.pim_joinprune.specs.Spelling.{BeginsMulticast, SpellsMulticast, IsKind, low_flags}
-use Rattle.pim_joinprune.specs.FirstFault.{KnownFails, KindFails, MulticastFails}
-use Rattle.pim_joinprune.proofs.Readers.{IsReader, IsTest, Passed, test_at, test_reader, same_reader, said_reader}
+use Rattle.pim_joinprune.specs.Fields.{Read, IsOctet, IsKnown, IsNumber, AreOctets, Lacks}
+use Rattle.pim_joinprune.specs.Reading.{octet_at, known_at, number_at, octets_at, address_at, family_or, family_at, kind_of, kind_or, kind_at, is_multicast, multicast_at}
+use Rattle.pim_joinprune.specs.Families.{family_octet, addr_len, mask_len, addr_of, named_family}
+use Rattle.pim_joinprune.specs.Spelling.{BeginsMulticast, IsFamily, SpellsAddress, SpellsMulticast, IsKind, low_flags}
+use Rattle.pim_joinprune.specs.FirstFault.{KnownFails, FamilyFails, KindFails, MulticastFails}
+use Rattle.pim_joinprune.proofs.Readers.{IsReader, IsTest, Passed, Made, test_at, test_reader, made_at, made_reader, same_reader, said_reader}
 
 abbrev missed : {A : Type 0} → ℕ → Result A (ℕ × PimFault)
 missed len = Err (len, faults.Short)
@@ -78,40 +82,37 @@ number_reader = record { taken = taken; again = again; fails = fails; faulty = f
     faulty (a ∷ []) left fault l = lacked 2 (a ∷ []) 1 left fault refl l
     faulty (a ∷ b ∷ rest) left fault l = absurd (omega (arith, l.few))
 
--- ---- four octets
+-- ---- so many octets
 
-pub four_reader : IsReader four_at AreFour (Lacks 4)
-four_reader = record { taken = taken; again = λ x text rest is. ap (λ (t : List ℕ). four_at (t ++ rest)) is.1 ∙ again x rest is.0; fails = fails; faulty = faulty }
+guard_ok : {A E : Type 0} (b : Bool) (d : E) (x y : A) → cond b (Err d) (Ok x) ≡ Ok y → (b ≡ false) × (x ≡ y)
+guard_ok true d x y e = absurd cc
+guard_ok false d x y e = (refl, cc)
+
+guard_err : {A E : Type 0} (b : Bool) (d : E) (x : A) (f : E) → cond b (Err d) (Ok x) ≡ Err f → (b ≡ true) × (d ≡ f)
+guard_err true d x f e = (refl, cc)
+guard_err false d x f e = absurd cc
+
+pub octets_reader : (n : ℕ) → IsReader (octets_at n) (AreOctets n) (Lacks n)
+octets_reader n = record { taken = taken; again = again; fails = fails; faulty = faulty }
   where
-    taken : (octets : List ℕ) (x : List ℕ × List ℕ) → IsOctets octets → four_at octets ≡ Ok x → (text : List ℕ) × AreFour x.0 text × (octets ≡ text ++ x.1)
-    taken [] x fits e = absurd cc
-    taken (a ∷ []) x fits e = absurd cc
-    taken (a ∷ b ∷ []) x fits e = absurd cc
-    taken (a ∷ b ∷ c ∷ []) x fits e = absurd cc
-    taken (a ∷ b ∷ c ∷ d ∷ rest) x fits e =
-        subst (λ (y : List ℕ × List ℕ). (text : List ℕ) × AreFour y.0 text × (a ∷ b ∷ c ∷ d ∷ rest ≡ text ++ y.1)) (ok_is (a ∷ b ∷ c ∷ d ∷ [], rest) x e) (a ∷ b ∷ c ∷ d ∷ [], (refl, refl), refl)
+    taken : (octets : List ℕ) (x : List ℕ × List ℕ) → IsOctets octets → octets_at n octets ≡ Ok x → (text : List ℕ) × AreOctets n x.0 text × (octets ≡ text ++ x.1)
+    taken octets x fits e =
+        let g = guard_ok (ltb (length octets) n) (length octets, faults.Short) (take n octets, drop n octets) x e in
+        subst (λ (y : List ℕ × List ℕ). (text : List ℕ) × AreOctets n y.0 text × (octets ≡ text ++ y.1)) g.1
+        (take n octets, (length-take-le n octets (ltb-false _ _ g.0), refl), sym (take-append-drop n octets))
 
-    again : (x rest : List ℕ) → length x ≡ 4 → four_at (x ++ rest) ≡ Ok (x, rest)
-    again [] rest len = absurd (omega (arith, len))
-    again (a ∷ []) rest len = absurd (omega (arith, len))
-    again (a ∷ b ∷ []) rest len = absurd (omega (arith, len))
-    again (a ∷ b ∷ c ∷ []) rest len = absurd (omega (arith, len))
-    again (a ∷ b ∷ c ∷ d ∷ []) rest len = refl
-    again (a ∷ b ∷ c ∷ d ∷ e ∷ more) rest len = absurd (omega (arith, len))
+    again : (x : List ℕ) (text rest : List ℕ) → AreOctets n x text → octets_at n (text ++ rest) ≡ Ok (x, rest)
+    again x text rest (len, is) =
+        let long : ltb (length (x ++ rest)) n ≡ false = le-ltb _ _ (omega (arith, len, length-append x rest)) in
+        rw (is, long, take_at x rest n len, drop_at x rest n len) refl
 
-    fails : (octets : List ℕ) (left : ℕ) (fault : PimFault) → IsOctets octets → four_at octets ≡ Err (left, fault) → Lacks 4 octets left fault
-    fails [] left fault fits e = lacks 4 [] 0 left fault (omega arith) refl e
-    fails (a ∷ []) left fault fits e = lacks 4 (a ∷ []) 1 left fault (omega arith) refl e
-    fails (a ∷ b ∷ []) left fault fits e = lacks 4 (a ∷ b ∷ []) 2 left fault (omega arith) refl e
-    fails (a ∷ b ∷ c ∷ []) left fault fits e = lacks 4 (a ∷ b ∷ c ∷ []) 3 left fault (omega arith) refl e
-    fails (a ∷ b ∷ c ∷ d ∷ rest) left fault fits e = absurd cc
+    fails : (octets : List ℕ) (left : ℕ) (fault : PimFault) → IsOctets octets → octets_at n octets ≡ Err (left, fault) → Lacks n octets left fault
+    fails octets left fault fits e =
+        let g = guard_err (ltb (length octets) n) (length octets, faults.Short) (take n octets, drop n octets) (left, fault) e in
+        record { few = ltb-true _ _ g.0; at = ap (λ (f : ℕ × PimFault). f.0) (sym g.1); is = ap (λ (f : ℕ × PimFault). f.1) (sym g.1) }
 
-    faulty : (octets : List ℕ) (left : ℕ) (fault : PimFault) → Lacks 4 octets left fault → four_at octets ≡ Err (left, fault)
-    faulty [] left fault l = lacked 4 [] 0 left fault refl l
-    faulty (a ∷ []) left fault l = lacked 4 (a ∷ []) 1 left fault refl l
-    faulty (a ∷ b ∷ []) left fault l = lacked 4 (a ∷ b ∷ []) 2 left fault refl l
-    faulty (a ∷ b ∷ c ∷ []) left fault l = lacked 4 (a ∷ b ∷ c ∷ []) 3 left fault refl l
-    faulty (a ∷ b ∷ c ∷ d ∷ rest) left fault l = absurd (omega (arith, l.few))
+    faulty : (octets : List ℕ) (left : ℕ) (fault : PimFault) → Lacks n octets left fault → octets_at n octets ≡ Err (left, fault)
+    faulty octets left fault l = rw (lt-ltb _ _ l.few, l.at, l.is) refl
 
 -- ---- an octet that has one value alone
 
@@ -185,38 +186,109 @@ kind_reader =
     back : (kind : SourceKind) (text : List ℕ) → IsKind kind text → Passed IsOctet (λ x kind. x % 4 ≡ low_flags kind) kind text
     back kind text (flags, lt, low, is) = record { x = flags; spells = (lt, is); good = low }
 
+-- ---- the octet that names the family
+
+abbrev pub family_step : ℕ → ℕ → List ℕ → Read Family
+family_step x len rest = family_or (len, faults.Family) (named_family x) rest
+
+family_test : IsTest family_step (λ x family. x ≡ family_octet family) (λ x. (x ≢ 1) × (x ≢ 2)) faults.Family
+family_test = record { told = told; good = good; bad = λ x len rest other. rw (ne_eqb x 1 other.0, ne_eqb x 2 other.1) refl }
+  where
+    told : (x : ℕ) → ((family : Family) × (x ≡ family_octet family)) ⊎ ((x ≢ 1) × (x ≢ 2))
+    told x = elim (eqb_tells x 1) [
+      | inl a ↦ inl (Ipv4, a.1)
+      | inr b ↦ elim (eqb_tells x 2) [
+        | inl c ↦ inl (Ipv6, c.1)
+        | inr d ↦ inr (b.1, d.1)
+      ]
+    ]
+
+    good : (x : ℕ) (family : Family) (len : ℕ) (rest : List ℕ) → x ≡ family_octet family → family_step x len rest ≡ Ok (family, rest)
+    good x Ipv4 len rest h = rw h refl
+    good x Ipv6 len rest h = rw h refl
+
+family_same : (octets : List ℕ) → family_at octets ≡ test_at octet_at family_step octets
+unfolding family_at
+family_same octets = refl
+
+-- an octet holds the numbers of a family
+pub family_below : (family : Family) → family_octet family < 2 ^ 8
+family_below Ipv4 = omega arith
+family_below Ipv6 = omega arith
+
+pub mask_below : (family : Family) → mask_len family < 2 ^ 8
+mask_below Ipv4 = omega arith
+mask_below Ipv6 = omega arith
+
+pub family_reader : IsReader family_at IsFamily FamilyFails
+family_reader =
+    said_reader family_at (Passed IsOctet (λ x family. x ≡ family_octet family)) IsFamily FamilyFails there back
+    (same_reader (test_at octet_at family_step) family_at _ _ family_same (test_reader octet_at IsOctet (Lacks 1) family_step (λ x family. x ≡ family_octet family) (λ x. (x ≢ 1) × (x ≢ 2)) faults.Family octet_reader family_test))
+  where
+    there : (family : Family) (text : List ℕ) → Passed IsOctet (λ x family. x ≡ family_octet family) family text → IsFamily family text
+    there family text p = p.spells.1 ∙ ap (λ (n : ℕ). n ∷ []) p.good
+
+    back : (family : Family) (text : List ℕ) → IsFamily family text → Passed IsOctet (λ x family. x ≡ family_octet family) family text
+    back family text is = record { x = family_octet family; spells = (family_below family, is); good = refl }
+
+-- ---- an address
+
+address_same : (family : Family) (octets : List ℕ) → address_at family octets ≡ made_at (octets_at (addr_len family)) (addr_of family) octets
+unfolding address_at
+address_same family octets = refl
+
+pub address_reader : (family : Family) → IsReader (address_at family) (SpellsAddress family) (Lacks (addr_len family))
+address_reader family =
+    said_reader (address_at family) (Made (addr_of family) (AreOctets (addr_len family))) (SpellsAddress family) (Lacks (addr_len family)) (λ addr text m. subst (λ (a : Addr). SpellsAddress family a text) (sym m.is) (there family m.x text m.spells)) (back family)
+    (same_reader (made_at (octets_at (addr_len family)) (addr_of family)) (address_at family) _ _ (address_same family) (made_reader (octets_at (addr_len family)) (AreOctets (addr_len family)) (Lacks (addr_len family)) (addr_of family) (octets_reader (addr_len family))))
+  where
+    there : (family : Family) (x text : List ℕ) → AreOctets (addr_len family) x text → SpellsAddress family (addr_of family x) text
+    there Ipv4 x text a = a
+    there Ipv6 x text a = a
+
+    back : (family : Family) (addr : Addr) (text : List ℕ) → SpellsAddress family addr text → Made (addr_of family) (AreOctets (addr_len family)) addr text
+    back Ipv4 (V4 x) text s = record { x = x; is = refl; spells = s }
+    back Ipv4 (V6 x) text s = absurd s.0
+    back Ipv6 (V4 x) text s = absurd s.0
+    back Ipv6 (V6 x) text s = record { x = x; is = refl; spells = s }
+
 -- ---- a multicast address
 
-abbrev pub multicast_step : List ℕ → ℕ → List ℕ → Read Addr
-multicast_step x len rest = checked (eqb (get_or x 0 0 / 16) 14) (len, faults.NotMulticast) (V4 x, rest)
+abbrev pub multicast_step : Addr → ℕ → List ℕ → Read Addr
+multicast_step x len rest = checked (is_multicast x) (len, faults.NotMulticast) (x, rest)
 
-multicast_test : IsTest multicast_step (λ x addr. (addr ≡ V4 x) × BeginsMulticast x) (λ x. ¬ (BeginsMulticast x)) faults.NotMulticast
-multicast_test = record { told = told; good = good; bad = bad }
+multicast_test : IsTest multicast_step (λ x addr. (addr ≡ x) × BeginsMulticast x) (λ x. ¬ (BeginsMulticast x)) faults.NotMulticast
+multicast_test = record { told = told; good = λ x addr len rest h. rw (h.0) (good x len rest h.1); bad = bad }
   where
-    told : (x : List ℕ) → ((addr : Addr) × ((addr ≡ V4 x) × BeginsMulticast x)) ⊎ (¬ (BeginsMulticast x))
-    told x = elim (eqb_tells (get_or x 0 0 / 16) 14) [
+    told : (x : Addr) → ((addr : Addr) × ((addr ≡ x) × BeginsMulticast x)) ⊎ (¬ (BeginsMulticast x))
+    told (V4 x) = elim (eqb_tells (get_or x 0 0 / 16) 14) [
       | inl a ↦ inl (V4 x, (refl, (omega (arith, a.1), omega (arith, a.1))))
       | inr b ↦ inr (λ h. b.1 (omega (arith, h.0, h.1)))
     ]
+    told (V6 x) = elim (eqb_tells (get_or x 0 0) 255) [
+      | inl a ↦ inl (V6 x, (refl, a.1))
+      | inr b ↦ inr b.1
+    ]
 
-    good : (x : List ℕ) (addr : Addr) (len : ℕ) (rest : List ℕ) → (addr ≡ V4 x) × BeginsMulticast x → multicast_step x len rest ≡ Ok (addr, rest)
-    good x addr len rest (is, h) = rw (is, eq-eqb (get_or x 0 0 / 16) 14 (omega (arith, h.0, h.1))) refl
+    good : (x : Addr) (len : ℕ) (rest : List ℕ) → BeginsMulticast x → multicast_step x len rest ≡ Ok (x, rest)
+    good (V4 x) len rest h = rw (eq-eqb (get_or x 0 0 / 16) 14 (omega (arith, h.0, h.1))) refl
+    good (V6 x) len rest h = rw (eq-eqb (get_or x 0 0) 255 h) refl
 
-    bad : (x : List ℕ) (len : ℕ) (rest : List ℕ) → ¬ (BeginsMulticast x) → multicast_step x len rest ≡ Err (len, faults.NotMulticast)
-    bad x len rest other = rw (ne_eqb (get_or x 0 0 / 16) 14 (λ e. other (omega (arith, e), omega (arith, e)))) refl
+    bad : (x : Addr) (len : ℕ) (rest : List ℕ) → ¬ (BeginsMulticast x) → multicast_step x len rest ≡ Err (len, faults.NotMulticast)
+    bad (V4 x) len rest other = rw (ne_eqb (get_or x 0 0 / 16) 14 (λ e. other (omega (arith, e), omega (arith, e)))) refl
+    bad (V6 x) len rest other = rw (ne_eqb (get_or x 0 0) 255 other) refl
 
-multicast_same : (octets : List ℕ) → multicast_at octets ≡ test_at four_at multicast_step octets
+multicast_same : (family : Family) (octets : List ℕ) → multicast_at family octets ≡ test_at (address_at family) multicast_step octets
 unfolding multicast_at
-multicast_same octets = refl
+multicast_same family octets = refl
 
-pub multicast_reader : IsReader multicast_at SpellsMulticast MulticastFails
-multicast_reader =
-    said_reader multicast_at (Passed AreFour (λ x addr. (addr ≡ V4 x) × BeginsMulticast x)) SpellsMulticast MulticastFails there back
-    (same_reader (test_at four_at multicast_step) multicast_at _ _ multicast_same (test_reader four_at AreFour (Lacks 4) multicast_step (λ x addr. (addr ≡ V4 x) × BeginsMulticast x) (λ x. ¬ (BeginsMulticast x)) faults.NotMulticast four_reader multicast_test))
+pub multicast_reader : (family : Family) → IsReader (multicast_at family) (SpellsMulticast family) (MulticastFails family)
+multicast_reader family =
+    said_reader (multicast_at family) (Passed (SpellsAddress family) (λ x addr. (addr ≡ x) × BeginsMulticast x)) (SpellsMulticast family) (MulticastFails family) there back
+    (same_reader (test_at (address_at family) multicast_step) (multicast_at family) _ _ (multicast_same family) (test_reader (address_at family) (SpellsAddress family) (Lacks (addr_len family)) multicast_step (λ x addr. (addr ≡ x) × BeginsMulticast x) (λ x. ¬ (BeginsMulticast x)) faults.NotMulticast (address_reader family) multicast_test))
   where
-    there : (addr : Addr) (text : List ℕ) → Passed AreFour (λ x addr. (addr ≡ V4 x) × BeginsMulticast x) addr text → SpellsMulticast addr text
-    there addr text p = subst (λ (a : Addr). SpellsMulticast a text) (sym p.good.0) (record { multicast = (p.spells.0, p.good.1); octets = p.spells.1 })
+    there : (addr : Addr) (text : List ℕ) → Passed (SpellsAddress family) (λ x addr. (addr ≡ x) × BeginsMulticast x) addr text → SpellsMulticast family addr text
+    there addr text p = subst (λ (a : Addr). SpellsMulticast family a text) (sym p.good.0) (record { multicast = (p.spells.0, p.good.1); octets = p.spells.1 })
 
-    back : (addr : Addr) (text : List ℕ) → SpellsMulticast addr text → Passed AreFour (λ x addr. (addr ≡ V4 x) × BeginsMulticast x) addr text
-    back (V4 x) text s = record { x = x; spells = (s.multicast.0, s.octets); good = (refl, s.multicast.1) }
-    back (V6 x) text s = absurd s.multicast.0
+    back : (addr : Addr) (text : List ℕ) → SpellsMulticast family addr text → Passed (SpellsAddress family) (λ x addr. (addr ≡ x) × BeginsMulticast x) addr text
+    back addr text s = record { x = addr; spells = (s.multicast.0, s.octets); good = (refl, s.multicast.1) }

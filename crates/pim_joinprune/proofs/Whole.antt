@@ -4,7 +4,6 @@ use Rattle.std.specs.Prelude.{⊤}
 use Rattle.std.specs.Int.{w16, from_be_bytes, to_be_bytes}
 use Rattle.std.proofs.lemmas.Bool.{eqb-true, eqb-false, eq-eqb, ne_eqb}
 use Rattle.std.proofs.lemmas.List.{append-nil, nil_from_length, length-append}
-use Rattle.mv_base.specs.Checksum.{checksum}
 use Rattle.mv_base.specs.Octets.{IsOctets}
 use Rattle.mv_base.specs.Cursor.{◌>>=◌, checked}
 use Rattle.mv_base.proofs.Fields.{wide16, octets_before, octets_behind, bind_ok, bind_err, checked_ok, checked_err, chosen, err_is}
@@ -12,6 +11,7 @@ use Rattle.pim_joinprune.specs.declared.fault.PimFault.{PimFault}
 use Rattle.pim_joinprune.specs.declared.fault.PimFault.TheVariants as reasons
 use Rattle.pim_joinprune.specs.declared.message.JoinPrune.{JoinPrune}
 use Rattle.pim_joinprune.specs.Fields.{here, behind}
+use Rattle.pim_joinprune.specs.Checksums.{sum_of}
 use Rattle.pim_joinprune.specs.Reading.{fields_at, whole_of, typed, summed, headed, message_of}
 use Rattle.pim_joinprune.specs.Spelling.{SpellsFields, Spells}
 use Rattle.pim_joinprune.specs.FirstFault as faults
@@ -108,18 +108,15 @@ type_err first reserved sum rest two other = rw (eq-eqb (first / 16) 2 two, ne_e
 
 -- ---- the checksum
 
--- the octets with zeros in the checksum's place have this one
-abbrev sum_of : ℕ → List ℕ → ℕ
-sum_of reserved rest = checksum (0x23 ∷ reserved ∷ 0 ∷ 0 ∷ rest)
-
-sum_below : (reserved : ℕ) (rest : List ℕ) → sum_of reserved rest < 2 ^ 16
+sum_below : (reserved : ℕ) (rest : List ℕ) → sum_of 0x23 reserved rest < 2 ^ 16
+unfolding sum_of
 sum_below reserved rest = omega arith
 
-summed_is : (reserved sum : ℕ) (rest : List ℕ) → sum_of reserved rest ≡ sum → headed 0x23 reserved sum rest ≡ whole_of rest
-summed_is reserved sum rest same = rw (eq-eqb (sum_of reserved rest) sum same) refl
+summed_is : (reserved sum : ℕ) (rest : List ℕ) → sum_of 0x23 reserved rest ≡ sum → headed 0x23 reserved sum rest ≡ whole_of rest
+summed_is reserved sum rest same = rw (eq-eqb (sum_of 0x23 reserved rest) sum same) refl
 
-summed_err : (reserved sum : ℕ) (rest : List ℕ) → sum_of reserved rest ≢ sum → headed 0x23 reserved sum rest ≡ Err (2 + length rest, reasons.Checksum)
-summed_err reserved sum rest other = rw (ne_eqb (sum_of reserved rest) sum other) refl
+summed_err : (reserved sum : ℕ) (rest : List ℕ) → sum_of 0x23 reserved rest ≢ sum → headed 0x23 reserved sum rest ≡ Err (2 + length rest, reasons.Checksum)
+summed_err reserved sum rest other = rw (ne_eqb (sum_of 0x23 reserved rest) sum other) refl
 
 -- the octets of a message with that checksum
 abbrev with_sum : ℕ → ℕ → List ℕ → List ℕ
@@ -129,9 +126,9 @@ message_is : (reserved sum : ℕ) (rest : List ℕ) → message_of (with_sum res
 unfolding message_of
 message_is reserved sum rest = refl
 
-summed_message : (reserved : ℕ) (rest : List ℕ) → message_of (with_sum reserved (sum_of reserved rest) rest) ≡ whole_of rest
+summed_message : (reserved : ℕ) (rest : List ℕ) → message_of (with_sum reserved (sum_of 0x23 reserved rest) rest) ≡ whole_of rest
 summed_message reserved rest =
-    let sum = sum_of reserved rest in
+    let sum = sum_of 0x23 reserved rest in
     message_is reserved sum rest ∙ summed_is reserved (from_be_bytes w16 (to_be_bytes w16 sum)) rest (sym (wide16.again sum (sum_below reserved rest)))
 
 -- ---- what is read is spelled
@@ -143,10 +140,10 @@ headed_taken first reserved high low rest m fits e =
     let a = bind_ok (typed first (4 + length rest)) (λ v. summed first reserved sum rest >>= λ c. whole_of rest) m e in
     let b = bind_ok (summed first reserved sum rest) (λ c. whole_of rest) m a.2 in
     let is : first ≡ 0x23 = typed_ok first (4 + length rest) a.0 a.1 in
-    let k = checked_ok (eqb (checksum (first ∷ reserved ∷ 0 ∷ 0 ∷ rest)) sum) (2 + length rest, reasons.Checksum) tt b.0 b.1 in
-    let same : sum_of reserved rest ≡ sum = ap (λ (n : ℕ). checksum (n ∷ reserved ∷ 0 ∷ 0 ∷ rest)) (sym is) ∙ eqb-true _ _ k.0 in
+    let k = checked_ok (eqb (sum_of first reserved rest) sum) (2 + length rest, reasons.Checksum) tt b.0 b.1 in
+    let same : sum_of 0x23 reserved rest ≡ sum = ap (λ (n : ℕ). sum_of n reserved rest) (sym is) ∙ eqb-true _ _ k.0 in
     let two : IsOctets (high ∷ low ∷ []) = octets_before 2 (high ∷ low ∷ rest) (octets_behind 2 octets fits) in
-    let words : to_be_bytes w16 (sum_of reserved rest) ≡ high ∷ low ∷ [] = ap (to_be_bytes w16) same ∙ wide16.back (high ∷ low ∷ []) refl two in
+    let words : to_be_bytes w16 (sum_of 0x23 reserved rest) ≡ high ∷ low ∷ [] = ap (to_be_bytes w16) same ∙ wide16.back (high ∷ low ∷ []) refl two in
     record {
       reserved = reserved;
       octet = fits 1;
@@ -192,17 +189,17 @@ headed_fails first reserved high low rest left fault fits e =
         let sum : ℕ = from_be_bytes w16 (high ∷ low ∷ []) in
         let head : octets ≡ 0x23 ∷ reserved ∷ high ∷ low ∷ rest = ap (λ (n : ℕ). n ∷ reserved ∷ high ∷ low ∷ rest) is in
         let two : IsOctets (high ∷ low ∷ []) = octets_before 2 (high ∷ low ∷ rest) (octets_behind 2 octets fits) in
-        let moved : sum_of reserved rest ≡ checksum (first ∷ reserved ∷ 0 ∷ 0 ∷ rest) = ap (λ (n : ℕ). checksum (n ∷ reserved ∷ 0 ∷ 0 ∷ rest)) (sym is) in
+        let moved : sum_of 0x23 reserved rest ≡ sum_of first reserved rest = ap (λ (n : ℕ). sum_of n reserved rest) (sym is) in
         elim (bind_err (summed first reserved sum rest) (λ c. whole_of rest) (left, fault) e) [
           | inl wrong ↦
-              let k = checked_err (eqb (checksum (first ∷ reserved ∷ 0 ∷ 0 ∷ rest)) sum) (2 + length rest, reasons.Checksum) tt (left, fault) wrong in
+              let k = checked_err (eqb (sum_of first reserved rest) sum) (2 + length rest, reasons.Checksum) tt (left, fault) wrong in
               let other = eqb-false _ _ k.0 in
-              let differ : high ∷ low ∷ [] ≢ to_be_bytes w16 (sum_of reserved rest) = λ same. other (sym moved ∙ sym (ap (from_be_bytes w16) same ∙ wide16.again (sum_of reserved rest) (sum_below reserved rest))) in
+              let differ : high ∷ low ∷ [] ≢ to_be_bytes w16 (sum_of 0x23 reserved rest) = λ same. other (sym moved ∙ sym (ap (from_be_bytes w16) same ∙ wide16.again (sum_of 0x23 reserved rest) (sum_below reserved rest))) in
               (2, faults.sum reserved (high ∷ low ∷ []) rest head refl differ refl (second_is left (2 + length rest) fault reasons.Checksum k.1), omega (arith, first_is left (2 + length rest) fault reasons.Checksum k.1))
           | inr b ↦
-              let k = checked_ok (eqb (checksum (first ∷ reserved ∷ 0 ∷ 0 ∷ rest)) sum) (2 + length rest, reasons.Checksum) tt b.0 b.1 in
-              let same : sum_of reserved rest ≡ sum = moved ∙ eqb-true _ _ k.0 in
-              let words : to_be_bytes w16 (sum_of reserved rest) ≡ high ∷ low ∷ [] = ap (to_be_bytes w16) same ∙ wide16.back (high ∷ low ∷ []) refl two in
+              let k = checked_ok (eqb (sum_of first reserved rest) sum) (2 + length rest, reasons.Checksum) tt b.0 b.1 in
+              let same : sum_of 0x23 reserved rest ≡ sum = moved ∙ eqb-true _ _ k.0 in
+              let words : to_be_bytes w16 (sum_of 0x23 reserved rest) ≡ high ∷ low ∷ [] = ap (to_be_bytes w16) same ∙ wide16.back (high ∷ low ∷ []) refl two in
               let f = rest_fails rest left fault (octets_behind 4 octets fits) b.2 in
               let near = rest_close rest left fault f in
               let at : (4 + length rest - left) + left ≡ length (first ∷ reserved ∷ high ∷ low ∷ rest) = omega (arith, near.0) in
@@ -247,7 +244,7 @@ type_answered first (b ∷ []) few two other = absurd (omega (arith, few))
 type_answered first (b ∷ c ∷ []) few two other = absurd (omega (arith, few))
 type_answered first (b ∷ c ∷ d ∷ rest) few two other = type_err first b (from_be_bytes w16 (c ∷ d ∷ [])) rest two other ∙ ap (λ (n : ℕ). Err (n, reasons.PimType)) (omega arith)
 
-sum_answered : (reserved : ℕ) (sum fields : List ℕ) → IsOctets (0x23 ∷ reserved ∷ (sum ++ fields)) → length sum ≡ 2 → sum ≢ to_be_bytes w16 (sum_of reserved fields) → message_of (0x23 ∷ reserved ∷ (sum ++ fields)) ≡ Err (2 + length fields, reasons.Checksum)
+sum_answered : (reserved : ℕ) (sum fields : List ℕ) → IsOctets (0x23 ∷ reserved ∷ (sum ++ fields)) → length sum ≡ 2 → sum ≢ to_be_bytes w16 (sum_of 0x23 reserved fields) → message_of (0x23 ∷ reserved ∷ (sum ++ fields)) ≡ Err (2 + length fields, reasons.Checksum)
 unfolding message_of
 sum_answered reserved [] fields fits len differ = absurd (omega (arith, len))
 sum_answered reserved (a ∷ []) fields fits len differ = absurd (omega (arith, len))

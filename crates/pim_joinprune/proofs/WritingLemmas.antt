@@ -3,6 +3,7 @@ use Rattle.std.proofs.Common.{◌≡◌, ℕ, ◌%◌, ◌^◌, ◌<◌, List, [
 use Rattle.std.specs.List.{flat_map, AllByRecursion}
 use Rattle.std.proofs.lemmas.List.Concat.{flat_map-cons}
 use Rattle.mv_base.proofs.Fields.{ok_is}
+use Rattle.pim_joinprune.specs.declared.family.Family.{Family}
 use Rattle.pim_joinprune.specs.declared.source.SourceKind.{SourceKind}
 use Rattle.pim_joinprune.specs.declared.source.SourceKind.TheVariants.{Sg, Star, Rpt}
 use Rattle.pim_joinprune.specs.declared.source.JpSource.{JpSource}
@@ -10,7 +11,8 @@ use Rattle.pim_joinprune.specs.declared.group.Group.{Group}
 use Rattle.pim_joinprune.specs.declared.message.JoinPrune.{JoinPrune}
 use Rattle.pim_joinprune.specs.declared.fault.PimFault.{PimFault}
 use Rattle.pim_joinprune.specs.Fields.{AreAll}
-use Rattle.pim_joinprune.specs.Spelling.{IsSource, IsGroup, IsJoinPrune, SpellsSource, SpellsGroup, Spells, low_flags, flags_of, source_text, group_text, fields_text, written}
+use Rattle.pim_joinprune.specs.Families.{family_of}
+use Rattle.pim_joinprune.specs.Spelling.{IsSource, IsGroup, IsJoinPrune, SpellsSource, SpellsGroup, Spells, low_flags, flags_of, source_text, sources_text, group_text, fields_text, written}
 use Rattle.pim_joinprune.proofs.Whole.{message_again}
 
 flags_are : (kind : SourceKind) → (flags_of kind < 2 ^ 8) × (flags_of kind % 4 ≡ low_flags kind)
@@ -18,30 +20,33 @@ flags_are Sg = (omega arith, refl)
 flags_are Rpt = (omega arith, refl)
 flags_are Star = (omega arith, refl)
 
-source_written : (source : JpSource) → IsSource source → SpellsSource source (source_text source)
-source_written source is =
+source_written : (family : Family) (source : JpSource) → IsSource family source → SpellsSource family source (source_text family source)
+source_written family source is =
     let f = flags_are source.kind in
     record { flags = flags_of source.kind; octet = f.0; kind = f.1; addr = is; octets = refl }
 
-sources_written : (sources : List JpSource) → AllByRecursion IsSource sources → AreAll SpellsSource sources (flat_map source_text sources)
-sources_written [] h = refl
-sources_written (s ∷ ss) (is, more) = (source_text s, flat_map source_text ss, source_written s is, sources_written ss more, flat_map-cons source_text s ss)
+sources_written : (family : Family) (sources : List JpSource) → AllByRecursion (IsSource family) sources → AreAll (SpellsSource family) sources (sources_text family sources)
+sources_written family [] h = refl
+sources_written family (s ∷ ss) (is, more) = (source_text family s, sources_text family ss, source_written family s is, sources_written family ss more, flat_map-cons (source_text family) s ss)
 
-group_written : (group : Group) → IsGroup group → SpellsGroup group (group_text group)
-group_written group is = record {
+group_written : (family : Family) (group : Group) → IsGroup family group → SpellsGroup family group (group_text family group)
+group_written family group is = record {
   flags = 0;
   octet = omega arith;
   is = is;
-  joins = flat_map source_text group.joins;
-  prunes = flat_map source_text group.prunes;
-  joined = sources_written group.joins is.joins.1;
-  pruned = sources_written group.prunes is.prunes.1;
+  joins = sources_text family group.joins;
+  prunes = sources_text family group.prunes;
+  joined = sources_written family group.joins is.joins.1;
+  pruned = sources_written family group.prunes is.prunes.1;
   octets = refl;
 }
 
-groups_written : (groups : List Group) → AllByRecursion IsGroup groups → AreAll SpellsGroup groups (flat_map group_text groups)
-groups_written [] h = refl
-groups_written (g ∷ gs) (is, more) = (group_text g, flat_map group_text gs, group_written g is, groups_written gs more, flat_map-cons group_text g gs)
+abbrev groups_text : Family → List Group → List ℕ
+groups_text family groups = flat_map (group_text family) groups
+
+groups_written : (family : Family) (groups : List Group) → AllByRecursion (IsGroup family) groups → AreAll (SpellsGroup family) groups (groups_text family groups)
+groups_written family [] h = refl
+groups_written family (g ∷ gs) (is, more) = (group_text family g, groups_text family gs, group_written family g is, groups_written family gs more, flat_map-cons (group_text family) g gs)
 
 -- A value that has a spelling is spelled by what is written.
 pub written_spells : (message : JoinPrune) → IsJoinPrune message → Spells message (written message)
@@ -49,7 +54,7 @@ written_spells message is = record {
   reserved = 0;
   octet = omega arith;
   fields = fields_text message;
-  spelled = record { is = is; reserved = 0; octet = omega arith; groups = flat_map group_text message.groups; each = groups_written message.groups is.groups; octets = refl };
+  spelled = record { is = is; reserved = 0; octet = omega arith; groups = groups_text (family_of message.neighbour) message.groups; each = groups_written (family_of message.neighbour) message.groups is.groups; octets = refl };
   octets = refl;
 }
 

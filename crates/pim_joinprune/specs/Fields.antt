@@ -37,8 +37,9 @@ IsKnown value octet text = (octet ≡ value) × (text ≡ value ∷ [])
 abbrev pub IsNumber : ℕ → List ℕ → Type 0
 IsNumber number text = (number < 2 ^ 16) × (text ≡ to_be_bytes w16 number)
 
-abbrev pub AreFour : List ℕ → List ℕ → Type 0
-AreFour octets text = (length octets ≡ 4) × (text ≡ octets)
+-- so many octets
+abbrev pub AreOctets : ℕ → List ℕ → List ℕ → Type 0
+AreOctets n octets text = (length octets ≡ n) × (text ≡ octets)
 
 -- ---- first faults
 

@@ -1,10 +1,10 @@
 -- Reading a Join/Prune message from left to right, with the first fault that is met.
-use Rattle.std.specs.Prelude.{ℕ, ◌+◌, ◌-◌, ◌/◌, ◌%◌, List, [], ◌∷◌, length, Option, Some, None, Result, Ok, Err, ◌==◌, slice_index, ⊤, if◌then◌else◌}
+use Rattle.std.specs.Prelude.{ℕ, ◌+◌, ◌-◌, ◌/◌, ◌%◌, List, [], ◌∷◌, length, take, drop, nat_lt, Bool, Option, Some, None, Result, Ok, Err, ◌==◌, slice_index, ⊤, if◌then◌else◌}
 use Rattle.std.specs.Int.{w16, from_be_bytes}
-use Rattle.mv_base.specs.Checksum.{checksum}
 use Rattle.mv_base.specs.Cursor.{◌>>=◌, checked}
 use Rattle.mv_base.specs.declared.addr.Addr.{Addr}
-use Rattle.mv_base.specs.declared.addr.Addr.TheVariants.{V4}
+use Rattle.mv_base.specs.declared.addr.Addr.TheVariants.{V4, V6}
+use Rattle.pim_joinprune.specs.declared.family.Family.{Family}
 use Rattle.pim_joinprune.specs.declared.fault.PimFault.{PimFault}
 use Rattle.pim_joinprune.specs.declared.fault.PimFault.TheVariants as faults
 use Rattle.pim_joinprune.specs.declared.source.SourceKind.{SourceKind}
@@ -13,6 +13,8 @@ use Rattle.pim_joinprune.specs.declared.source.JpSource.{JpSource}
 use Rattle.pim_joinprune.specs.declared.group.Group.{Group}
 use Rattle.pim_joinprune.specs.declared.message.JoinPrune.{JoinPrune}
 use Rattle.pim_joinprune.specs.Fields.{Read, all_at}
+use Rattle.pim_joinprune.specs.Families.{family_octet, addr_len, mask_len, family_of, addr_of, named_family}
+use Rattle.pim_joinprune.specs.Checksums.{sum_of}
 
 abbrev pub octet_at : List ℕ → Read ℕ
 octet_at [] = Err (0, faults.Short)
@@ -29,19 +31,30 @@ number_at [] = Err (0, faults.Short)
 number_at (high ∷ []) = Err (1, faults.Short)
 number_at (high ∷ low ∷ rest) = Ok (from_be_bytes w16 (high ∷ low ∷ []), rest)
 
-abbrev pub four_at : List ℕ → Read (List ℕ)
-four_at [] = Err (0, faults.Short)
-four_at (a ∷ []) = Err (1, faults.Short)
-four_at (a ∷ b ∷ []) = Err (2, faults.Short)
-four_at (a ∷ b ∷ c ∷ []) = Err (3, faults.Short)
-four_at (a ∷ b ∷ c ∷ d ∷ rest) = Ok (a ∷ b ∷ c ∷ d ∷ [], rest)
+-- so many octets
+abbrev pub octets_at : ℕ → List ℕ → Read (List ℕ)
+octets_at n octets = if nat_lt (length octets) n then Err (length octets, faults.Short) else Ok (take n octets, drop n octets)
+
+-- an address of that family
+unfoldable pub address_at : Family → List ℕ → Read Addr
+address_at family octets = do
+  addr ← octets_at (addr_len family) octets
+  Ok (addr_of family addr.0, addr.1)
+
+abbrev pub family_or : ℕ × PimFault → Option Family → List ℕ → Read Family
+family_or fault (Some family) rest = Ok (family, rest)
+family_or fault None rest = Err fault
+
+unfoldable pub family_at : List ℕ → Read Family
+family_at octets = do
+  family ← octet_at octets
+  family_or (length octets, faults.Family) (named_family family.0) family.1
 
 unfoldable pub unicast_at : List ℕ → Read Addr
 unicast_at octets = do
-  family ← known_at 1 faults.Family octets
+  family ← family_at octets
   encoding ← known_at 0 faults.Encoding family.1
-  addr ← four_at encoding.1
-  Ok (V4 addr.0, addr.1)
+  address_at family.0 encoding.1
 
 -- what the low two flags, W and R, say
 abbrev pub kind_of : ℕ → Option SourceKind
@@ -59,36 +72,41 @@ kind_at octets = do
   flags ← octet_at octets
   kind_or (length octets, faults.Flags) (kind_of flags.0) flags.1
 
-unfoldable pub source_at : List ℕ → Read JpSource
-source_at octets = do
-  family ← known_at 1 faults.Family octets
-  encoding ← known_at 0 faults.Encoding family.1
+unfoldable pub source_at : Family → List ℕ → Read JpSource
+source_at family octets = do
+  same ← known_at (family_octet family) faults.Family octets
+  encoding ← known_at 0 faults.Encoding same.1
   kind ← kind_at encoding.1
-  mask ← known_at 32 faults.MaskLength kind.1
-  addr ← four_at mask.1
-  Ok (record { kind = kind.0; addr = V4 addr.0 }, addr.1)
+  mask ← known_at (mask_len family) faults.MaskLength kind.1
+  addr ← address_at family mask.1
+  Ok (record { kind = kind.0; addr = addr.0 }, addr.1)
+
+-- whether the address is multicast
+abbrev pub is_multicast : Addr → Bool
+is_multicast (V4 octets) = slice_index octets 0 / 16 == 14
+is_multicast (V6 octets) = slice_index octets 0 == 255
 
 -- a multicast address
-unfoldable pub multicast_at : List ℕ → Read Addr
-multicast_at octets = do
-  addr ← four_at octets
-  checked (slice_index addr.0 0 / 16 == 14) (length octets, faults.NotMulticast) (V4 addr.0, addr.1)
+unfoldable pub multicast_at : Family → List ℕ → Read Addr
+multicast_at family octets = do
+  addr ← address_at family octets
+  checked (is_multicast addr.0) (length octets, faults.NotMulticast) addr
 
-unfoldable pub group_address_at : List ℕ → Read Addr
-group_address_at octets = do
-  family ← known_at 1 faults.Family octets
-  encoding ← known_at 0 faults.Encoding family.1
+unfoldable pub group_address_at : Family → List ℕ → Read Addr
+group_address_at family octets = do
+  same ← known_at (family_octet family) faults.Family octets
+  encoding ← known_at 0 faults.Encoding same.1
   flags ← octet_at encoding.1
-  mask ← known_at 32 faults.MaskLength flags.1
-  multicast_at mask.1
+  mask ← known_at (mask_len family) faults.MaskLength flags.1
+  multicast_at family mask.1
 
-unfoldable pub group_at : List ℕ → Read Group
-group_at octets = do
-  group ← group_address_at octets
+unfoldable pub group_at : Family → List ℕ → Read Group
+group_at family octets = do
+  group ← group_address_at family octets
   joined ← number_at group.1
   pruned ← number_at joined.1
-  joins ← all_at source_at joined.0 pruned.1
-  prunes ← all_at source_at pruned.0 joins.1
+  joins ← all_at (source_at family) joined.0 pruned.1
+  prunes ← all_at (source_at family) pruned.0 joins.1
   Ok (record { group = group.0; joins = joins.0; prunes = prunes.0 }, prunes.1)
 
 -- the fields behind the checksum
@@ -98,7 +116,7 @@ fields_at octets = do
   reserved ← octet_at neighbour.1
   count ← octet_at reserved.1
   holdtime ← number_at count.1
-  groups ← all_at group_at count.0 holdtime.1
+  groups ← all_at (group_at (family_of neighbour.0)) count.0 holdtime.1
   Ok (record { neighbour = neighbour.0; holdtime = holdtime.0; groups = groups.0 }, groups.1)
 
 -- the same, where no octets stand behind them
@@ -112,10 +130,10 @@ abbrev pub typed : ℕ → ℕ → Result ⊤ (ℕ × PimFault)
 typed first len =
     if first / 16 == 2 then checked (first % 16 == 3) (len, faults.PimType) tt else Err (len, faults.Version)
 
--- the checksum is that of the octets with zeros in its place
+-- the checksum is that of the message
 abbrev pub summed : ℕ → ℕ → ℕ → List ℕ → Result ⊤ (ℕ × PimFault)
 summed first reserved sum rest =
-    checked (checksum (first ∷ reserved ∷ 0 ∷ 0 ∷ rest) == sum) (2 + length rest, faults.Checksum) tt
+    checked (sum_of first reserved rest == sum) (2 + length rest, faults.Checksum) tt
 
 abbrev pub headed : ℕ → ℕ → ℕ → List ℕ → Result JoinPrune (ℕ × PimFault)
 headed first reserved sum rest = do

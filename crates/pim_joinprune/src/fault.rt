@@ -10,13 +10,13 @@ pub enum PimFault {
     Version,
     /// The type is not 3, Join/Prune (RFC 7761 section 4.9).
     PimType,
-    /// The checksum is not that of the octets (RFC 7761 section 4.9; RFC 1071).
+    /// The checksum is not that of the octets, with IPv6 behind a pseudo-header (RFC 7761 section 4.9; RFC 1071).
     Checksum,
-    /// An address family is not 1, IPv4 (RFC 7761 section 4.9.1).
+    /// The first address family is neither 1, IPv4, nor 2, IPv6, or a later one is another (RFC 7761 section 4.9.1).
     Family,
     /// An encoding type is not 0, the native one (RFC 7761 section 4.9.1).
     Encoding,
-    /// A mask length is not 32, which a Join/Prune message has to have (RFC 7761 section 4.9.5).
+    /// A mask length is not that of a whole address, as a Join/Prune message has to have it (RFC 7761 section 4.9.5).
     MaskLength,
     /// A source has the flag W without the flag R.
     Flags,

@@ -1,7 +1,9 @@
-//! PIM Join/Prune messages of IPv4 (RFC 7761 section 4.9.5), as octets and as a value.
+//! PIM Join/Prune messages of IPv4 and IPv6 (RFC 7761 section 4.9.5), as octets and as a value.
 #![tactic(auto)]
 
+mod checksum;
 mod element;
+mod family;
 mod fault;
 mod field;
 mod group;

@@ -1,15 +1,15 @@
 //! Reading a Join/Prune message.
-ghost use Rattle.std.specs.Prelude.{◌≡◌, ◌<◌, ◌≤◌, ◌-◌, ◌+◌, ◌∷◌, ◌++◌, [], ℕ, List, length, Ok, IfOk};
-ghost use Rattle.std.specs.Int.{w16, to_be_bytes};
+ghost use Rattle.std.specs.Prelude.{◌≡◌, ◌<◌, ◌≤◌, ◌-◌, ◌+◌, ℕ, List, length, Ok, IfOk};
 ghost use Rattle.pim_joinprune.specs.Answers.{Gives, Checks, IsNear, Decodes, IsWithin, IsOnly, IsFirst, IsOnlyFirst};
 ghost use Rattle.pim_joinprune.specs.Reading.{typed, summed, fields_at, whole_of, message_of, decoded};
 ghost use Rattle.pim_joinprune.specs.Spelling.{IsJoinPrune, Spells, written};
 
+use crate::checksum::sum_of;
 use crate::element::read_all;
+use crate::family::family_of;
 use crate::fault::{DecodeFault, PimFault, ReadFault};
 use crate::field::{read_number, read_octet, read_unicast};
 use crate::message::JoinPrune;
-use mv_base::{Bytes, NoMemory, ones_sum};
 use std::alloc::Global;
 
 fn stop(left: usize, fault: PimFault) -> ReadFault
@@ -31,29 +31,12 @@ fn check_type(first: u8, len: usize) -> Result<(), ReadFault>
     Ok(())
 }
 
-/// The octets of a message with that checksum.
-pub(crate) fn with_checksum(
-    alloc: Global,
-    first: u8,
-    reserved: u8,
-    sum: u16,
-    rest: &[u8],
-) -> Result<Bytes, NoMemory>
-    ensures { IfOk result (λ octets. octets ≡ first ∷ reserved ∷ (to_be_bytes w16 sum ++ rest.now)) }
-{
-    let [high, low] = sum.to_be_bytes();
-    let mut octets = Bytes::new(alloc);
-    octets.extend(&[first, reserved, high, low])?;
-    octets.extend(rest)?;
-    Ok(octets)
-}
-
-/// The checksum is that of the octets with zeros in its place.
+/// The checksum is that of the message.
 fn check_sum(alloc: Global, first: u8, reserved: u8, sum: u16, rest: &[u8]) -> Result<(), ReadFault>
     ensures { Checks result (summed first reserved sum rest.now) }
 {
-    let octets = with_checksum(alloc, first, reserved, 0, rest)?;
-    if ones_sum(octets.as_slice()) != sum {
+    let expected = sum_of(alloc, first, reserved, rest)?;
+    if expected != sum {
         return Err(stop(2 + rest.len(), PimFault::Checksum));
     }
     Ok(())
@@ -68,7 +51,7 @@ fn read_fields(alloc: Global, octets: &[u8]) -> Result<(JoinPrune, &[u8]), ReadF
     let (_, rest) = read_octet(rest)?;
     let (count, rest) = read_octet(rest)?;
     let (holdtime, rest) = read_number(rest)?;
-    let (groups, rest) = read_all(alloc, count as usize, rest)?;
+    let (groups, rest) = read_all(alloc, family_of(neighbour), count as usize, rest)?;
     Ok((
         JoinPrune {
             neighbour,

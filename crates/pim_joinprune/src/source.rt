@@ -5,8 +5,9 @@ ghost use Rattle.pim_joinprune.specs.Reading.{kind_of, kind_at, source_at};
 ghost use Rattle.pim_joinprune.specs.Spelling.{IsSource, flags_of, source_text};
 
 use crate::element::Element;
+use crate::family::Family;
 use crate::fault::{PimFault, ReadFault};
-use crate::field::{IPV4, MASK_LEN, NATIVE, read_four, read_known, read_octet};
+use crate::field::{NATIVE, read_address, read_known, read_octet};
 use mv_base::{Addr, Bytes, NoMemory, Seq};
 use std::alloc::Global;
 
@@ -25,7 +26,7 @@ pub enum SourceKind {
 #[derive(Clone, Copy, PartialEq, Eq, Hash)]
 pub struct JpSource {
     pub kind: SourceKind,
-    /// An address of IPv4, for (*,G) that of the RP.
+    /// For (*,G) the address of the RP.
     pub addr: Addr,
 }
 
@@ -70,21 +71,15 @@ fn read_kind(octets: &[u8]) -> Result<(SourceKind, &[u8]), ReadFault>
 }
 
 #[tactic(auto, unfolding(crate::specs::Reading::source_at))]
-fn read_source(octets: &[u8]) -> Result<(JpSource, &[u8]), ReadFault>
-    ensures { Gives (λ x. (x.0, x.1.now)) result (source_at octets.now) }
+fn read_source(family: Family, octets: &[u8]) -> Result<(JpSource, &[u8]), ReadFault>
+    ensures { Gives (λ x. (x.0, x.1.now)) result (source_at family octets.now) }
 {
-    let (_, rest) = read_known(octets, IPV4, PimFault::Family)?;
+    let (_, rest) = read_known(octets, family.octet(), PimFault::Family)?;
     let (_, rest) = read_known(rest, NATIVE, PimFault::Encoding)?;
     let (kind, rest) = read_kind(rest)?;
-    let (_, rest) = read_known(rest, MASK_LEN, PimFault::MaskLength)?;
-    let (addr, rest) = read_four(rest)?;
-    Ok((
-        JpSource {
-            kind,
-            addr: Addr::V4(addr),
-        },
-        rest,
-    ))
+    let (_, rest) = read_known(rest, family.mask_len(), PimFault::MaskLength)?;
+    let (addr, rest) = read_address(family, rest)?;
+    Ok((JpSource { kind, addr }, rest))
 }
 
 impl Element for JpSource {
@@ -97,12 +92,17 @@ impl Element for JpSource {
 
     ghost IsWritable = { IsSource };
 
-    fn read(_: Global, octets: &[u8]) -> Result<(Self, &[u8]), ReadFault> {
-        read_source(octets)
+    fn read(_: Global, family: Family, octets: &[u8]) -> Result<(Self, &[u8]), ReadFault> {
+        read_source(family, octets)
     }
 
-    fn push(&self, out: &mut Bytes) -> Result<(), NoMemory> {
-        out.extend(&[IPV4, NATIVE, flags_of(self.kind), MASK_LEN])?;
+    fn push(&self, family: Family, out: &mut Bytes) -> Result<(), NoMemory> {
+        out.extend(&[
+            family.octet(),
+            NATIVE,
+            flags_of(self.kind),
+            family.mask_len(),
+        ])?;
         out.extend(self.addr.octets())
     }
 }

@@ -3,12 +3,14 @@ ghost use Rattle.std.specs.Prelude.{◌≡◌, ◌++◌, length, IfOk};
 ghost use Rattle.pim_joinprune.specs.Answers.{IsOnly};
 ghost use Rattle.pim_joinprune.specs.Spelling.{IsJoinPrune, fields_text, written};
 
+use crate::checksum::{sum_of, with_checksum};
 use crate::element::push_all;
+use crate::family::family_of;
 use crate::fault::DecodeFault;
-use crate::field::{IPV4, NATIVE};
+use crate::field::NATIVE;
 use crate::message::JoinPrune;
-use crate::reading::{decode, with_checksum};
-use mv_base::{Bytes, NoMemory, ones_sum};
+use crate::reading::decode;
+use mv_base::{Bytes, NoMemory};
 use std::alloc::Global;
 
 /// Version 2 and type 3.
@@ -19,12 +21,13 @@ fn fields_of(alloc: Global, message: &JoinPrune) -> Result<Bytes, NoMemory>
     requires { IsJoinPrune message.now }
     ensures { IfOk result (λ octets. octets ≡ fields_text message.now) }
 {
+    let family = family_of(message.neighbour);
     let mut out = Bytes::new(alloc);
-    out.extend(&[IPV4, NATIVE])?;
+    out.extend(&[family.octet(), NATIVE])?;
     out.extend(message.neighbour.octets())?;
     out.extend(&[0, message.groups.len() as u8])?;
     out.extend(&message.holdtime.to_be_bytes())?;
-    push_all(&mut out, message.groups.as_slice())?;
+    push_all(&mut out, family, message.groups.as_slice())?;
     Ok(out)
 }
 
@@ -35,8 +38,7 @@ pub fn encode(alloc: Global, value: &JoinPrune) -> Result<Bytes, NoMemory>
     ensures { IfOk result (λ octets. octets ≡ written value.now) }
 {
     let fields = fields_of(alloc, value)?;
-    let unsummed = with_checksum(alloc, JOIN_PRUNE, 0, 0, fields.as_slice())?;
-    let sum = ones_sum(unsummed.as_slice());
+    let sum = sum_of(alloc, JOIN_PRUNE, 0, fields.as_slice())?;
     with_checksum(alloc, JOIN_PRUNE, 0, sum, fields.as_slice())
 }
 

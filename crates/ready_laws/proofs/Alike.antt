@@ -6,7 +6,7 @@ use Rattle.mv_base.specs.declared.ids.NodeId.{NodeId}
 use Rattle.scenario_defs.specs.declared.event.Kind.{Kind}
 use Rattle.scenario_defs.specs.declared.event.Kind.TheVariants as kinds
 use Rattle.scenario_defs.specs.declared.scenario.Scenario.{Scenario}
-use Rattle.label_defs.specs.declared.end.End.{End}
+use Rattle.mvpn_model.specs.declared.readiness.UpEnd.{UpEnd}
 use Rattle.label_defs.proofs.KeyLemmas.{node_equal}
 use Rattle.mvpn_model.specs.Sessions.{sessions}
 use Rattle.mvpn_model.specs.declared.session.Session.{Session}
@@ -68,12 +68,12 @@ pub record AlikeAway (kind : Kind) (a b : NodeId) (told standing : SessionsStand
 pub alike_away : (kind : Kind) (a b : NodeId) (told standing : SessionsStand) (session : Session) → AlikeAt told standing session → AlikeAway kind a b told standing session
 alike_away kind a b told standing session h = record { joined = h.joined; near = λ k e. h.near k; far = λ k e. h.far k }
 
-pub same_both : (t : Bool) (old : Option End) → cond t old old ≡ old
+pub same_both : (t : Bool) (old : Option UpEnd) → cond t old old ≡ old
 same_both true old = refl
 same_both false old = refl
 
 -- both ends come up, one after the other
-both_rise : (x y z w : Bool) (new old : Option End) → cond ((x && y) || (z && w)) new old ≡ cond z (cond w new (cond x (cond y new old) old)) (cond x (cond y new old) old)
+both_rise : (x y z w : Bool) (new old : Option UpEnd) → cond ((x && y) || (z && w)) new old ≡ cond z (cond w new (cond x (cond y new old) old)) (cond x (cond y new old) old)
 both_rise true true true true new old = refl
 both_rise true true true false new old = refl
 both_rise true true false w new old = refl
@@ -84,7 +84,7 @@ both_rise false y true true new old = refl
 both_rise false y true false new old = refl
 both_rise false y false w new old = refl
 
-risen : (t : Bool) (new next old before : Option End) → new ≡ next → (t ≡ false → old ≡ before) → cond t new old ≡ cond t next before
+risen : (t : Bool) (new next old before : Option UpEnd) → new ≡ next → (t ≡ false → old ≡ before) → cond t new old ≡ cond t next before
 risen true new next old before e h = e
 risen false new next old before e h = h refl
 
@@ -114,7 +114,7 @@ raise_covers scenario kind a b told standing session e h =
 
 -- ---- a notice before a raise
 
-end_cut : (x y : Bool) (old : Option End) → (x && y) ≡ false → cond x (cond y None old) old ≡ old
+end_cut : (x y : Bool) (old : Option UpEnd) → (x && y) ≡ false → cond x (cond y None old) old ≡ old
 end_cut true true old e = absurd cc
 end_cut true false old e = refl
 end_cut false y old e = refl

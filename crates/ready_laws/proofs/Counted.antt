@@ -1,6 +1,6 @@
 -- The sessions that are not ready, counted in the network and by the events.
 use Rattle.std.specs.Prelude.{count_by}
-use Rattle.std.proofs.Common.{◌≡◌, ◌⊎◌, ℕ, ◌+◌, ◌<◌, true, false, not, ◌&&◌, ◌||◌, ◌++◌, map, length, List, [], ◌∷◌, Option, Some, None, inl, inr, refl, sym, ap, subst, ◌∙◌}
+use Rattle.std.proofs.Common.{◌≡◌, ◌⊎◌, ℕ, ◌+◌, ◌<◌, true, false, not, ◌&&◌, ◌||◌, ◌++◌, map, length, List, [], ◌∷◌, Option, Some, None, inl, inr, refl, sym, ap, subst, ◌∙◌, option_map}
 use Rattle.std.specs.List.{AllByRecursion}
 use Rattle.std.proofs.lemmas.List.Elements.{recursion_from_All}
 use Rattle.mv_base.specs.declared.ids.NodeId.{NodeId}
@@ -13,12 +13,15 @@ use Rattle.scenario_defs.specs.declared.event.Script.{Script}
 use Rattle.scenario_defs.specs.declared.event.Timed.{Timed}
 use Rattle.scenario_defs.specs.declared.scenario.Scenario.{Scenario}
 use Rattle.label_defs.specs.declared.end.End.{End}
+use Rattle.std.specs.FinMap as maps
+use Rattle.world_defs.specs.Nodes.{part_of}
+use Rattle.ready_laws.proofs.Ends.{up_end}
 use Rattle.mvpn_model.specs.Past.{Past}
 use Rattle.mvpn_model.specs.Report.{refused_lines}
 use Rattle.mvpn_model.specs.Sessions.{edges, bgp_session, bgp_sessions, ldp_session, sessions}
 use Rattle.mvpn_model.specs.declared.session.Session.{Session}
 use Rattle.scenario_defs.specs.Kinds.{same_kind}
-use Rattle.edge_defs.specs.Place.{Core}
+use Rattle.world_defs.specs.Costs.{Cores}
 use Rattle.world_defs.specs.Counts.{is_joined, are_held, is_ready, unready}
 use Rattle.world_defs.specs.Run.{Traced, Run, report_of}
 use Rattle.mvpn_model.specs.Unready.{SessionsStand, none_joined, sessions_stand, is_held, is_ready_in, unready_behind}
@@ -59,7 +62,7 @@ has_nodes scenario rules session is k = elim (in_either session (bgp_sessions (e
 
 -- ---- one session
 
-held_is : (o : Option End) → elim o [ None ↦ false | Some end ↦ end.held ] ≡ is_held o
+held_is : (o : Option End) → elim o [ None ↦ false | Some end ↦ end.held ] ≡ is_held (option_map up_end o)
 held_is None = refl
 held_is (Some end) = refl
 
@@ -80,27 +83,27 @@ ready_alike scenario told world t session is = by session.kind refl
         ≡ (told.joined session.kind session.a session.b && (same_kind kind kinds.Bgp || (is_held (told.end kind session.a session.b) && is_held (told.end kind session.b session.a))))
     by kinds.Bgp k = ap (λ b. b && true) joined
     by kinds.Ldp k =
-        let first = held_is (end_of world.network.state session.a session.b) ∙ ap is_held (near k) in
-        let second = held_is (end_of world.network.state session.b session.a) ∙ ap is_held (far k) in
+        let first = held_is (maps.get (part_of (world.network.state.node session.a)).ends session.b) ∙ ap is_held (near k) in
+        let second = held_is (maps.get (part_of (world.network.state.node session.b)).ends session.a) ∙ ap is_held (far k) in
         λ i. joined i && (first i && second i)
 
 -- ---- all sessions
 
 -- nothing has happened yet
-start_tells : (scenario : Scenario) (core : Core) → Tells scenario none_joined (start scenario core)
-start_tells scenario core = record {
+start_tells : (scenario : Scenario) (cores : Cores) → Tells scenario none_joined (start scenario cores)
+start_tells scenario cores = record {
   standing = none_joined;
   stands = record { nodes = record { place = refl; clock = refl; ends = λ n peer. fresh_end scenario n peer }; joined = λ kind a b. refl };
   alike = record { clock = refl; each = λ session is. record { joined = refl; near = λ k. refl; far = λ k. refl } };
 }
 
-pub told_unready : (core : Core) (script : Script) (events : List Timed) (trace : List Traced) (new : World) → Rules script.scenario → Rises 0 events → Run core script events trace new
+pub told_unready : (cores : Cores) (script : Script) (events : List Timed) (trace : List Traced) (new : World) → Rules script.scenario → Rises 0 events → Run cores script events trace new
     → unready new ≡ unready_behind (record { scenario = script.scenario; events = events; refused = refused_lines (report_of trace) })
-told_unready core script events trace new rules rises run =
+told_unready cores script events trace new rules rises run =
     let scenario = script.scenario in
     let refused = refused_lines (report_of trace) in
     let past : Past = record { scenario = scenario; events = events; refused = refused } in
     let told = sessions_stand past in
-    let t : Tells scenario told new = runs_tell scenario (has_nodes scenario rules) events (start scenario core) 0 trace new none_joined 0 [] refused rises (λ line lt. refl) refl (start_tells scenario core) run in
+    let t : Tells scenario told new = runs_tell scenario (has_nodes scenario rules) events (start scenario cores) 0 trace new none_joined 0 [] refused rises (λ line lt. refl) refl (start_tells scenario cores) run in
     ap (λ (x : Scenario). count_by (λ session. not (is_ready new session)) (sessions x)) t.stands.nodes.place
     ∙ count_alike (λ session. not (is_ready new session)) (λ session. not (is_ready_in told session)) (sessions scenario) (λ session is. ap not (ready_alike scenario told new t session is))

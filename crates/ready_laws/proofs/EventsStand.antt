@@ -7,7 +7,7 @@ use Rattle.mv_base.specs.declared.ids.NodeId.{NodeId}
 use Rattle.scenario_defs.specs.declared.event.Kind.{Kind}
 use Rattle.scenario_defs.specs.declared.event.Kind.TheVariants as kinds
 use Rattle.scenario_defs.specs.declared.scenario.Scenario.{Scenario}
-use Rattle.label_defs.specs.declared.end.End.{End}
+use Rattle.mvpn_model.specs.declared.readiness.UpEnd.{UpEnd}
 use Rattle.mvpn_model.specs.Sessions.{sessions}
 use Rattle.mvpn_model.specs.declared.session.Session.{Session}
 use Rattle.world_defs.specs.Acts.{Act, Notice}
@@ -41,7 +41,7 @@ still_tells scenario told o world t h = comes_as (WorldStands scenario t.standin
 raise_alike : (scenario : Scenario) (told standing : SessionsStand) (kind : Kind) (a b : NodeId) (found : Session) → is_session_of kind a b found ≡ true → Alike scenario told standing → Alike scenario (raised kind a b told) (raise_stand scenario found.kind found.a found.b standing)
 raise_alike scenario told standing kind a b found e h =
     let that = that_session kind a b found e in
-    let new : Option End = Some (record { raised = told.clock; held = false }) in
+    let new : Option UpEnd = Some (record { raised = told.clock; held = false }) in
     record {
       clock = h.clock;
       each = λ session is.
@@ -61,7 +61,7 @@ or_not t true e = absurd cc
 -- No session of the scenario is of the two nodes.
 absent_alike : (scenario : Scenario) (told standing : SessionsStand) (kind : Kind) (a b : NodeId) → find (is_session_of kind a b) (sessions scenario) ≡ None → Alike scenario told standing → Alike scenario (raised kind a b told) standing
 absent_alike scenario told standing kind a b none h =
-    let new : Option End = Some (record { raised = told.clock; held = false }) in
+    let new : Option UpEnd = Some (record { raised = told.clock; held = false }) in
     record {
       clock = h.clock;
       each = λ session is.

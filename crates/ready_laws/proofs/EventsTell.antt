@@ -10,7 +10,7 @@ use Rattle.scenario_defs.specs.declared.event.Event.TheVariants as events
 use Rattle.scenario_defs.specs.declared.event.Kind.{Kind}
 use Rattle.scenario_defs.specs.declared.event.Kind.TheVariants as kinds
 use Rattle.scenario_defs.specs.declared.scenario.Scenario.{Scenario}
-use Rattle.label_defs.specs.declared.end.End.{End}
+use Rattle.mvpn_model.specs.declared.readiness.UpEnd.{UpEnd}
 use Rattle.mvpn_model.specs.Messages.{message_of}
 use Rattle.mvpn_model.specs.Packet.{packet}
 use Rattle.mvpn_model.specs.declared.message.Given.{Given}
@@ -19,9 +19,9 @@ use Rattle.scenario_defs.specs.Kinds.{same_kind}
 use Rattle.session_defs.specs.declared.direction.Direction.{Direction}
 use Rattle.edge_defs.specs.Steps as steps
 use Rattle.edge_defs.specs.Steps.{own_label_call}
-use Rattle.world_defs.specs.Acts.{Act, Tick, Timers, Move, Lose, Notice, Restart, At, Enter, Land, Drop, Tell}
-use Rattle.world_defs.specs.Counts.{directions, link_ways}
-use Rattle.world_defs.specs.Events.{Done, row, each, times, turn, settled, landings, drain_round, drained, sent, at_edge, with_message, done}
+use Rattle.world_defs.specs.Acts.{Act, Tick, Timers, Move, Lose, Notice, Restart, At, Enter, Land, Drop, Tell, SetCost, Reroute}
+use Rattle.world_defs.specs.Counts.{directions, link_ways, all_nodes}
+use Rattle.world_defs.specs.Events.{Done, row, each, times, turn, settled, landings, drain_round, drained, sent, cost_acts, at_edge, with_message, done}
 use Rattle.mvpn_model.specs.Packets.{source_in, group_in}
 use Rattle.world_defs.specs.Refusals.{edge_of_vrf}
 use Rattle.mvpn_model.specs.Unready.{SessionsStand, is_that, timed, behind}
@@ -49,13 +49,13 @@ lost_alike scenario told standing kind a b h = record {
       record { joined = ap (λ t. t && not (is_that kind a b session.kind session.a session.b)) x.joined; near = x.near; far = x.far };
 }
 
-both_tests : (x y : Bool) (old : Option End) → cond (x && y) None old ≡ cond x (cond y None old) old
+both_tests : (x y : Bool) (old : Option UpEnd) → cond (x && y) None old ≡ cond x (cond y None old) old
 both_tests true y old = refl
 both_tests false y old = refl
 
-notice_told : (scenario : Scenario) (standing : SessionsStand) (kind : Kind) (a b m peer : NodeId) (old : Option End) → old ≡ standing.end kinds.Ldp m peer
+notice_told : (scenario : Scenario) (standing : SessionsStand) (kind : Kind) (a b m peer : NodeId) (old : Option UpEnd) → old ≡ standing.end kinds.Ldp m peer
     → (if same_kind kind kinds.Ldp && (m.0 == a.0) && (peer.0 == b.0) then None else old) ≡ (act_stand scenario (Notice kind a b) standing).end kinds.Ldp m peer
-notice_told scenario standing kinds.Ldp a b m peer old e = ap (λ (x : Option End). cond ((m.0 == a.0) && (peer.0 == b.0)) None x) e ∙ both_tests (m.0 == a.0) (peer.0 == b.0) (standing.end kinds.Ldp m peer)
+notice_told scenario standing kinds.Ldp a b m peer old e = ap (λ (x : Option UpEnd). cond ((m.0 == a.0) && (peer.0 == b.0)) None x) e ∙ both_tests (m.0 == a.0) (peer.0 == b.0) (standing.end kinds.Ldp m peer)
 notice_told scenario standing kinds.Bgp a b m peer old e = e ∙ sym (same_both (m.0 == a.0) (standing.end kinds.Ldp m peer))
 
 notice_alike : (scenario : Scenario) (told standing : SessionsStand) (kind : Kind) (a b : NodeId) → Alike scenario told standing
@@ -78,8 +78,8 @@ restart_alike scenario told standing node h = record {
       let x = h.each session is in
       record {
         joined = ap (λ t. t && not ((session.a.0 == node.0) || (session.b.0 == node.0))) x.joined;
-        near = λ k. ap (λ (old : Option End). cond (session.a.0 == node.0) None old) (x.near k);
-        far = λ k. ap (λ (old : Option End). cond (session.b.0 == node.0) None old) (x.far k);
+        near = λ k. ap (λ (old : Option UpEnd). cond (session.a.0 == node.0) None old) (x.near k);
+        far = λ k. ap (λ (old : Option UpEnd). cond (session.b.0 == node.0) None old) (x.far k);
       };
 }
 
@@ -89,7 +89,7 @@ quiet_alike : (scenario : Scenario) (told standing : SessionsStand) (n : NodeId)
 quiet_alike scenario told standing n call quiet h =
     let stays : (m peer : NodeId) → (act_stand scenario (At n call) standing).end kinds.Ldp m peer ≡ standing.end kinds.Ldp m peer = λ m peer.
     let old = standing.end kinds.Ldp m peer in
-    ap (λ (x : Option End). cond (m.0 == n.0) x old) (quiet scenario.life standing.clock peer old) ∙ same_both (m.0 == n.0) old in
+    ap (λ (x : Option UpEnd). cond (m.0 == n.0) x old) (quiet scenario.life standing.clock peer old) ∙ same_both (m.0 == n.0) old in
     record {
       clock = h.clock;
       each = λ session is.
@@ -140,6 +140,12 @@ sent_tells told world site source group octets t =
 one_tells : (scenario : Scenario) (told : SessionsStand) (world : World) (one : Act) → ((standing : SessionsStand) → act_stand scenario one standing ≡ standing) → Tells scenario told world → Comes (Tells scenario told) (row (one ∷ []) world)
 one_tells scenario told world one still t = still_tells scenario told (row (one ∷ []) world) world t (λ standing s. still_row scenario standing (one ∷ []) world (still standing, tt) s)
 
+cost_tells : (told : SessionsStand) (world : World) (a b : NodeId) (cost : ℕ) → Tells (scenario_of world) told world → Comes (Tells (scenario_of world) told) (row (cost_acts (scenario_of world) a b cost) world)
+cost_tells told world a b cost t =
+    let scenario = scenario_of world in
+    still_tells scenario told (row (cost_acts scenario a b cost) world) world t (λ standing s.
+    still_row scenario standing (cost_acts scenario a b cost) world (refl, still_map scenario standing (λ n. Reroute n) (λ n. refl) (all_nodes scenario)) s)
+
 -- ---- events
 
 pub event_tells : (told : SessionsStand) (world : World) → HasNodes (scenario_of world) → Tells (scenario_of world) told world → (event : Event) → Comes (Tells (scenario_of world) (behind (scenario_of world) told event)) (done world event)
@@ -161,6 +167,7 @@ event_tells told world has t (events.Select vrf pattern) = edge_tells (scenario_
 event_tells told world has t (events.Unselect vrf pattern) = edge_tells (scenario_of world) told world (edge_of_vrf (scenario_of world) vrf) (steps.Unselect vrf pattern) (λ life now peer old. refl) t
 event_tells told world has t (events.Hop from to place) = one_tells (scenario_of world) told world (Land from to place) (λ standing. refl) t
 event_tells told world has t (events.DropCopy from to place) = one_tells (scenario_of world) told world (Drop from to place) (λ standing. refl) t
+event_tells told world has t (events.Cost a b cost) = cost_tells told world a b cost t
 event_tells told world has t events.Heal = all_healed (scenario_of world) (sessions (scenario_of world)) (λ session is. is) told world t
 event_tells told world has t events.Settle = settle_tells told world has t
 event_tells told world has t events.Drain =

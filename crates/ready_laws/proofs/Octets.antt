@@ -12,11 +12,11 @@ use Rattle.session_defs.specs.System.{Put, Stepped, Behind, with_earlier}
 use Rattle.session_defs.specs.declared.direction.Direction.{Direction}
 use Rattle.edge_defs.specs.Steps as steps
 use Rattle.world_defs.specs.Counts.{direction}
-use Rattle.world_defs.specs.Nodes.{Nodes}
-use Rattle.world_defs.specs.System.{NodeCall, Own, Elapse, Reset, system, node_called}
+use Rattle.world_defs.specs.Nodes.{Nodes, following}
+use Rattle.world_defs.specs.System.{NodeCall, Own, Elapse, Reset, Price, Follow, system, node_called}
 use Rattle.mvpn_model.specs.Unready.{SessionsStand}
 use Rattle.ready_laws.proofs.Ends.{Holds}
-use Rattle.ready_laws.proofs.Nodes.{NodesStand, call_stand, called_stand, taken_stand, reset_stand, fresh_stand}
+use Rattle.ready_laws.proofs.Nodes.{NodesStand, call_stand, called_stand, taken_stand, follow_stand, reset_stand, fresh_stand}
 
 -- The nodes stand so, and the sessions that stand joined are joined.
 pub record Stands (scenario : Scenario) (standing : SessionsStand) (network : OctetNetwork Nodes) : Type 0 where
@@ -56,6 +56,14 @@ call_stands scenario standing old n call s =
 
 pub reset_stands : (scenario : Scenario) (standing : SessionsStand) (old : OctetNetwork Nodes) (n : NodeId) → Stands scenario standing old → Leads (Stands scenario (reset_stand n standing)) (octet_act system old (octets.Call (Reset n)))
 reset_stands scenario standing old n s = record { nodes = fresh_stand scenario standing old.state n s.nodes; joined = s.joined }
+
+-- A link that gets another cost changes nothing of it, nor does a node that acts on the present costs.
+pub price_stands : (scenario : Scenario) (standing : SessionsStand) (old : OctetNetwork Nodes) (a b : NodeId) (cost : ℕ) → Stands scenario standing old → Leads (Stands scenario standing) (octet_act system old (octets.Call (Price a b cost)))
+price_stands scenario standing old a b cost s = record { nodes = record { place = s.nodes.place; clock = s.nodes.clock; ends = s.nodes.ends }; joined = s.joined }
+
+pub follow_stands : (scenario : Scenario) (standing : SessionsStand) (old : OctetNetwork Nodes) (n : NodeId) → Stands scenario standing old → Leads (Stands scenario standing) (octet_act system old (octets.Call (Follow n)))
+follow_stands scenario standing old n s =
+    step_stands scenario standing standing old (node_called (following old.state n) n (old.state.node n) steps.Rerouted) s (λ kind a b. refl) (follow_stand scenario standing old.state n s.nodes)
 
 -- where the sessions stand some ticks later
 abbrev pub later : ℕ → SessionsStand → SessionsStand

@@ -7,8 +7,8 @@ use Rattle.mv_base.specs.declared.ids.NodeId.{NodeId}
 use Rattle.scenario_defs.specs.declared.event.Kind.{Kind}
 use Rattle.scenario_defs.specs.declared.event.Kind.TheVariants as kinds
 use Rattle.scenario_defs.specs.declared.scenario.Scenario.{Scenario}
-use Rattle.label_defs.specs.declared.end.End.{End}
-use Rattle.label_defs.specs.Steps.{hold_run}
+use Rattle.mvpn_model.specs.declared.readiness.UpEnd.{UpEnd}
+use Rattle.mvpn_model.specs.Unready.{hold_run}
 use Rattle.mvpn_model.specs.Sessions.{sessions}
 use Rattle.mvpn_model.specs.declared.session.Session.{Session}
 use Rattle.world_defs.specs.Acts.{Act, Timers}
@@ -20,7 +20,7 @@ use Rattle.ready_laws.proofs.Outcomes.{acts_stand}
 use Rattle.mvpn_model.proofs.SessionLemmas.{IsIn}
 use Rattle.ready_laws.proofs.Alike.{Alike}
 
-run_told : (life now : ℕ) (t : Bool) (o : Option End) → elim o [ None ↦ None | Some end ↦ Some (if t then hold_run life now end else end) ] ≡ cond t (end_run life now o) o
+run_told : (life now : ℕ) (t : Bool) (o : Option UpEnd) → elim o [ None ↦ None | Some end ↦ Some (if t then hold_run life now end else end) ] ≡ cond t (end_run life now o) o
 run_told life now true None = refl
 run_told life now false None = refl
 run_told life now true (Some end) = refl
@@ -55,7 +55,7 @@ pub record AllRun (scenario : Scenario) (number count : ℕ) (old new : Sessions
 abbrev pub timers_from : ℕ → ℕ → List Act
 timers_from number count = map (λ n. Timers n) (node_ids number count)
 
-ran_here : (t : Bool) (old run : Option End) → t ≡ true → cond t run old ≡ run
+ran_here : (t : Bool) (old run : Option UpEnd) → t ≡ true → cond t run old ≡ run
 ran_here true old run e = refl
 ran_here false old run e = absurd cc
 

@@ -4,7 +4,7 @@ ghost use Rattle.scenario_defs.specs.Rules.{Rules, Rises};
 ghost use Rattle.scenario_defs.specs.declared.event.Script.{Script};
 ghost use Rattle.scenario_defs.specs.declared.event.Timed.{Timed};
 ghost use Rattle.mvpn_model.specs.Report.{refused_lines};
-ghost use Rattle.edge_defs.specs.Place.{Core};
+ghost use Rattle.world_defs.specs.Costs.{Cores};
 ghost use Rattle.world_defs.specs.Counts.{unready};
 ghost use Rattle.world_defs.specs.Run.{Traced, Run, report_of};
 ghost use Rattle.mvpn_model.specs.Unready.{unready_behind};
@@ -13,6 +13,7 @@ ghost use Rattle.world_defs.specs.World.{World};
 /// How many sessions are not ready behind a run is what the events of the script say, and which of them were refused. By its rules
 /// the links of a scenario join nodes of it, and `settle` runs the timers of no others.
 pub fn unready_is_told_by_the_events()
-    ensures { (core : Core) (script : Script) (events : List Timed) (trace : List Traced) (new : World) → Rules script.scenario → Rises 0 events → Run core script events trace new →
+    ensures { (cores : Cores) (script : Script) (events : List Timed) (trace : List Traced) (new : World) → Rules script.scenario → Rises 0 events →
+        Run cores script events trace new →
         unready new ≡ unready_behind (record { scenario = script.scenario; events = events; refused = refused_lines (report_of trace) }) }
 {}

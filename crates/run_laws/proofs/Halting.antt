@@ -5,7 +5,7 @@ use Rattle.scenario_defs.specs.declared.event.Script.{Script}
 use Rattle.scenario_defs.specs.declared.event.Timed.{Timed}
 use Rattle.scenario_defs.specs.declared.report.ReportLine.TheVariants as lines
 use Rattle.mvpn_model.specs.Report.{Entry}
-use Rattle.edge_defs.specs.Place.{Core, IsCoreOf}
+use Rattle.world_defs.specs.Costs.{Cores, AreCoresOf}
 use Rattle.world_defs.specs.Events.{Happened, Outcome, Done, Halted}
 use Rattle.world_defs.specs.Run.{Traced, traced, report_of, outcome, Runs, Run, Halts}
 use Rattle.world_defs.specs.World.{World, start}
@@ -56,23 +56,23 @@ ends : (events : List Timed) (old : World) (number : ℕ) → Ending old number 
 ends [] old number = Whole [] old (refl, refl)
 ends (timed ∷ more) old number = by_outcome old number timed more (λ next. ends more next (number + 1)) (outcome old timed) refl
 
-either_by : (core : Core) (script : Script) (events : List Timed) → IsCoreOf script.scenario core → Ending (start script.scenario core) 0 events → RunsOrHalts core (of_events script events)
-either_by core script events of_scenario (Whole trace new run) = AllRun trace new run
-either_by core script events of_scenario (Stopped s) =
+either_by : (cores : Cores) (script : Script) (events : List Timed) → AreCoresOf script.scenario cores → Ending (start script.scenario cores) 0 events → RunsOrHalts cores (of_events script events)
+either_by cores script events of_scenario (Whole trace new run) = AllRun trace new run
+either_by cores script events of_scenario (Stopped s) =
     OneHalts (report_of (s.trace ++ traced (length s.before) s.acts) ++ record { event = length s.before; lines = lines.Halt s.timed.line s.node ∷ [] } ∷ []) s.node
     (record { of_scenario = of_scenario; before = s.before; timed = s.timed; after = s.after; events = s.parts; trace = s.trace; world = s.world; run = s.run; acts = s.acts; lacks = s.lacks; whole = refl })
 
-pub either : (core : Core) (script : Script) (events : List Timed) → IsCoreOf script.scenario core → RunsOrHalts core (of_events script events)
-either core script events of_scenario = either_by core script events of_scenario (ends events (start script.scenario core) 0)
+pub either : (cores : Cores) (script : Script) (events : List Timed) → AreCoresOf script.scenario cores → RunsOrHalts cores (of_events script events)
+either cores script events of_scenario = either_by cores script events of_scenario (ends events (start script.scenario cores) 0)
 
 -- ---- never both
 
 done_or_halted : (o : Outcome) (acts others : List Happened) (next : World) (node : NodeId) → o ≡ Done acts next → o ≡ Halted others node → ⊥
 done_or_halted o acts others next node e f = absurd cc
 
-pub never_both : (core : Core) (script : Script) (events : List Timed) (trace : List Traced) (new : World) (report : List Entry) (node : NodeId) → Run core script events trace new → Halts core (of_events script events) report node → ⊥
-never_both core script events trace new report node run halt =
-    let begin : World = start script.scenario core in
+pub never_both : (cores : Cores) (script : Script) (events : List Timed) (trace : List Traced) (new : World) (report : List Entry) (node : NodeId) → Run cores script events trace new → Halts cores (of_events script events) report node → ⊥
+never_both cores script events trace new report node run halt =
+    let begin : World = start script.scenario cores in
     let cut : Split begin 0 halt.before (halt.timed ∷ halt.after) trace new =
     runs_split halt.before (halt.timed ∷ halt.after) begin 0 trace new (subst (λ (l : List Timed). Runs begin 0 l trace new) halt.events run) in
     let same : (cut.early ≡ halt.trace) × (cut.middle ≡ halt.world) = one_run begin 0 halt.before cut.early halt.trace cut.middle halt.world cut.begins halt.run in
@@ -81,8 +81,8 @@ never_both core script events trace new report node run halt =
 
 -- ---- one halt
 
-pub one_of_all : (core : Core) (script : Script) (events : List Timed) (trace other : List Traced) (new last : World) → Run core script events trace new → Run core script events other last → (trace ≡ other) × (new ≡ last)
-one_of_all core script events trace other new last run again = one_run (start script.scenario core) 0 events trace other new last run again
+pub one_of_all : (cores : Cores) (script : Script) (events : List Timed) (trace other : List Traced) (new last : World) → Run cores script events trace new → Run cores script events other last → (trace ≡ other) × (new ≡ last)
+one_of_all cores script events trace other new last run again = one_run (start script.scenario cores) 0 events trace other new last run again
 
 record SamePlace (before other : List Timed) (timed then_timed : Timed) : Type 0 where
   first : before ≡ other
@@ -117,10 +117,10 @@ one_place (one ∷ before) (two ∷ other) timed then_timed after behind e old n
 same_halts : (o : Outcome) (acts others : List Happened) (node at : NodeId) → o ≡ Halted acts node → o ≡ Halted others at → (acts ≡ others) × (node ≡ at)
 same_halts o acts others node at e f = (cc, cc)
 
-pub one_halt : (core : Core) (script : Script) (report other : List Entry) (node last : NodeId) (halt : Halts core script report node) (again : Halts core script other last)
+pub one_halt : (cores : Cores) (script : Script) (report other : List Entry) (node last : NodeId) (halt : Halts cores script report node) (again : Halts cores script other last)
     → (halt.before ≡ again.before) × (halt.timed ≡ again.timed) × (node ≡ last) × (report ≡ other)
-one_halt core script report other node last halt again =
-    let begin : World = start script.scenario core in
+one_halt cores script report other node last halt again =
+    let begin : World = start script.scenario cores in
     let place : SamePlace halt.before again.before halt.timed again.timed = one_place halt.before again.before halt.timed again.timed halt.after again.after (sym halt.events ∙ again.events)
     begin 0 halt.trace again.trace halt.world again.world halt.run again.run halt.acts again.acts node last halt.lacks again.lacks in
     let same : (halt.trace ≡ again.trace) × (halt.world ≡ again.world) = one_run begin 0 again.before halt.trace again.trace halt.world again.world
@@ -131,18 +131,18 @@ one_halt core script report other node last halt again =
 
 -- ---- the first events
 
-pub in_two : (core : Core) (script : Script) (first more : List Timed) (trace : List Traced) (new : World) → Run core script (first ++ more) trace new → RunsInTwo core script first more trace new
-in_two core script first more trace new run =
-    let cut : Split (start script.scenario core) 0 first more trace new = runs_split first more (start script.scenario core) 0 trace new run in
+pub in_two : (cores : Cores) (script : Script) (first more : List Timed) (trace : List Traced) (new : World) → Run cores script (first ++ more) trace new → RunsInTwo cores script first more trace new
+in_two cores script first more trace new run =
+    let cut : Split (start script.scenario cores) 0 first more trace new = runs_split first more (start script.scenario cores) 0 trace new run in
     record { early = cut.early; late = cut.late; middle = cut.middle; begins = cut.begins; goes_on = cut.goes_on (length first) (omega arith); whole = cut.whole }
 
 report_parts : (early late : List Traced) → report_of (early ++ late) ≡ report_of early ++ report_of late
 report_parts [] late = refl
 report_parts (step ∷ early) late = ap (λ (l : List Entry). record { event = step.event; lines = step.happened.lines } ∷ l) (report_parts early late)
 
-pub halt_begins : (core : Core) (script : Script) (report : List Entry) (node : NodeId) (halt : Halts core script report node) (first more : List Timed) → halt.before ≡ first ++ more → ReportBegins core script first report
-halt_begins core script report node halt first more e =
-    let two : RunsInTwo core script first more halt.trace halt.world = in_two core script first more halt.trace halt.world (subst (λ (l : List Timed). Run core script l halt.trace halt.world) e halt.run) in
+pub halt_begins : (cores : Cores) (script : Script) (report : List Entry) (node : NodeId) (halt : Halts cores script report node) (first more : List Timed) → halt.before ≡ first ++ more → ReportBegins cores script first report
+halt_begins cores script report node halt first more e =
+    let two : RunsInTwo cores script first more halt.trace halt.world = in_two cores script first more halt.trace halt.world (subst (λ (l : List Timed). Run cores script l halt.trace halt.world) e halt.run) in
     let acts : List Traced = traced (length halt.before) halt.acts in
     let stop : List Entry = record { event = length halt.before; lines = lines.Halt halt.timed.line node ∷ [] } ∷ [] in
     let grouped : halt.trace ++ acts ≡ two.early ++ (two.late ++ acts) = ap (λ (t : List Traced). t ++ acts) two.whole ∙ append_assoc two.early two.late acts in

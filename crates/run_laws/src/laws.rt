@@ -11,7 +11,7 @@ ghost use Rattle.scenario_defs.specs.declared.scenario.Scenario.{Scenario};
 ghost use Rattle.mvpn_model.specs.Once.{Once};
 ghost use Rattle.mvpn_model.specs.Report.{Entry, lines_of, refused_lines};
 ghost use Rattle.mvpn_model.specs.Safe.{Safe};
-ghost use Rattle.edge_defs.specs.Place.{Core, IsCoreOf};
+ghost use Rattle.world_defs.specs.Costs.{Cores, AreCoresOf};
 ghost use Rattle.world_defs.specs.Run.{Traced, Run, Halts};
 ghost use Rattle.world_defs.specs.World.{World};
 ghost use Rattle.world_laws.specs.Honest.{IsSoundEvent};
@@ -27,33 +27,33 @@ pub fn readable_events_are_sound()
         IsSoundEvent scenario event }
     ensures events { (script : Script) (count : ℕ) → ScriptRules script → ScriptHasOctets script →
         AllByRecursion (λ (timed : Timed). IsSoundEvent script.scenario timed.event) (take count script.events) }
-    ensures run { (core : Core) (script : Script) (count : ℕ) (trace : List Traced) (new : World) →
-        ScriptRules script → ScriptHasOctets script → IsCoreOf script.scenario core →
-        Run core script (take count script.events) trace new → SoundRun core script (take count script.events) trace new }
+    ensures run { (cores : Cores) (script : Script) (count : ℕ) (trace : List Traced) (new : World) →
+        ScriptRules script → ScriptHasOctets script → AreCoresOf script.scenario cores →
+        Run cores script (take count script.events) trace new → SoundRun cores script (take count script.events) trace new }
 {}
 
-/// By the core of the script's scenario any events either run, or halt at one of them and at one node; never both. What happens in the
+/// By the cores of the script's scenario any events either run, or halt at one of them and at one node; never both. What happens in the
 /// run is one, and so are the halt and its report.
 pub fn one_run_or_one_halt()
-    ensures either { (core : Core) (script : Script) (events : List Timed) → IsCoreOf script.scenario core →
-        RunsOrHalts core (of_events script events) }
-    ensures never_both { (core : Core) (script : Script) (events : List Timed) (trace : List Traced) (new : World)
-        (report : List Entry) (node : NodeId) → Run core script events trace new → Halts core (of_events script events) report node → ⊥ }
-    ensures one_run { (core : Core) (script : Script) (events : List Timed) (trace other : List Traced) (new last : World) →
-        Run core script events trace new → Run core script events other last → (trace ≡ other) × (new ≡ last) }
-    ensures one_halt { (core : Core) (script : Script) (report other : List Entry) (node last : NodeId)
-        (halt : Halts core script report node) (again : Halts core script other last) →
+    ensures either { (cores : Cores) (script : Script) (events : List Timed) → AreCoresOf script.scenario cores →
+        RunsOrHalts cores (of_events script events) }
+    ensures never_both { (cores : Cores) (script : Script) (events : List Timed) (trace : List Traced) (new : World)
+        (report : List Entry) (node : NodeId) → Run cores script events trace new → Halts cores (of_events script events) report node → ⊥ }
+    ensures one_run { (cores : Cores) (script : Script) (events : List Timed) (trace other : List Traced) (new last : World) →
+        Run cores script events trace new → Run cores script events other last → (trace ≡ other) × (new ≡ last) }
+    ensures one_halt { (cores : Cores) (script : Script) (report other : List Entry) (node last : NodeId)
+        (halt : Halts cores script report node) (again : Halts cores script other last) →
         (halt.before ≡ again.before) × (halt.timed ≡ again.timed) × (node ≡ last) × (report ≡ other) }
 {}
 
 /// Where events run, the first of them do, and what happens in these is the front of what happens. So it is with the events before a
 /// halt: the report of the halt begins with what happens in them.
 pub fn first_events_of_a_run_run()
-    ensures run { (core : Core) (script : Script) (first more : List Timed) (trace : List Traced) (new : World) →
-        Run core script (first ++ more) trace new → RunsInTwo core script first more trace new }
-    ensures halt { (core : Core) (script : Script) (report : List Entry) (node : NodeId)
-        (halt : Halts core script report node) (first more : List Timed) → halt.before ≡ first ++ more →
-        ReportBegins core script first report }
+    ensures run { (cores : Cores) (script : Script) (first more : List Timed) (trace : List Traced) (new : World) →
+        Run cores script (first ++ more) trace new → RunsInTwo cores script first more trace new }
+    ensures halt { (cores : Cores) (script : Script) (report : List Entry) (node : NodeId)
+        (halt : Halts cores script report node) (first more : List Timed) → halt.before ≡ first ++ more →
+        ReportBegins cores script first report }
 {}
 
 /// A plain report has the lines of its report, in their order, but for those of the wire. It refuses the same events, and is safe or

@@ -207,6 +207,7 @@ IsEventOf scenario (events.Select vrf pattern) = (vrf.0 < length scenario.vrfs) 
 IsEventOf scenario (events.Unselect vrf pattern) = (vrf.0 < length scenario.vrfs) × IsPattern pattern
 IsEventOf scenario (events.Hop from to place) = AreLinked scenario from to × (1 ≤ place) × (place ≤ count_limit)
 IsEventOf scenario (events.DropCopy from to place) = AreLinked scenario from to × (1 ≤ place) × (place ≤ count_limit)
+IsEventOf scenario (events.Cost a b cost) = AreLinked scenario a b × (1 ≤ cost) × (cost ≤ 65535)
 IsEventOf scenario events.Heal = Unit {0}
 IsEventOf scenario events.Settle = Unit {0}
 IsEventOf scenario events.Drain = Unit {0}

@@ -111,6 +111,12 @@ pub enum Event {
         to: NodeId,
         place: u32,
     },
+    /// The link between the two nodes gets that cost.
+    Cost {
+        a: NodeId,
+        b: NodeId,
+        cost: u32,
+    },
     Heal,
     Settle,
     Drain,

@@ -34,7 +34,7 @@ impl AnyBinding {
     }
 
     /// Cancels a wanted binding, and frees the label of any other one.
-    pub(crate) fn end(self, space: &mut LabelSpace)
+    pub fn end(self, space: &mut LabelSpace)
         requires { IfSome (label_of self) (λ label. IsOwned space.old label) }
         ensures { space.new ≡ with_free space.old (label_of self) }
     {

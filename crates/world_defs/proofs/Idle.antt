@@ -23,7 +23,7 @@ use Rattle.label_defs.specs.LabelData as labels
 use Rattle.label_defs.specs.LabelData.{LabelData, Place, mapped_trees}
 use Rattle.label_defs.specs.Settling.{Stepped, settle_all}
 use Rattle.label_defs.specs.Steps as label_calls
-use Rattle.label_defs.specs.Steps.{label_step, holds_run, woken, freed, counted}
+use Rattle.label_defs.specs.Steps.{label_step, raised_end, holds_run, woken, freed, counted}
 use Rattle.label_defs.specs.Members.{in_order}
 use Rattle.label_defs.proofs.KeyLemmas.{fec_cmp_total, fec_cmp_exact, branch_cmp_total, branch_cmp_exact}
 use Rattle.label_defs.proofs.MemberLemmas.{none_in_order}
@@ -39,7 +39,7 @@ use Rattle.edge_defs.specs.Steps as steps
 use Rattle.edge_defs.specs.Steps.{LabelStep, EdgeStepped, edge_step, control_step, refreshed, timed, selection_run, taken_run, changed_leaves, one_call, own_label_call, label_row, part_after}
 use Rattle.edge_defs.specs.Tunnels.{leaves, tunnels_of, inclusive_tunnels, flow_tunnels}
 use Rattle.mvpn_model.specs.Sessions.{edges}
-use Rattle.world_defs.specs.Nodes.{NodeState, Edge, CoreNode, Nodes, with_node, place_of}
+use Rattle.world_defs.specs.Nodes.{NodeState, Edge, CoreNode, Nodes, with_node, place_of, label_place_of}
 use Rattle.world_defs.specs.Puts.{bgp_put, bgp_puts, label_puts}
 use Rattle.world_defs.specs.System.{node_called, core_called}
 use Rattle.world_defs.proofs.Nothing.{flat_none, no_entries, empty_by, no_union, none_retained}
@@ -115,13 +115,13 @@ abbrev pub as_node : Bool → LabelData → NodeState
 as_node edge part = if edge then Edge (record { control = no_control; part = part }) else CoreNode part
 
 idle_called : (nodes : Nodes) (n : NodeId) (edge : Bool) (part new : LabelData) (call : steps.Call) (own : label_calls.Call) → own_label_call call ≡ Some own → control_step (place_of nodes n) nodes.clock no_control call ≡ no_control
-    → label_step (label_place nodes.scenario nodes.core n) nodes.clock part own ≡ Some (record { part = new; puts = [] })
+    → label_step (label_place_of nodes n) nodes.clock part own ≡ Some (record { part = new; puts = [] })
     → node_called nodes n (as_node edge part) call ≡ Some (record { state = with_node nodes n (as_node edge new); puts = [] })
 idle_called nodes n true part new call own calls same made =
     (λ i. idle_edge_step (place_of nodes n) nodes.clock part call own (record { part = new; puts = [] }) calls same made i >>? λ next.
     Some (record {
       state = with_node nodes n (Edge next.edge);
-      puts = bgp_puts (place_of nodes n) no_control next.edge.control ++ flat_map (label_puts n (addr_of nodes.scenario n) (label_place nodes.scenario nodes.core n) nodes.clock) next.row;
+      puts = bgp_puts (place_of nodes n) no_control next.edge.control ++ flat_map (label_puts n (addr_of nodes.scenario n) (label_place_of nodes n) nodes.clock) next.row;
     }))
     ∙ (λ i. Some (record { state = with_node nodes n (as_node true new); puts = no_bgp_puts (place_of nodes n) i ++ [] }))
 idle_called nodes n false part new call own calls same made =
@@ -129,13 +129,13 @@ idle_called nodes n false part new call own calls same made =
     ∙ (λ i. made i >>? λ next.
     Some (record {
       state = with_node nodes n (CoreNode next.part);
-      puts = label_puts n (addr_of nodes.scenario n) (label_place nodes.scenario nodes.core n) nodes.clock (record { old = part; call = own; new = next });
+      puts = label_puts n (addr_of nodes.scenario n) (label_place_of nodes n) nodes.clock (record { old = part; call = own; new = next });
     }))
 
 -- ---- label parts with nothing but ends
 
-abbrev pub idle : ℕ → FinMap node_cmp End → FinMap node_cmp ℕ → LabelData
-idle count ends ids = record (labels.fresh count) { ends = ends; ids = ids }
+abbrev pub idle : ℕ → FinMap node_cmp End → LabelData
+idle count ends = record (labels.fresh count) { ends = ends }
 
 all_same : (f : LabelUse → LabelUse) → f uses.Free ≡ uses.Free → (count : ℕ) → map f (replicate count uses.Free) ≡ replicate count uses.Free
 all_same f same zero = refl
@@ -145,48 +145,48 @@ none_mapped : (count : ℕ) → mapped_trees (replicate count uses.Free) ≡ []
 none_mapped zero = refl
 none_mapped (suc count) = none_mapped count
 
-raised_part : (place : Place) (now count : ℕ) (ends : FinMap node_cmp End) (ids : FinMap node_cmp ℕ) (peer : NodeId)
-    → label_step place now (idle count ends ids) (label_calls.Raised peer) ≡ Some (record { part = idle count (maps.insert ends peer (record { raised = now; held = false })) (maps.insert ids peer 1); puts = [] })
-raised_part place now count ends ids peer = refl
+raised_part : (place : Place) (now count : ℕ) (ends : FinMap node_cmp End) (peer : NodeId)
+    → label_step place now (idle count ends) (label_calls.Raised peer) ≡ Some (record { part = idle count (maps.insert ends peer (raised_end now)); puts = [] })
+raised_part place now count ends peer = refl
 
-timed_part : (place : Place) (now count : ℕ) (ends : FinMap node_cmp End) (ids : FinMap node_cmp ℕ)
-    → label_step place now (idle count ends ids) label_calls.Timers ≡ Some (record { part = idle count (holds_run place.life now ends) ids; puts = [] })
-timed_part place now count ends ids = λ i.
-    option_map counted (settle_all place (none_in_order fec_cmp_total i) (record { part = record (idle count (holds_run place.life now ends) ids) { labels = all_same (woken now) refl count i }; puts = [] }))
+timed_part : (place : Place) (now count : ℕ) (ends : FinMap node_cmp End)
+    → label_step place now (idle count ends) label_calls.Timers ≡ Some (record { part = idle count (holds_run place.life now ends); puts = [] })
+timed_part place now count ends = λ i.
+    option_map counted (settle_all place (none_in_order fec_cmp_total i) (record { part = record (idle count (holds_run place.life now ends)) { labels = all_same (woken now) refl count i }; puts = [] }))
 
-noticed_part : (place : Place) (now count : ℕ) (ends : FinMap node_cmp End) (ids : FinMap node_cmp ℕ) (peer : NodeId)
-    → label_step place now (idle count ends ids) (label_calls.Noticed peer) ≡ Some (record { part = idle count (maps.remove ends peer) (maps.remove ids peer); puts = [] })
-noticed_part place now count ends ids peer = λ i.
+noticed_part : (place : Place) (now count : ℕ) (ends : FinMap node_cmp End) (peer : NodeId)
+    → label_step place now (idle count ends) (label_calls.Noticed peer) ≡ Some (record { part = idle count (maps.remove ends peer); puts = [] })
+noticed_part place now count ends peer = λ i.
     option_map counted (settle_all place (no_trees i) (record {
-      part = record (idle count (maps.remove ends peer) (maps.remove ids peer)) {
+      part = record (idle count (maps.remove ends peer)) {
         labels = all_same (freed peer) refl count i;
         branches = none_retained branch_cmp_total branch_cmp_exact (λ branch. not (branch.node.0 == peer.0)) i;
       };
       puts = [];
     }))
   where
-    no_trees : labels.trees (idle count ends ids) ≡ []
+    no_trees : labels.trees (idle count ends) ≡ []
     no_trees =
         (λ i. in_order (sets.from_list {R = fec_cmp} (map (λ (branch : Branch). branch.fec) (none_in_order branch_cmp_total i) ++ (none_in_order fec_cmp_total i ++ none_mapped count i))))
         ∙ none_in_order fec_cmp_total
 
 -- ---- what an idle node does
 
-pub raised_node : (nodes : Nodes) (n peer : NodeId) (edge : Bool) (count : ℕ) (ends : FinMap node_cmp End) (ids : FinMap node_cmp ℕ)
-    → node_called nodes n (as_node edge (idle count ends ids)) (steps.Raised kinds.Ldp peer)
-    ≡ Some (record { state = with_node nodes n (as_node edge (idle count (maps.insert ends peer (record { raised = nodes.clock; held = false })) (maps.insert ids peer 1))); puts = [] })
-raised_node nodes n peer edge count ends ids =
-    idle_called nodes n edge _ _ (steps.Raised kinds.Ldp peer) (label_calls.Raised peer) refl (refreshed_nothing (place_of nodes n) nodes.clock) (raised_part (label_place nodes.scenario nodes.core n) nodes.clock count ends ids peer)
+pub raised_node : (nodes : Nodes) (n peer : NodeId) (edge : Bool) (count : ℕ) (ends : FinMap node_cmp End)
+    → node_called nodes n (as_node edge (idle count ends)) (steps.Raised kinds.Ldp peer)
+    ≡ Some (record { state = with_node nodes n (as_node edge (idle count (maps.insert ends peer (raised_end nodes.clock)))); puts = [] })
+raised_node nodes n peer edge count ends =
+    idle_called nodes n edge _ _ (steps.Raised kinds.Ldp peer) (label_calls.Raised peer) refl (refreshed_nothing (place_of nodes n) nodes.clock) (raised_part (label_place_of nodes n) nodes.clock count ends peer)
 
-pub timed_node : (nodes : Nodes) (n : NodeId) (edge : Bool) (count : ℕ) (ends : FinMap node_cmp End) (ids : FinMap node_cmp ℕ)
-    → node_called nodes n (as_node edge (idle count ends ids)) steps.Timers
-    ≡ Some (record { state = with_node nodes n (as_node edge (idle count (holds_run nodes.scenario.life nodes.clock ends) ids)); puts = [] })
-timed_node nodes n edge count ends ids =
+pub timed_node : (nodes : Nodes) (n : NodeId) (edge : Bool) (count : ℕ) (ends : FinMap node_cmp End)
+    → node_called nodes n (as_node edge (idle count ends)) steps.Timers
+    ≡ Some (record { state = with_node nodes n (as_node edge (idle count (holds_run nodes.scenario.life nodes.clock ends))); puts = [] })
+timed_node nodes n edge count ends =
     idle_called nodes n edge _ _ steps.Timers label_calls.Timers refl (ap (refreshed (place_of nodes n) nodes.clock) (timed_nothing (place_of nodes n) nodes.clock) ∙ refreshed_nothing (place_of nodes n) nodes.clock)
-    (timed_part (label_place nodes.scenario nodes.core n) nodes.clock count ends ids)
+    (timed_part (label_place_of nodes n) nodes.clock count ends)
 
-pub noticed_node : (nodes : Nodes) (n peer : NodeId) (edge : Bool) (count : ℕ) (ends : FinMap node_cmp End) (ids : FinMap node_cmp ℕ)
-    → node_called nodes n (as_node edge (idle count ends ids)) (steps.Noticed kinds.Ldp peer)
-    ≡ Some (record { state = with_node nodes n (as_node edge (idle count (maps.remove ends peer) (maps.remove ids peer))); puts = [] })
-noticed_node nodes n peer edge count ends ids =
-    idle_called nodes n edge _ _ (steps.Noticed kinds.Ldp peer) (label_calls.Noticed peer) refl (refreshed_nothing (place_of nodes n) nodes.clock) (noticed_part (label_place nodes.scenario nodes.core n) nodes.clock count ends ids peer)
+pub noticed_node : (nodes : Nodes) (n peer : NodeId) (edge : Bool) (count : ℕ) (ends : FinMap node_cmp End)
+    → node_called nodes n (as_node edge (idle count ends)) (steps.Noticed kinds.Ldp peer)
+    ≡ Some (record { state = with_node nodes n (as_node edge (idle count (maps.remove ends peer))); puts = [] })
+noticed_node nodes n peer edge count ends =
+    idle_called nodes n edge _ _ (steps.Noticed kinds.Ldp peer) (label_calls.Noticed peer) refl (refreshed_nothing (place_of nodes n) nodes.clock) (noticed_part (label_place_of nodes n) nodes.clock count ends peer)

@@ -1,3 +1,4 @@
+pub mod CostLemmas
 pub mod OneRun
 pub mod Nothing
 pub mod Idle

@@ -1,9 +1,9 @@
--- A script has at most one run: each event has one outcome, and its scenario one core.
+-- A script has at most one run: each event has one outcome, and its scenario's cores are one.
 use Rattle.std.proofs.Common.{◌≡◌, ℕ, ◌+◌, List, [], ◌∷◌, ◌++◌, take, subst, sym, ◌∙◌}
 use Rattle.scenario_defs.specs.declared.event.Script.{Script}
 use Rattle.scenario_defs.specs.declared.event.Timed.{Timed}
-use Rattle.edge_defs.specs.Place.{Core}
-use Rattle.edge_defs.proofs.CoreLemmas.{one_core}
+use Rattle.world_defs.specs.Costs.{Cores}
+use Rattle.world_defs.proofs.CostLemmas.{same_cores}
 use Rattle.world_defs.specs.Events.{Happened, Outcome, Done}
 use Rattle.world_defs.specs.Run.{Traced, traced, outcome, Runs, Run, RunOf}
 use Rattle.world_defs.specs.World.{World, start}
@@ -18,9 +18,9 @@ one_run old number (timed ∷ more) trace other new last (acts, next, rest, ends
     let from_there = one_run then_next (number + 1) more rest behind new last (subst (λ (world : World). Runs world (number + 1) more rest new) same.1 run) run1 in
     (says ∙ (λ i. traced number (same.0 i) ++ from_there.0 i) ∙ sym says1, from_there.1)
 
--- The core of a script's scenario is one, and so is the run of its first events.
+-- The cores of a script's scenario are one, and so is the run of its first events.
 pub one_of_script : (script : Script) (count : ℕ) (trace other : List Traced) (new last : World) → RunOf script count trace new → RunOf script count other last → (trace ≡ other) × (new ≡ last)
 one_of_script script count trace other new last own that =
-    let same : own.core ≡ that.core = one_core script.scenario own.core that.core own.of_scenario that.of_scenario in
-    let run : Run that.core script (take count script.events) trace new = subst (λ (core : Core). Run core script (take count script.events) trace new) same own.run in
-    one_run (start script.scenario that.core) 0 (take count script.events) trace other new last run that.run
+    let same : own.cores ≡ that.cores = same_cores script.scenario own.cores that.cores own.of_scenario that.of_scenario in
+    let run : Run that.cores script (take count script.events) trace new = subst (λ (cores : Cores). Run cores script (take count script.events) trace new) same own.run in
+    one_run (start script.scenario that.cores) 0 (take count script.events) trace other new last run that.run

@@ -18,19 +18,18 @@ use Rattle.label_defs.proofs.KeyLemmas.{node_cmp_total}
 use Rattle.edge_defs.specs.Due as edges
 use Rattle.edge_defs.specs.Due.{is_selection_due, due_from}
 use Rattle.edge_defs.specs.Edge.{Selected, Taken, pattern_cmp}
-use Rattle.edge_defs.specs.Place.{label_place}
 use Rattle.mvpn_model.specs.Sessions.{sessions}
 use Rattle.mvpn_model.specs.declared.session.Session.{Session}
 use Rattle.world_defs.specs.Counts.{direction, is_up, is_ready, are_held, node_due, all_nodes, state_line}
-use Rattle.world_defs.specs.Example.{network, core}
-use Rattle.world_defs.specs.Nodes.{Edge, CoreNode, part_of, place_of}
+use Rattle.world_defs.specs.Example.{network, cores}
+use Rattle.world_defs.specs.Nodes.{Edge, CoreNode, part_of, place_of, label_place_of}
 use Rattle.world_defs.specs.World.{World}
 use Rattle.world_defs.proofs.Nothing.{no_entries, ordered, entries_made}
 use Rattle.world_defs.proofs.Idle.{as_node, idle}
 use Rattle.world_defs.proofs.Small.{Small, node_of, nodes_of, world_of}
 
 abbrev pub world : Small → World
-world small = world_of network core small
+world small = world_of network cores small
 
 -- ---- what is read of a node
 
@@ -43,7 +42,7 @@ has_end small n peer = is_some (find node_cmp peer (small.node n).ends)
 
 pub up_is : (small : Small) (n peer : NodeId) → is_up (world small) kinds.Ldp n peer ≡ has_end small n peer
 up_is small n peer =
-    ap (λ (part : LabelData). labels.is_up part peer) (part_is (small.node n).edge (idle 4 (maps.from_entries (small.node n).ends) (maps.from_entries (small.node n).ids)))
+    ap (λ (part : LabelData). labels.is_up part peer) (part_is (small.node n).edge (idle 4 (maps.from_entries (small.node n).ends)))
     ∙ ap (λ (end : Option End). is_some end) (maps.get-from_entries node_cmp_total (small.node n).ends peer)
 
 abbrev is_held : Option End → Bool
@@ -54,7 +53,7 @@ has_held small n peer = is_held (find node_cmp peer (small.node n).ends)
 
 held_is : (small : Small) (n peer : NodeId) → labels.is_ready (part_of (node_of 4 (small.node n))) peer ≡ has_held small n peer
 held_is small n peer =
-    ap (λ (part : LabelData). labels.is_ready part peer) (part_is (small.node n).edge (idle 4 (maps.from_entries (small.node n).ends) (maps.from_entries (small.node n).ids)))
+    ap (λ (part : LabelData). labels.is_ready part peer) (part_is (small.node n).edge (idle 4 (maps.from_entries (small.node n).ends)))
     ∙ ap (λ (end : Option End). is_held end) (maps.get-from_entries node_cmp_total (small.node n).ends peer)
 
 -- ---- the line of `state`
@@ -78,29 +77,29 @@ holds_due now ends = count_by (is_hold_due 2 now) (map (λ (entry : NodeId × En
 no_less : (n : ℕ) → 0 + n ≡ n
 no_less n = omega arith
 
-part_due : (small : Small) (n : NodeId) (ends : List (NodeId × End)) (ids : List (NodeId × ℕ))
-    → labels.due (label_place network core n) small.clock (idle 4 (maps.from_entries ends) (maps.from_entries ids)) ≡ holds_due small.clock ends
-part_due small n ends ids = no_less (count_by (is_hold_due 2 small.clock) (maps.values (maps.from_entries {R = node_cmp} ends))) ∙ ap (λ (all : List (NodeId × End)). count_by (is_hold_due 2 small.clock) (map (λ (entry : NodeId × End). entry.1) all)) (entries_made node_cmp_total ends)
+part_due : (small : Small) (n : NodeId) (ends : List (NodeId × End))
+    → labels.due (label_place_of (nodes_of network cores small) n) small.clock (idle 4 (maps.from_entries ends)) ≡ holds_due small.clock ends
+part_due small n ends = no_less (count_by (is_hold_due 2 small.clock) (maps.values (maps.from_entries {R = node_cmp} ends))) ∙ ap (λ (all : List (NodeId × End)). count_by (is_hold_due 2 small.clock) (map (λ (entry : NodeId × End). entry.1) all)) (entries_made node_cmp_total ends)
 
 no_more : (n : ℕ) → n + 0 ≡ n
 no_more n = omega arith
 
-due_by : (small : Small) (n : NodeId) (edge : Bool) (ends : List (NodeId × End)) (ids : List (NodeId × ℕ)) → ◌≡◌ {A = ℕ} (elim (as_node edge (idle 4 (maps.from_entries ends) (maps.from_entries ids))) [
-  | Edge own ↦ edges.due (place_of (nodes_of network core small) n) small.clock own
-  | CoreNode part ↦ labels.due (label_place network core n) small.clock part
+due_by : (small : Small) (n : NodeId) (edge : Bool) (ends : List (NodeId × End)) → ◌≡◌ {A = ℕ} (elim (as_node edge (idle 4 (maps.from_entries ends))) [
+  | Edge own ↦ edges.due (place_of (nodes_of network cores small) n) small.clock own
+  | CoreNode part ↦ labels.due (label_place_of (nodes_of network cores small) n) small.clock part
 ]) (holds_due small.clock ends)
-due_by small n false ends ids = part_due small n ends ids
-due_by small n true ends ids =
-    (λ i. part_due small n ends ids i
+due_by small n false ends = part_due small n ends
+due_by small n true ends =
+    (λ i. part_due small n ends i
     + (count_by (λ expiry. not (is_after expiry small.clock)) (map (λ e. e.1) (no_entries entry_cmp Expiry i))
-    + (count_by (is_selection_due 3 small.clock) (map (λ e. e.1) (no_entries pattern_cmp Selected i)) + sum_by (due_from (place_of (nodes_of network core small) n) small.clock) (no_entries node_cmp Taken i))))
+    + (count_by (is_selection_due 3 small.clock) (map (λ e. e.1) (no_entries pattern_cmp Selected i)) + sum_by (due_from (place_of (nodes_of network cores small) n) small.clock) (no_entries node_cmp Taken i))))
     ∙ no_more (holds_due small.clock ends)
 
 abbrev due_at : Small → NodeId → ℕ
 due_at small n = holds_due small.clock (small.node n).ends
 
-due_is : (small : Small) (n : NodeId) → node_due (nodes_of network core small) n ≡ due_at small n
-due_is small n = due_by small n (small.node n).edge (small.node n).ends (small.node n).ids
+due_is : (small : Small) (n : NodeId) → node_due (nodes_of network cores small) n ≡ due_at small n
+due_is small n = due_by small n (small.node n).edge (small.node n).ends
 
 abbrev pub line_of : Small → ReportLine
 line_of small = lines.State 0 0 0 (sum_by (due_at small) (all_nodes network)) (count_by (λ session. not (ready small session)) (sessions network))

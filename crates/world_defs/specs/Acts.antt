@@ -21,13 +21,13 @@ use Rattle.edge_defs.specs.Steps as steps
 use Rattle.mvpn_model.specs.Sessions.{is_between}
 use Rattle.world_defs.specs.Counts.{direction, directions, state_line}
 use Rattle.world_defs.specs.Nodes.{NodeState, Edge, CoreNode, Nodes, place_of}
-use Rattle.world_defs.specs.System.{NodeCall, Own, Elapse, Reset, system}
+use Rattle.world_defs.specs.System.{NodeCall, Own, Elapse, Reset, Price, Follow, system}
 use Rattle.world_defs.specs.World.{World, Datagram, LinkCopy, numbered, scenario_of, clock_of, with_copies}
 
 -- What may happen: time passes; the timers of a node are run; octets are moved; a session is lost; its loss is noticed at one end; the
 -- first end of a session comes up, and then the second; a node restarts; an edge takes a Join/Prune message, or notes a source, or
--- drops a note, or selects a pattern, or no longer selects it; the last datagram enters at a VRF; a copy lands, or is dropped; and the
--- state is told.
+-- drops a note, or selects a pattern, or no longer selects it; the last datagram enters at a VRF; a copy lands, or is dropped; the
+-- state is told; a link gets another cost; and a node acts on the present costs.
 pub data Act : Type 0 where
   Tick : (ticks : ℕ) → Act
   Timers : (node : NodeId) → Act
@@ -42,6 +42,8 @@ pub data Act : Type 0 where
   Land : (from to : NodeId) → (place : ℕ) → Act
   Drop : (from to : NodeId) → (place : ℕ) → Act
   Tell : Act
+  SetCost : (a b : NodeId) → (cost : ℕ) → Act
+  Reroute : (node : NodeId) → Act
 
 -- The network behind an act, and the act's lines.
 pub record Acted : Type 0 where
@@ -149,7 +151,7 @@ abbrev pub with_aged : Result Acted NodeId → Result Acted NodeId
 with_aged (Err node) = Err node
 with_aged (Ok new) = Ok (record new { world = aged new.world })
 
--- The network behind an act, or the node that lacks a label. Time passes at no node, and never lacks one.
+-- The network behind an act, or the node that lacks a label. Time passes and costs change at no node, and never lack one.
 abbrev pub act : World → Act → Result Acted NodeId
 act world (Tick ticks) = with_aged (at_node world (record { 0 = 0 }) [] (octets.Call (Elapse ticks) ∷ []))
 act world (Timers n) = at_node world n [] (octets.Call (Own n steps.Timers) ∷ [])
@@ -164,3 +166,5 @@ act world (Enter vrf) = Ok (entering world vrf (slice_get (scenario_of world).vr
 act world (Land from to place) = Ok (landing world from to place (slice_get (world.copies from to) (place - 1)))
 act world (Drop from to place) = Ok (record { world = without_copy world from to place; lines = [] })
 act world Tell = Ok (record { world = world; lines = state_line world ∷ [] })
+act world (SetCost a b cost) = at_node world a [] (octets.Call (Price a b cost) ∷ [])
+act world (Reroute n) = at_node world n [] (octets.Call (Follow n) ∷ [])

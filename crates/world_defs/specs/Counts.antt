@@ -11,10 +11,9 @@ use Rattle.scenario_defs.specs.declared.scenario.Scenario.{Scenario}
 use Rattle.label_defs.specs.LabelData as labels
 use Rattle.session_defs.specs.declared.direction.Direction.{Direction}
 use Rattle.edge_defs.specs.Due as edges
-use Rattle.edge_defs.specs.Place.{label_place}
 use Rattle.mvpn_model.specs.Sessions.{sessions}
 use Rattle.mvpn_model.specs.declared.session.Session.{Session}
-use Rattle.world_defs.specs.Nodes.{NodeState, Edge, CoreNode, Nodes, part_of, place_of}
+use Rattle.world_defs.specs.Nodes.{NodeState, Edge, CoreNode, Nodes, part_of, place_of, label_place_of}
 use Rattle.world_defs.specs.World.{World, LinkCopy, scenario_of}
 
 -- ---- sessions
@@ -78,7 +77,7 @@ datagrams_with_copy copies (suc number) = datagrams_with_copy copies number + (i
 abbrev pub node_due : Nodes → NodeId → ℕ
 node_due nodes n = elim (nodes.node n) [
   | Edge edge ↦ edges.due (place_of nodes n) nodes.clock edge
-  | CoreNode part ↦ labels.due (label_place nodes.scenario nodes.core n) nodes.clock part
+  | CoreNode part ↦ labels.due (label_place_of nodes n) nodes.clock part
 ]
 
 -- the numbers from that one on, so many

@@ -9,6 +9,7 @@ use Rattle.scenario_defs.specs.declared.event.Event.{Event}
 use Rattle.scenario_defs.specs.declared.event.Event.TheVariants as events
 use Rattle.scenario_defs.specs.declared.event.Kind.{Kind}
 use Rattle.scenario_defs.specs.declared.report.ReportLine.{ReportLine}
+use Rattle.scenario_defs.specs.declared.scenario.Scenario.{Scenario}
 use Rattle.mvpn_model.specs.Messages.{message_of}
 use Rattle.mvpn_model.specs.Packet.{packet}
 use Rattle.mvpn_model.specs.declared.message.Given.{Given}
@@ -17,7 +18,7 @@ use Rattle.mvpn_model.specs.declared.session.Session.{Session}
 use Rattle.scenario_defs.specs.Kinds.{same_kind}
 use Rattle.session_defs.specs.declared.direction.Direction.{Direction}
 use Rattle.edge_defs.specs.Steps as steps
-use Rattle.world_defs.specs.Acts.{Act, Tick, Timers, Move, Lose, Notice, RaiseFirst, RaiseSecond, Restart, At, Enter, Land, Drop, Tell, act}
+use Rattle.world_defs.specs.Acts.{Act, Tick, Timers, Move, Lose, Notice, RaiseFirst, RaiseSecond, Restart, At, Enter, Land, Drop, Tell, SetCost, Reroute, act}
 use Rattle.world_defs.specs.Counts.{directions, link_ways, all_nodes, is_joined, is_up}
 use Rattle.mvpn_model.specs.Packets.{source_in, group_in}
 use Rattle.world_defs.specs.Refusals.{edge_of_vrf}
@@ -117,6 +118,12 @@ abbrev pub sent : SiteId → Addr → Addr → List ℕ → World → Outcome
 sent site source group octets world =
     row (map (λ vrf. Enter vrf) (entered (scenario_of world) site)) (record world { datagrams = world.datagrams ++ record { site = site; source = source; group = group; octets = octets } ∷ [] })
 
+-- ---- costs
+
+-- the link gets its cost for all nodes at once, and then each node in order acts on it
+abbrev pub cost_acts : Scenario → NodeId → NodeId → ℕ → List Act
+cost_acts scenario a b cost = SetCost a b cost ∷ map (λ n. Reroute n) (all_nodes scenario)
+
 -- ---- events
 
 -- a call of a node, where there is one
@@ -148,6 +155,7 @@ done world (events.Select vrf pattern) = at_edge (edge_of_vrf (scenario_of world
 done world (events.Unselect vrf pattern) = at_edge (edge_of_vrf (scenario_of world) vrf) (steps.Unselect vrf pattern) world
 done world (events.Hop from to place) = row (Land from to place ∷ []) world
 done world (events.DropCopy from to place) = row (Drop from to place ∷ []) world
+done world (events.Cost a b cost) = row (cost_acts (scenario_of world) a b cost) world
 done world events.Heal = each healed (sessions (scenario_of world)) world
 done world events.Settle = settled world
 done world events.Drain = drained world

@@ -10,7 +10,7 @@ use Rattle.scenario_defs.specs.declared.report.ReportLine.{ReportLine}
 use Rattle.scenario_defs.specs.declared.report.ReportLine.TheVariants as lines
 use Rattle.scenario_defs.specs.declared.scenario.Scenario.{Scenario}
 use Rattle.edge_defs.specs.Example as edges
-use Rattle.edge_defs.specs.Place.{Core}
+use Rattle.world_defs.specs.Costs.{Cores}
 use Rattle.world_defs.specs.Acts.{Act, Tick, Timers, Lose, Notice, RaiseFirst, RaiseSecond, Tell}
 use Rattle.world_defs.specs.Run.{Traced, Runs}
 use Rattle.world_defs.specs.World.{World, start}
@@ -30,8 +30,9 @@ core_node = edges.middle
 abbrev pub network : Scenario
 network = record edges.scenario { labels = 4 }
 
-abbrev pub core : Core
-core = (edges.place_of edges.first).core
+-- the core of the worked edges, whose costs stay as they are
+abbrev pub cores : Cores
+cores links = (edges.place_of edges.first).core
 
 -- ---- events, and what happens at them
 
@@ -121,6 +122,6 @@ pub record LabelSessionsComeUp : Type 0 where
   pub up : World
   pub ready : World
   pub again : World
-  pub come_up : Runs (start network core) 0 raises raised up
+  pub come_up : Runs (start network cores) 0 raises raised up
   pub become_ready : Runs up 4 holds held ready
   pub come_again : Runs ready 12 losses lost again

@@ -1,4 +1,5 @@
 pub mod Puts
+pub mod Costs
 pub mod Nodes
 pub mod System
 pub mod World

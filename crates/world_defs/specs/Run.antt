@@ -5,7 +5,7 @@ use Rattle.scenario_defs.specs.declared.event.Timed.{Timed}
 use Rattle.scenario_defs.specs.declared.event.Script.{Script}
 use Rattle.scenario_defs.specs.declared.report.ReportLine.TheVariants as lines
 use Rattle.mvpn_model.specs.Report.{Entry}
-use Rattle.edge_defs.specs.Place.{Core, IsCoreOf}
+use Rattle.world_defs.specs.Costs.{Cores, AreCoresOf}
 use Rattle.world_defs.specs.Counts.{octets_in_transit, all_copies, due_timers}
 use Rattle.world_defs.specs.Events.{Happened, Outcome, Done, Halted, done}
 use Rattle.world_defs.specs.Refusals.{refusal}
@@ -34,26 +34,26 @@ Runs old number (timed ∷ more) trace new =
     (acts : List Happened) × (next : World) × (rest : List Traced) × (outcome old timed ≡ Done acts next) × (trace ≡ traced number acts ++ rest) × Runs next (number + 1) more rest new
 
 -- Events, from the state in which nothing has happened in the network of the script.
-abbrev pub Run : Core → Script → List Timed → List Traced → World → Type 0
-Run core script events trace new = Runs (start script.scenario core) 0 events trace new
+abbrev pub Run : Cores → Script → List Timed → List Traced → World → Type 0
+Run cores script events trace new = Runs (start script.scenario cores) 0 events trace new
 
--- The first so many events of a script run, by the core of its scenario.
+-- The first so many events of a script run, by the cores of its scenario.
 pub record RunOf (script : Script) (count : ℕ) (trace : List Traced) (new : World) : Type 0 where
-  pub core : Core
-  pub of_scenario : IsCoreOf script.scenario core
-  pub run : Run core script (take count script.events) trace new
+  pub cores : Cores
+  pub of_scenario : AreCoresOf script.scenario cores
+  pub run : Run cores script (take count script.events) trace new
 
--- The first events run, by the core of the script's scenario; then one lacks a label at a node. The report ends with the lines of its acts before that, and the line that
--- says so.
-pub record Halts (core : Core) (script : Script) (report : List Entry) (node : NodeId) : Type 0 where
-  pub of_scenario : IsCoreOf script.scenario core
+-- The first events run, by the cores of the script's scenario; then one lacks a label at a node. The report ends with the lines of its
+-- acts before that, and the line that says so.
+pub record Halts (cores : Cores) (script : Script) (report : List Entry) (node : NodeId) : Type 0 where
+  pub of_scenario : AreCoresOf script.scenario cores
   pub before : List Timed
   pub timed : Timed
   pub after : List Timed
   pub events : script.events ≡ before ++ timed ∷ after
   pub trace : List Traced
   pub world : World
-  pub run : Run core script before trace world
+  pub run : Run cores script before trace world
   pub acts : List Happened
   pub lacks : outcome world timed ≡ Halted acts node
   pub whole : report ≡ report_of (trace ++ traced (length before) acts) ++ record { event = length before; lines = lines.Halt timed.line node ∷ [] } ∷ []

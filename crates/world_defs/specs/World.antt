@@ -6,7 +6,7 @@ use Rattle.mv_base.specs.declared.ids.SiteId.{SiteId}
 use Rattle.framing.specs.Feed.{unfed}
 use Rattle.scenario_defs.specs.declared.scenario.Scenario.{Scenario}
 use Rattle.session_defs.specs.Octets.{OctetNetwork}
-use Rattle.edge_defs.specs.Place.{Core}
+use Rattle.world_defs.specs.Costs.{Cores}
 use Rattle.world_defs.specs.Nodes.{Nodes, start_nodes}
 
 -- A datagram that was accepted: the site that sent it, its flow, and its octets.
@@ -31,9 +31,9 @@ pub record World : Type 0 where
   pub datagrams : List Datagram
 
 -- nothing has happened yet
-abbrev pub start : Scenario → Core → World
-start scenario core = record {
-  network = record { state = start_nodes scenario core; joined = λ direction. false; transit = λ direction. []; stream = λ direction. unfed };
+abbrev pub start : Scenario → Cores → World
+start scenario cores = record {
+  network = record { state = start_nodes scenario cores; joined = λ direction. false; transit = λ direction. []; stream = λ direction. unfed };
   copies = λ u n. [];
   datagrams = [];
 }

@@ -19,7 +19,7 @@ use Rattle.world_laws.proofs.ControlSteps.{updated_sound, effect_sound}
 sources_of : (control : Control) → SoundControl control → SoundSources control
 sources_of control h = record { entries = h.entries; notes = h.notes; peers = h.peers }
 
-refreshed_sound : (place : EdgePlace) (now : ℕ) (control : Control) → SoundControl control → SoundControl (refreshed place now control)
+pub refreshed_sound : (place : EdgePlace) (now : ℕ) (control : Control) → SoundControl control → SoundControl (refreshed place now control)
 refreshed_sound place now control h =
     record { entries = h.entries; notes = h.notes; selections = h.selections; flows = flows_are_sound place now control (sources_of control h); peers = h.peers }
 

@@ -114,3 +114,4 @@ effect_sound place now old (steps.Noticed kinds.Bgp peer) h heard =
     with_peers old (maps.remove old.peers peer) h (cut_meets node_cmp_total node_cmp_exact SoundPeer old.peers peer h.peers)
 effect_sound place now old (steps.Noticed kinds.Ldp peer) h heard = h
 effect_sound place now old steps.Timers h heard = timed_sound place now old h
+effect_sound place now old steps.Rerouted h heard = h

@@ -26,7 +26,7 @@ use Rattle.edge_defs.specs.Steps.{own_label_call, changed_leaves, one_call, Labe
 use Rattle.edge_defs.specs.Tunnels.{leaves}
 use Rattle.world_defs.specs.Puts.{label_puts}
 use Rattle.world_laws.specs.Sound.{IsSoundFec, SoundControl}
-use Rattle.world_laws.proofs.LabelIds.{IsNoRaise, own_ids_stay_empty, ids_stay_empty, no_ids_no_puts}
+use Rattle.world_laws.proofs.LabelEnds.{IsNoRaise, own_ends_stay_empty, ends_stay_empty, no_ends_no_puts}
 use Rattle.world_laws.proofs.LabelLeaves.{leaves_are_sound}
 use Rattle.world_laws.proofs.Lists.{each_append, each_of, each_map, each_filter, each_weaker}
 use Rattle.world_laws.proofs.LabelSound.{IsSoundLabelMessage, IsSoundLabelCall}
@@ -66,6 +66,7 @@ own_call_sound (steps.Raised kinds.Bgp peer) s = tt
 own_call_sound (steps.Noticed kinds.Ldp peer) s = (tt, tt)
 own_call_sound (steps.Noticed kinds.Bgp peer) s = tt
 own_call_sound steps.Timers s = (tt, tt)
+own_call_sound steps.Rerouted s = (tt, tt)
 own_call_sound (steps.Update peer message) s = tt
 own_call_sound (steps.Pim iface message) s = tt
 own_call_sound (steps.Active iface source group) s = tt
@@ -97,6 +98,7 @@ own_call_raises (steps.Raised kinds.Bgp peer) r = tt
 own_call_raises (steps.Noticed kinds.Ldp peer) r = (tt, tt)
 own_call_raises (steps.Noticed kinds.Bgp peer) r = tt
 own_call_raises steps.Timers r = (tt, tt)
+own_call_raises steps.Rerouted r = (tt, tt)
 own_call_raises (steps.Update peer message) r = tt
 own_call_raises (steps.Pim iface message) r = tt
 own_call_raises (steps.Active iface source group) r = tt
@@ -113,17 +115,17 @@ edge_calls_raise_none old new call r =
     each_append IsNoRaise (one_call (own_label_call call)) (changed_leaves old new) (own_call_raises call r)
     (each_map IsNoRaise (call_for new) some (each_of (λ fec. IsNoRaise (call_for new fec)) (λ fec. of_both_calls IsNoRaise fec (sets.contains new fec) tt tt) some))
 
--- A row of such calls at a node without ids puts nothing, and leaves none.
-pub row_without_ids : (n : NodeId) (addr : Addr) (place : EdgePlace) (now : ℕ) (part : LabelData) (calls : List labels.Call) (row : List LabelStep) → AllByRecursion IsNoRaise calls → part.ids ≡ maps.empty → label_row place now part calls ≡ Some row
-    → ((part_after part row).ids ≡ maps.empty) × (flat_map (label_puts n addr (label_place place.scenario place.core place.me) now) row ≡ [])
-row_without_ids n addr place now part [] row r h e =
-    subst (λ (made : List LabelStep). ((part_after part made).ids ≡ maps.empty) × (flat_map (label_puts n addr (label_place place.scenario place.core place.me) now) made ≡ [])) (same_Some [] row e) (h, refl)
-row_without_ids n addr place now part (call ∷ more) row r h e =
+-- A row of such calls at a node of which no end is up puts nothing, and leaves none.
+pub row_without_ends : (n : NodeId) (addr : Addr) (place : EdgePlace) (now : ℕ) (part : LabelData) (calls : List labels.Call) (row : List LabelStep) → AllByRecursion IsNoRaise calls → part.ends ≡ maps.empty → label_row place now part calls ≡ Some row
+    → ((part_after part row).ends ≡ maps.empty) × (flat_map (label_puts n addr (label_place place.scenario place.core place.me) now) row ≡ [])
+row_without_ends n addr place now part [] row r h e =
+    subst (λ (made : List LabelStep). ((part_after part made).ends ≡ maps.empty) × (flat_map (label_puts n addr (label_place place.scenario place.core place.me) now) made ≡ [])) (same_Some [] row e) (h, refl)
+row_without_ends n addr place now part (call ∷ more) row r h e =
     let own = label_place place.scenario place.core place.me in
     let first = bind_some (label_step own now part call) (λ new. label_row place now new.part more >>? λ behind. Some (record { old = part; call = call; new = new } ∷ behind)) row e in
     let rest = bind_some (label_row place now first.0.part more) (λ behind. Some (record { old = part; call = call; new = first.0 } ∷ behind)) row first.2 in
     let step : LabelStep = record { old = part; call = call; new = first.0 } in
-    let then_none = row_without_ids n addr place now first.0.part more rest.0 r.1 (ids_stay_empty own now part call first.0 r.0 h first.1) rest.1 in
-    let none = no_ids_no_puts n addr own now step (own_ids_stay_empty own now part call r.0 h) in
-    subst (λ (made : List LabelStep). ((part_after part made).ids ≡ maps.empty) × (flat_map (label_puts n addr own now) made ≡ [])) (same_Some (step ∷ rest.0) row rest.2)
+    let then_none = row_without_ends n addr place now first.0.part more rest.0 r.1 (ends_stay_empty own now part call first.0 r.0 h first.1) rest.1 in
+    let none = no_ends_no_puts n addr own now step (own_ends_stay_empty own now part call r.0 h) in
+    subst (λ (made : List LabelStep). ((part_after part made).ends ≡ maps.empty) × (flat_map (label_puts n addr own now) made ≡ [])) (same_Some (step ∷ rest.0) row rest.2)
     (then_none.0, (λ i. none i ++ then_none.1 i))

@@ -10,7 +10,7 @@ use Rattle.label_defs.specs.declared.label_use.LabelUse.{LabelUse}
 use Rattle.label_defs.specs.declared.label_use.LabelUse.TheVariants as uses
 use Rattle.label_defs.specs.LabelData.{Place, LabelData, same_fec, use_of, mapped_trees, trees}
 use Rattle.label_defs.specs.Settling.{Stepped, with_use, settle_all}
-use Rattle.label_defs.specs.Steps.{Call, Taken, Want, Unwant, Raised, Noticed, Timers, branch_to, released, freed, woken, without_session, timed, effect, counted, label_step}
+use Rattle.label_defs.specs.Steps.{Call, Taken, Want, Unwant, Raised, Noticed, Timers, Rerouted, twice, branch_to, released, freed, woken, without_session, timed, effect, counted, label_step}
 use Rattle.label_defs.specs.Members.{in_order}
 use Rattle.label_defs.proofs.KeyLemmas.{fec_cmp_total, fec_cmp_exact, branch_cmp_total, branch_cmp_exact}
 use Rattle.label_defs.proofs.UseLemmas.{used_some, map_some}
@@ -75,6 +75,10 @@ trees_sound part s =
     (each_append IsSoundFec leaves mapped (each_in_order fec_cmp_total IsSoundFec part.leaves s.leaves) (mapped_sound part.labels s.uses)) in
     each_in_order fec_cmp_total IsSoundFec (sets.from_list (branches ++ (leaves ++ mapped))) (each_member fec_cmp_total fec_cmp_exact IsSoundFec (branches ++ (leaves ++ mapped)) all)
 
+twice_sound : (fecs : List Fec) → AllByRecursion IsSoundFec fecs → AllByRecursion IsSoundFec (twice fecs)
+twice_sound [] s = tt
+twice_sound (fec ∷ more) s = (s.0, (s.0, twice_sound more s.1))
+
 -- ---- effects
 
 -- A call's own effect, and the trees that settle behind it, are sound.
@@ -128,6 +132,7 @@ effect_sound place now part (Unwant fec) s c = (
 effect_sound place now part (Raised peer) s c = ((record { few = s.few; uses = s.uses; branches = s.branches; leaves = s.leaves; waiting = s.waiting }, tt), tt)
 effect_sound place now part (Noticed peer) s c = ((lost_part part peer s, tt), trees_sound part s)
 effect_sound place now part Timers s c = ((timed_part place now part s, tt), each_in_order fec_cmp_total IsSoundFec part.waiting s.waiting)
+effect_sound place now part Rerouted s c = ((s, tt), twice_sound (trees part) (trees_sound part s))
 
 -- ---- steps
 

@@ -1,5 +1,5 @@
 -- What the label steps of a node put is spelled, and its label part stays sound.
-use Rattle.std.proofs.Common.{◌≡◌, ℕ, zero, suc, ◌<◌, ◌≤◌, None, replicate, List, [], ◌∷◌, length, Some, None, refl, sym, ap, subst}
+use Rattle.std.proofs.Common.{◌≡◌, ℕ, zero, suc, ◌<◌, ◌≤◌, None, replicate, List, [], ◌∷◌, map, length, Option, Some, None, refl, sym, ap, subst}
 use Rattle.std.specs.List.{AllByRecursion, flat_map}
 use Rattle.std.specs.FinMap as maps
 use Rattle.std.specs.FinSet as sets
@@ -16,14 +16,15 @@ use Rattle.label_defs.specs.declared.label_use.LabelUse.TheVariants as uses
 use Rattle.label_defs.specs.Keys.{fec_cmp, branch_cmp, node_cmp}
 use Rattle.label_defs.specs.LabelData.{Place, LabelData, fresh}
 use Rattle.label_defs.specs.Settling.{Stepped}
-use Rattle.label_defs.specs.Steps.{Call, effect, next_id, label_step}
+use Rattle.label_defs.specs.Steps.{Call, effect, told, numbered, label_step}
+use Rattle.label_defs.specs.declared.end.End.{End}
 use Rattle.label_defs.specs.declared.put.Put as labels
 use Rattle.label_defs.proofs.SettleLemmas.{bind_some}
 use Rattle.session_defs.specs.Message.{IsPut}
 use Rattle.session_defs.specs.System.{Put}
 use Rattle.edge_defs.specs.Place.{EdgePlace, addr_of, label_place}
 use Rattle.edge_defs.specs.Steps.{LabelStep, label_row, part_after}
-use Rattle.world_defs.specs.Puts.{label_put, numbered_puts, label_puts}
+use Rattle.world_defs.specs.Puts.{label_put, label_puts}
 use Rattle.world_laws.specs.Sound.{SoundScenario, SoundUse, SoundPart}
 use Rattle.world_laws.proofs.BgpOctets.{host_length, host_octets}
 use Rattle.world_laws.proofs.BgpPlaces.{addr_host}
@@ -70,19 +71,19 @@ node_addr_is_router scenario n s within = (let host = addr_host scenario s n wit
 abbrev pub IsSpelledPut : Put → Type 0
 IsSpelledPut put = IsPut put.over.kind put.unit.messages put.unit.octets
 
-put_spelled : (n : NodeId) (addr : Addr) (id : ℕ) (put : labels.Put) → IsRouterAddr addr → IsSoundPut put → IsSpelledPut (label_put n addr id put)
+put_spelled : (n : NodeId) (addr : Addr) (id : ℕ) (put : labels.Put) → IsRouterAddr addr → IsSoundPut put → IsSpelledPut (label_put n addr (record { id = id; put = put }))
 put_spelled n addr id put router sound = ((put.message ∷ [], refl, pdu_spelled addr id put.message sound.0 router.0), pdu_octets addr id put.message router.1 sound.1)
 
-numbered_spelled : (n : NodeId) (addr : Addr) (ids : FinMap node_cmp ℕ) (puts : List labels.Put) → IsRouterAddr addr → AllByRecursion IsSoundPut puts → AllByRecursion IsSpelledPut (numbered_puts n addr ids puts)
-numbered_spelled n addr ids [] router sound = tt
-numbered_spelled n addr ids (put ∷ more) router sound =
-    elim (maps.get ids put.to) as (λ o. AllByRecursion IsSpelledPut (elim o [ None ↦ numbered_puts n addr ids more | Some id ↦ label_put n addr id put ∷ numbered_puts n addr (maps.insert ids put.to (next_id id)) more ])) [
-      | None ↦ numbered_spelled n addr ids more router sound.1
-      | Some id ↦ (put_spelled n addr id put router sound.0, numbered_spelled n addr (maps.insert ids put.to (next_id id)) more router sound.1)
+numbered_spelled : (n : NodeId) (addr : Addr) (ends : FinMap node_cmp End) (puts : List labels.Put) → IsRouterAddr addr → AllByRecursion IsSoundPut puts → AllByRecursion IsSpelledPut (map (label_put n addr) (numbered ends puts))
+numbered_spelled n addr ends [] router sound = tt
+numbered_spelled n addr ends (put ∷ more) router sound =
+    elim (maps.get ends put.to) as (λ (o : Option End). AllByRecursion IsSpelledPut (map (label_put n addr) (elim o [ None ↦ numbered ends more | Some end ↦ record { id = end.next; put = put } ∷ numbered (maps.insert ends put.to (told end)) more ]))) [
+      | None ↦ numbered_spelled n addr ends more router sound.1
+      | Some end ↦ (put_spelled n addr end.next put router sound.0, numbered_spelled n addr (maps.insert ends put.to (told end)) more router sound.1)
     ]
 
 pub label_puts_are_put : (n : NodeId) (addr : Addr) (place : Place) (now : ℕ) (step : LabelStep) → IsRouterAddr addr → AllByRecursion IsSoundPut step.new.puts → AllByRecursion (λ (put : Put). IsPut put.over.kind put.unit.messages put.unit.octets) (label_puts n addr place now step)
-label_puts_are_put n addr place now step router sound = numbered_spelled n addr (effect place now step.old step.call).0.part.ids step.new.puts router sound
+label_puts_are_put n addr place now step router sound = numbered_spelled n addr (effect place now step.old step.call).0.part.ends step.new.puts router sound
 
 -- ---- a row of steps
 

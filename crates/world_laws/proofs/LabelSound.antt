@@ -10,7 +10,7 @@ use Rattle.mldp_msgs.specs.Spelling.{IsLabel, IsWritable, tlv, type_of, written_
 use Rattle.mldp_msgs.specs.declared.message.LabelMessage.{LabelMessage}
 use Rattle.mldp_msgs.specs.declared.message.LabelMessage.TheVariants as messages
 use Rattle.label_defs.specs.declared.put.Put.{Put}
-use Rattle.label_defs.specs.Steps.{Call, Taken, Want, Unwant, Raised, Noticed, Timers}
+use Rattle.label_defs.specs.Steps.{Call, Taken, Want, Unwant, Raised, Noticed, Timers, Rerouted}
 use Rattle.world_laws.specs.Sound.{IsSoundFec}
 use Rattle.world_laws.proofs.BgpOctets.{no_octets, octets_cons, octets_append, octets_of_16, octets_of_32}
 
@@ -28,6 +28,7 @@ IsSoundLabelCall (Unwant fec) = IsSoundFec fec
 IsSoundLabelCall (Raised peer) = Unit {0}
 IsSoundLabelCall (Noticed peer) = Unit {0}
 IsSoundLabelCall Timers = Unit {0}
+IsSoundLabelCall Rerouted = Unit {0}
 
 -- the message can be written, in octets
 abbrev pub IsSoundPut : Put → Type 0

@@ -17,7 +17,7 @@ pub mod LabelSound
 pub mod LabelTurns
 pub mod LabelEffects
 pub mod LabelPuts
-pub mod LabelIds
+pub mod LabelEnds
 pub mod LabelEntries
 pub mod LabelLeaves
 pub mod LabelCalls
@@ -28,3 +28,6 @@ pub mod RunActs
 pub mod RunMessages
 pub mod RunNodes
 pub mod RunEvents
+pub mod Costs
+pub mod SteadyEvents
+pub mod KnownCosts

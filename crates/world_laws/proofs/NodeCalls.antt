@@ -4,6 +4,7 @@ use Rattle.std.specs.FinMap as maps
 use Rattle.std.specs.FinSet as sets
 use Rattle.std.proofs.lemmas.Bool.{eqb-true}
 use Rattle.std.proofs.lemmas.Option.{slice_get_cases}
+use Rattle.std.proofs.lemmas.List.Elements.{recursion_from_All}
 use Rattle.mv_base.specs.declared.ids.NodeId.{NodeId}
 use Rattle.scenario_defs.specs.declared.scenario.Node.{Node}
 use Rattle.scenario_defs.specs.declared.scenario.Scenario.{Scenario}
@@ -14,14 +15,17 @@ use Rattle.pim_defs.specs.declared.expiry.Expiry.{Expiry}
 use Rattle.session_defs.specs.Message.{SessionMessage, Bgp, Label}
 use Rattle.edge_defs.specs.Edge.{Control, note_cmp, pattern_cmp, flow_cmp, no_control}
 use Rattle.edge_defs.specs.Edge as edges
-use Rattle.edge_defs.specs.Place.{Core, EdgePlace}
+use Rattle.edge_defs.specs.Place.{EdgePlace}
+use Rattle.core_walks.specs.Topology.{HasCost}
+use Rattle.world_defs.specs.Costs.{AreRepriced, Cores}
+use Rattle.world_defs.proofs.CostLemmas.{repriced_itself}
 use Rattle.edge_defs.specs.Steps as steps
 use Rattle.edge_defs.specs.Steps.{control_step}
 use Rattle.world_defs.specs.Nodes.{NodeState, Edge, CoreNode, Nodes, is_edge, fresh_node, start_nodes, with_node}
 use Rattle.world_defs.specs.System.{call_of}
 use Rattle.world_laws.specs.Sound.{SoundScenario, SoundControl, SoundNode, IsBare, Sound}
 use Rattle.world_laws.specs.Honest.{IsSoundCall}
-use Rattle.world_laws.proofs.ControlSound.{control_stays_sound, update_stays_sound, label_stays_sound}
+use Rattle.world_laws.proofs.ControlSound.{refreshed_sound, control_stays_sound, update_stays_sound, label_stays_sound}
 use Rattle.world_laws.proofs.LabelCalls.{TakesSound, RaisesNone}
 use Rattle.world_laws.proofs.LabelPuts.{fresh_part_is_sound}
 use Rattle.world_laws.proofs.LabelTaken.{IsSoundMessage}
@@ -44,9 +48,14 @@ own_takes (steps.Unselect vrf pattern) s = tt
 own_takes (steps.Raised kind peer) s = tt
 own_takes (steps.Noticed kind peer) s = tt
 own_takes steps.Timers s = tt
+own_takes steps.Rerouted s = absurd s
 
 pub own_is_good : (call : steps.Call) → IsSoundCall call → IsGoodCall call
 own_is_good call s = record { control = λ place now old scenario h. control_stays_sound place now old call scenario h s; takes = own_takes call s }
+
+-- a step by other costs
+pub rerouted_is_good : IsGoodCall steps.Rerouted
+rerouted_is_good = record { control = λ place now old scenario h. refreshed_sound place now old h; takes = tt }
 
 pub taking_is_good : (from : NodeId) (message : SessionMessage) → IsSoundMessage message → IsGoodCall (call_of from message)
 taking_is_good from (Bgp message) s = record { control = λ place now old scenario h. update_stays_sound place now old from message s.0 scenario h s.1 s.2; takes = tt }
@@ -79,8 +88,10 @@ fresh_is_bare scenario n past = elim (slice_get_cases scenario.nodes n.0).1 [
       subst (λ (o : Option Node). IsBare (cond (elim o [ None ↦ false | Some node ↦ node.edge ]) (Edge (edges.fresh scenario.labels)) (CoreNode (labels.fresh scenario.labels)))) (sym none.1) (λ i. maps.empty)
 ]
 
-pub start_sound : (scenario : Scenario) (core : Core) → SoundScenario scenario → Sound scenario (start_nodes scenario core)
-start_sound scenario core s = record { same = λ i. scenario; lines = s; node = λ n. fresh_is_sound scenario n s; outside = λ n past. fresh_is_bare scenario n past }
+pub start_sound : (scenario : Scenario) (cores : Cores) → SoundScenario scenario → Sound scenario (start_nodes scenario cores)
+start_sound scenario cores s =
+    let itself : AreRepriced scenario.links scenario.links = repriced_itself scenario.links (recursion_from_All HasCost scenario.links s.rules.core.topology.costs) in
+    record { same = λ i. scenario; lines = s; links = itself; known = λ n. itself; node = λ n. fresh_is_sound scenario n s; outside = λ n past. fresh_is_bare scenario n past }
 
 -- ---- one node becomes another
 
@@ -92,6 +103,8 @@ pub changed_node : (scenario : Scenario) (nodes : Nodes) (n : NodeId) (new : Nod
 changed_node scenario nodes n new s sound bare = record {
   same = s.same;
   lines = s.lines;
+  links = s.links;
+  known = s.known;
   node = λ m. changed_at SoundNode (m.0 == n.0) new (nodes.node m) (λ e. sound) (s.node m);
   outside = λ m past. changed_at IsBare (m.0 == n.0) new (nodes.node m) (λ e. bare (let same = eqb-true m.0 n.0 e in subst (λ k. length scenario.nodes ≤ k) same past)) (s.outside m past);
 }

@@ -1,5 +1,5 @@
 -- Edges and core nodes are honest, as long as they are sound.
-use Rattle.std.proofs.Common.{◌≡◌, ◌<◌, ◌≤◌, ◌⊎◌, inl, inr, arith, List, ◌++◌, length, flat_map, Option, Some, None, refl, sym, subst}
+use Rattle.std.proofs.Common.{◌≡◌, ◌<◌, ◌≤◌, ◌==◌, ◌⊎◌, true, false, cond, inl, inr, arith, List, ◌++◌, length, flat_map, Option, Some, None, refl, sym, subst}
 use Rattle.std.specs.List.{AllByRecursion}
 use Rattle.std.specs.FinMap as maps
 use Rattle.std.proofs.lemmas.Bool.{cases_lt}
@@ -17,19 +17,21 @@ use Rattle.edge_defs.specs.Place.{EdgePlace, addr_of, label_place}
 use Rattle.edge_defs.specs.Steps as steps
 use Rattle.edge_defs.specs.Steps.{LabelStep, EdgeStepped, control_step, own_label_call, changed_leaves, one_call, label_row, part_after}
 use Rattle.edge_defs.specs.Tunnels.{leaves}
-use Rattle.world_defs.specs.Nodes.{NodeState, Edge, CoreNode, Nodes, fresh_node, with_node, place_of}
+use Rattle.world_defs.specs.Costs.{AreRepriced}
+use Rattle.world_defs.proofs.CostLemmas.{repriced_more}
+use Rattle.world_defs.specs.Nodes.{NodeState, Edge, CoreNode, Nodes, fresh_node, with_node, following, place_of, label_place_of}
 use Rattle.world_defs.specs.Puts.{bgp_puts, label_puts}
-use Rattle.world_defs.specs.System.{Own, Elapse, Reset, NodeCall, nodes_called, node_called, core_called, core_stepped, edge_stepped, call_of}
+use Rattle.world_defs.specs.System.{Own, Elapse, Reset, Price, Follow, NodeCall, nodes_called, node_called, core_called, core_stepped, edge_stepped, call_of}
 use Rattle.world_laws.specs.Sound.{SoundScenario, SoundControl, SoundPart, SoundNode, IsBare, Sound}
 use Rattle.world_laws.specs.Honest.{IsSoundNodeCall, sound_system}
 use Rattle.world_laws.proofs.BgpPuts.{bgp_puts_are_put}
 use Rattle.world_laws.proofs.LabelCalls.{RaisesNone, edge_calls_are_sound, own_call_is_sound, own_call_raises_none}
-use Rattle.world_laws.proofs.LabelIds.{IsNoRaise, no_ids_no_puts, ids_stay_empty, own_ids_stay_empty}
+use Rattle.world_laws.proofs.LabelEnds.{IsNoRaise, no_ends_no_puts, ends_stay_empty, own_ends_stay_empty}
 use Rattle.world_laws.proofs.Lists.{each_append}
 use Rattle.world_laws.proofs.LabelPuts.{IsSpelledPut, IsRouterAddr, node_addr_is_router, part_stays_sound, puts_are_sound, label_puts_are_put, row_stays_sound, row_puts_are_put}
 use Rattle.world_laws.proofs.LabelSound.{IsSoundLabelCall}
 use Rattle.world_laws.proofs.LabelTaken.{carried_is_sound}
-use Rattle.world_laws.proofs.NodeCalls.{IsGoodCall, own_is_good, taking_is_good, taking_raises_none, fresh_is_sound, fresh_is_bare, changed_node}
+use Rattle.world_laws.proofs.NodeCalls.{rerouted_is_good, IsGoodCall, own_is_good, taking_is_good, taking_raises_none, fresh_is_sound, fresh_is_bare, changed_node}
 
 module _ (scenario : Scenario) (nodes : Nodes) (s : Sound scenario nodes) where
   its_lines : SoundScenario nodes.scenario
@@ -42,7 +44,7 @@ module _ (scenario : Scenario) (nodes : Nodes) (s : Sound scenario nodes) where
   router n lt = node_addr_is_router nodes.scenario n its_lines (is_within n lt)
 
   abbrev own_place : NodeId → Place
-  own_place n = label_place nodes.scenario nodes.core n
+  own_place n = label_place_of nodes n
 
   -- ---- an edge
 
@@ -85,20 +87,20 @@ module _ (scenario : Scenario) (nodes : Nodes) (s : Sound scenario nodes) where
 
   -- ---- a core node
 
-  -- it is one of the scenario, or it has no ids and none comes by the call
+  -- it is one of the scenario, or none of its ends is up and none comes up by the call
   abbrev IsPlaced : NodeId → LabelData → labels.Call → Type 0
-  IsPlaced n part call = (n.0 < length scenario.nodes) ⊎ ((part.ids ≡ maps.empty) × IsNoRaise call)
+  IsPlaced n part call = (n.0 < length scenario.nodes) ⊎ ((part.ends ≡ maps.empty) × IsNoRaise call)
 
   core_puts : (n : NodeId) (part : LabelData) (call : labels.Call) (new : settling.Stepped) → SoundPart part → IsSoundLabelCall call → IsPlaced n part call → label_step (own_place n) nodes.clock part call ≡ Some new
       → AllByRecursion IsSpelledPut (label_puts n (addr_of nodes.scenario n) (own_place n) nodes.clock (record { old = part; call = call; new = new }))
   core_puts n part call new sound heard (inl lt) e =
       label_puts_are_put n (addr_of nodes.scenario n) (own_place n) nodes.clock (record { old = part; call = call; new = new }) (router n lt) (puts_are_sound (own_place n) nodes.clock part call new sound heard e)
   core_puts n part call new sound heard (inr bare) e =
-      subst (AllByRecursion IsSpelledPut) (sym (no_ids_no_puts n (addr_of nodes.scenario n) (own_place n) nodes.clock (record { old = part; call = call; new = new }) (own_ids_stay_empty (own_place n) nodes.clock part call bare.1 bare.0))) tt
+      subst (AllByRecursion IsSpelledPut) (sym (no_ends_no_puts n (addr_of nodes.scenario n) (own_place n) nodes.clock (record { old = part; call = call; new = new }) (own_ends_stay_empty (own_place n) nodes.clock part call bare.1 bare.0))) tt
 
-  core_bare : (n : NodeId) (part : LabelData) (call : labels.Call) (new : settling.Stepped) → IsPlaced n part call → label_step (own_place n) nodes.clock part call ≡ Some new → length scenario.nodes ≤ n.0 → new.part.ids ≡ maps.empty
+  core_bare : (n : NodeId) (part : LabelData) (call : labels.Call) (new : settling.Stepped) → IsPlaced n part call → label_step (own_place n) nodes.clock part call ≡ Some new → length scenario.nodes ≤ n.0 → new.part.ends ≡ maps.empty
   core_bare n part call new (inl lt) e past = absurd (omega (arith, lt, past))
-  core_bare n part call new (inr bare) e past = ids_stay_empty (own_place n) nodes.clock part call new bare.1 bare.0 e
+  core_bare n part call new (inr bare) e past = ends_stay_empty (own_place n) nodes.clock part call new bare.1 bare.0 e
 
   core_keeps : (n : NodeId) (part : LabelData) (call : labels.Call) → SoundPart part → IsSoundLabelCall call → IsPlaced n part call → Keeps (Sound scenario) (core_stepped nodes n part call)
   core_keeps n part call sound heard placed = by (label_step (own_place n) nodes.clock part call) refl
@@ -113,10 +115,10 @@ module _ (scenario : Scenario) (nodes : Nodes) (s : Sound scenario nodes) where
       by None e = tt
       by (Some new) e = (core_puts n part call new sound heard placed e, changed_node scenario nodes n (CoreNode new.part) s (part_stays_sound (own_place n) nodes.clock part call new sound heard e) (core_bare n part call new placed e))
 
-  core_call_keeps : (n : NodeId) (part : LabelData) (call : steps.Call) → SoundPart part → IsGoodCall call → (n.0 < length scenario.nodes) ⊎ ((part.ids ≡ maps.empty) × RaisesNone call) → Keeps (Sound scenario) (core_called nodes n part (own_label_call call))
+  core_call_keeps : (n : NodeId) (part : LabelData) (call : steps.Call) → SoundPart part → IsGoodCall call → (n.0 < length scenario.nodes) ⊎ ((part.ends ≡ maps.empty) × RaisesNone call) → Keeps (Sound scenario) (core_called nodes n part (own_label_call call))
   core_call_keeps n part call sound good placed = by (own_label_call call) refl
     where
-      place_by : (own : labels.Call) → own_label_call call ≡ Some own → (n.0 < length scenario.nodes) ⊎ ((part.ids ≡ maps.empty) × RaisesNone call) → IsPlaced n part own
+      place_by : (own : labels.Call) → own_label_call call ≡ Some own → (n.0 < length scenario.nodes) ⊎ ((part.ends ≡ maps.empty) × RaisesNone call) → IsPlaced n part own
       place_by own e (inl lt) = inl lt
       place_by own e (inr bare) = inr (bare.0, own_call_raises_none call own bare.1 e)
 
@@ -141,13 +143,38 @@ module _ (scenario : Scenario) (nodes : Nodes) (s : Sound scenario nodes) where
     | inr past ↦ bare_keeps n (nodes.node n) call (s.outside n past) none (s.node n) good
   ]
 
-  call_keeps : (call : NodeCall) → IsSoundNodeCall scenario call → Keeps (Sound scenario) (nodes_called call nodes)
-  call_keeps (Own n call) sound = node_keeps n (nodes.node n) call sound.0 (s.node n) (own_is_good call sound.1)
-  call_keeps (Elapse ticks) sound = (tt, record { same = s.same; lines = s.lines; node = s.node; outside = s.outside })
-  call_keeps (Reset n) sound = (
-    tt,
-    changed_node scenario nodes n (fresh_node nodes.scenario n) s (fresh_is_sound nodes.scenario n its_lines) (λ past. subst (λ (own : Scenario). IsBare (fresh_node own n)) (sym s.same) (fresh_is_bare scenario n past)),
-  )
+-- the node takes over the present costs
+pub followed : (scenario : Scenario) (nodes : Nodes) (n : NodeId) → Sound scenario nodes → Sound scenario (following nodes n)
+followed scenario nodes n s = record {
+  same = s.same;
+  lines = s.lines;
+  links = s.links;
+  known = λ m. elim (m.0 == n.0) as (λ t. AreRepriced scenario.links (cond t nodes.links (nodes.known m))) [ true ↦ s.links | false ↦ s.known m ];
+  node = s.node;
+  outside = s.outside;
+}
+
+pub call_keeps : (scenario : Scenario) (nodes : Nodes) → Sound scenario nodes → (call : NodeCall) → IsSoundNodeCall scenario call → Keeps (Sound scenario) (nodes_called call nodes)
+call_keeps scenario nodes s (Own n call) sound = node_keeps scenario nodes s n (nodes.node n) call sound.0 (s.node n) (own_is_good call sound.1)
+call_keeps scenario nodes s (Elapse ticks) sound = (tt, record { same = s.same; lines = s.lines; links = s.links; known = s.known; node = s.node; outside = s.outside })
+call_keeps scenario nodes s (Reset n) sound = (
+  tt,
+  changed_node scenario nodes n (fresh_node nodes.scenario n) s (fresh_is_sound nodes.scenario n (its_lines scenario nodes s))
+      (λ past. subst (λ (own : Scenario). IsBare (fresh_node own n)) (sym s.same) (fresh_is_bare scenario n past)),
+)
+call_keeps scenario nodes s (Price a b cost) sound = (
+  tt,
+  record {
+    same = s.same;
+    lines = s.lines;
+    links = repriced_more scenario.links nodes.links a b cost s.links sound;
+    known = s.known;
+    node = s.node;
+    outside = s.outside;
+  },
+)
+call_keeps scenario nodes s (Follow n) sound =
+    node_keeps scenario (following nodes n) (followed scenario nodes n s) n (nodes.node n) steps.Rerouted sound (s.node n) rerouted_is_good
 
 pub honest_nodes : (scenario : Scenario) → IsHonestWhile (sound_system scenario) (Sound scenario)
 honest_nodes scenario = record {

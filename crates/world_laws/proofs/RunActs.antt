@@ -16,14 +16,14 @@ use Rattle.session_defs.specs.System.{Behind, with_earlier}
 use Rattle.session_defs.specs.declared.direction.Direction.{Direction}
 use Rattle.session_defs.proofs.Runs.{run_refined_while}
 use Rattle.edge_defs.specs.Steps as steps
-use Rattle.world_defs.specs.Acts.{Act, Tick, Timers, Move, Lose, Notice, RaiseFirst, RaiseSecond, Restart, At, Enter, Land, Drop, Tell, Acted, with_network, at_node, is_of_session, is_at, leads_to, is_from_peer, with_aged, act}
+use Rattle.world_defs.specs.Acts.{Act, Tick, Timers, Move, Lose, Notice, RaiseFirst, RaiseSecond, Restart, At, Enter, Land, Drop, Tell, SetCost, Reroute, Acted, with_network, at_node, is_of_session, is_at, leads_to, is_from_peer, with_aged, act}
 use Rattle.world_defs.specs.Counts.{direction}
 use Rattle.world_defs.specs.Nodes.{Nodes}
-use Rattle.world_defs.specs.System.{NodeCall, Own, Elapse, Reset, system}
+use Rattle.world_defs.specs.System.{NodeCall, Own, Elapse, Reset, Price, Follow, system}
 use Rattle.world_defs.specs.World.{World}
 use Rattle.world_defs.proofs.Kept.{Gives, enter_keeps, land_keeps}
 use Rattle.world_laws.specs.Sound.{Sound}
-use Rattle.world_laws.specs.Honest.{IsSoundCall, IsSoundNodeCall, SoundCall, sound_system}
+use Rattle.world_laws.specs.Honest.{IsCost, IsSoundCall, IsSoundNodeCall, SoundCall, sound_system}
 use Rattle.world_laws.proofs.Nodes.{honest_nodes}
 
 -- The nodes are sound, and the octets of each session that is joined are whole units.
@@ -88,6 +88,8 @@ SoundAct scenario (Timers n) = n.0 < length scenario.nodes
 SoundAct scenario (Notice kind a b) = a.0 < length scenario.nodes
 SoundAct scenario (RaiseFirst kind a b) = a.0 < length scenario.nodes
 SoundAct scenario (RaiseSecond kind a b) = b.0 < length scenario.nodes
+SoundAct scenario (SetCost a b cost) = IsCost cost
+SoundAct scenario (Reroute n) = n.0 < length scenario.nodes
 SoundAct scenario (At n call) = (n.0 < length scenario.nodes) × IsSoundCall call
 SoundAct scenario other = Unit {0}
 
@@ -119,3 +121,7 @@ act_stays scenario (Enter vrf) sound world s = enter_keeps (Stays scenario) worl
 act_stays scenario (Land from to place) sound world s = land_keeps (Stays scenario) world from to place s
 act_stays scenario (Drop from to place) sound world s = s
 act_stays scenario Tell sound world s = s
+act_stays scenario (SetCost a b cost) sound world s =
+    network_stays scenario world [] (octet_run system world.network (octets.Call (Price a b cost) ∷ [])) a (stays_behind scenario world.network (sound_call scenario (Price a b cost) sound ∷ []) s)
+act_stays scenario (Reroute n) sound world s =
+    network_stays scenario world [] (octet_run system world.network (octets.Call (Follow n) ∷ [])) n (stays_behind scenario world.network (sound_call scenario (Follow n) sound ∷ []) s)

@@ -22,18 +22,18 @@ use Rattle.mvpn_model.specs.declared.message.Given.{Given}
 use Rattle.mvpn_model.specs.Sessions.{sessions}
 use Rattle.mvpn_model.specs.declared.session.Session.{Session}
 use Rattle.session_defs.specs.declared.direction.Direction.{Direction}
-use Rattle.edge_defs.specs.Place.{Core}
+use Rattle.world_defs.specs.Costs.{Cores}
 use Rattle.edge_defs.specs.Steps as steps
-use Rattle.world_defs.specs.Acts.{Act, Tick, Timers, Move, Lose, Notice, Restart, At, Enter, Land, Drop, Tell, act}
+use Rattle.world_defs.specs.Acts.{Act, Tick, Timers, Move, Lose, Notice, Restart, At, Enter, Land, Drop, Tell, SetCost, Reroute, act}
 use Rattle.world_defs.specs.Counts.{all_nodes, directions, link_ways, is_joined, is_up}
-use Rattle.world_defs.specs.Events.{Happened, Outcome, Done, row, each, times, raise_acts, is_session_of, raises, notices, healed, turn, settled, landings, drain_round, sent, at_edge, with_message, done}
+use Rattle.world_defs.specs.Events.{cost_acts, Happened, Outcome, Done, row, each, times, raise_acts, is_session_of, raises, notices, healed, turn, settled, landings, drain_round, sent, at_edge, with_message, done}
 use Rattle.mvpn_model.specs.Packets.{source_in, group_in}
 use Rattle.world_defs.specs.Refusals.{edge_of_vrf, refusal}
 use Rattle.world_defs.specs.Run.{Traced, outcome, Runs}
 use Rattle.world_defs.specs.World.{World, scenario_of, start}
 use Rattle.world_defs.proofs.Kept.{Gives, Comes, then_comes, row_keeps, each_keeps, times_keeps}
 use Rattle.world_laws.specs.Sound.{SoundScenario}
-use Rattle.world_laws.specs.Honest.{IsSoundCall, IsSoundEvent, IsLinkPlace}
+use Rattle.world_laws.specs.Honest.{IsCost, IsSoundCall, IsSoundEvent, IsLinkPlace}
 use Rattle.world_laws.proofs.Lists.{each_append, each_of, each_map, each_flat, each_weaker}
 use Rattle.world_laws.proofs.NodeCalls.{start_sound}
 use Rattle.world_laws.proofs.RunActs.{WorldStays, SoundAct, act_stays}
@@ -131,6 +131,11 @@ settle_stays world s =
     (row_stays scenario (map (λ n. Timers n) (all_nodes scenario)) (each_map (SoundAct scenario) (λ n. Timers n) (all_nodes scenario) (nodes_within 0 (length scenario.nodes) (length scenario.nodes) (omega arith))) world s)
     (λ next p. times_keeps stays (each turn (directions scenario)) (λ one q. round_stays scenario (directions scenario) one q) (length scenario.nodes + 3) next p)
 
+cost_stays : (world : World) (a b : NodeId) (cost : ℕ) → IsCost cost → WorldStays (scenario_of world) world → Comes (WorldStays (scenario_of world)) (row (cost_acts (scenario_of world) a b cost) world)
+cost_stays world a b cost is s =
+    let scenario = scenario_of world in
+    row_stays scenario (cost_acts scenario a b cost) (is, each_map (SoundAct scenario) (λ n. Reroute n) (all_nodes scenario) (nodes_within 0 (length scenario.nodes) (length scenario.nodes) (omega arith))) world s
+
 message_stays : (world : World) → SoundScenario (scenario_of world) → (o : Option Given) → IsSoundGiven o → WorldStays (scenario_of world) world → Comes (WorldStays (scenario_of world)) (with_message o world)
 message_stays world lines None sound s = s
 message_stays world lines (Some given) sound s =
@@ -152,8 +157,8 @@ done_stays world lines s (events.Lose kind a b) sound = row_stays (scenario_of w
 done_stays world lines s (events.Notice kind a b) sound = row_stays (scenario_of world) (Notice kind a b ∷ []) (sound, tt) world s
 done_stays world lines s (events.Raise kind a b) sound =
     row_stays (scenario_of world) (raises (sessions (scenario_of world)) kind a b) (raises_sound (scenario_of world) (sessions (scenario_of world)) kind a b (sessions_within (scenario_of world) lines)) world s
-done_stays world lines s (events.Join iface entry) sound = message_stays world lines (message_of (scenario_of world) (events.Join iface entry)) (join_is_sound (scenario_of world) lines iface entry sound.0 sound.1) s
-done_stays world lines s (events.Prune iface entry) sound = message_stays world lines (message_of (scenario_of world) (events.Prune iface entry)) (prune_is_sound (scenario_of world) lines iface entry sound.0 sound.1) s
+done_stays world lines s (events.Join iface entry) sound = message_stays world lines (message_of (scenario_of world) (events.Join iface entry)) (join_is_sound (scenario_of world) iface entry sound.1) s
+done_stays world lines s (events.Prune iface entry) sound = message_stays world lines (message_of (scenario_of world) (events.Prune iface entry)) (prune_is_sound (scenario_of world) iface entry sound.1) s
 done_stays world lines s (events.Pim iface octets) sound = message_stays world lines (message_of (scenario_of world) (events.Pim iface octets)) (read_is_sound iface octets sound) s
 done_stays world lines s (events.Active iface source group) sound =
     edge_stays (scenario_of world) (edge_of (scenario_of world) iface) (steps.Active iface source group) (edge_within (scenario_of world) lines iface) sound world s
@@ -167,6 +172,7 @@ done_stays world lines s (events.Unselect vrf pattern) sound =
     edge_stays (scenario_of world) (edge_of_vrf (scenario_of world) vrf) (steps.Unselect vrf pattern) (vrf_within (scenario_of world) lines vrf) tt world s
 done_stays world lines s (events.Hop from to place) sound = row_stays (scenario_of world) (Land from to place ∷ []) (tt, tt) world s
 done_stays world lines s (events.DropCopy from to place) sound = row_stays (scenario_of world) (Drop from to place ∷ []) (tt, tt) world s
+done_stays world lines s (events.Cost a b cost) sound = cost_stays world a b cost sound s
 done_stays world lines s events.Heal sound =
     each_keeps (WorldStays (scenario_of world)) healed (sessions (scenario_of world))
     (each_weaker (HasNodes (scenario_of world)) (λ session. (old : World) → WorldStays (scenario_of world) old → Comes (WorldStays (scenario_of world)) (healed session old)) (healed_stays (scenario_of world)) (sessions (scenario_of world)) (sessions_within (scenario_of world) lines)) world s
@@ -180,7 +186,7 @@ event_stays scenario world s event sound =
 
 -- ---- runs
 
-turned_stays : (scenario : Scenario) (old : World) → WorldStays scenario old → (timed : Timed) → IsSoundEvent scenario timed.event → (acts : List Happened) (next : World) → outcome old timed ≡ Done acts next → WorldStays scenario next
+pub turned_stays : (scenario : Scenario) (old : World) → WorldStays scenario old → (timed : Timed) → IsSoundEvent scenario timed.event → (acts : List Happened) (next : World) → outcome old timed ≡ Done acts next → WorldStays scenario next
 turned_stays scenario old s timed sound acts next e = subst (Comes (WorldStays scenario)) e (by (refusal old timed.event))
   where
     by : (o : Option Refusal) → Comes (WorldStays scenario) (elim o [ None ↦ done old timed.event | Some reason ↦ Done (record { act = None; lines = lines.Refused timed.line reason ∷ [] } ∷ []) old ])
@@ -193,8 +199,8 @@ runs_stay scenario (timed ∷ more) sound old number trace new s run =
     runs_stay scenario more sound.1 run.1 (number + 1) run.2 new (turned_stays scenario old s timed sound.0 run.0 run.1 run.3) run.5
 
 -- nothing is in transit, and no session is joined
-start_stays : (scenario : Scenario) (core : Core) → SoundScenario scenario → WorldStays scenario (start scenario core)
-start_stays scenario core sound = (start_sound scenario core sound, ((λ over. []), λ over. (refl, refl)))
+pub start_stays : (scenario : Scenario) (cores : Cores) → SoundScenario scenario → WorldStays scenario (start scenario cores)
+start_stays scenario cores sound = (start_sound scenario cores sound, ((λ over. []), λ over. (refl, refl)))
 
-pub run_stays : (scenario : Scenario) (core : Core) (all : List Timed) (trace : List Traced) (new : World) → SoundScenario scenario → AllByRecursion (λ timed. IsSoundEvent scenario timed.event) all → Runs (start scenario core) 0 all trace new → WorldStays scenario new
-run_stays scenario core all trace new lines sound run = runs_stay scenario all sound (start scenario core) 0 trace new (start_stays scenario core lines) run
+pub run_stays : (scenario : Scenario) (cores : Cores) (all : List Timed) (trace : List Traced) (new : World) → SoundScenario scenario → AllByRecursion (λ timed. IsSoundEvent scenario timed.event) all → Runs (start scenario cores) 0 all trace new → WorldStays scenario new
+run_stays scenario cores all trace new lines sound run = runs_stay scenario all sound (start scenario cores) 0 trace new (start_stays scenario cores lines) run

@@ -7,25 +7,25 @@ use Rattle.core_walks.specs.Walks.{IsLinked}
 use Rattle.pim_joinprune.specs.declared.group.Group.{Group}
 use Rattle.pim_joinprune.specs.declared.message.JoinPrune.{JoinPrune}
 use Rattle.pim_joinprune.specs.declared.source.JpSource.{JpSource}
+use Rattle.pim_defs.specs.Mention.{entry_of}
 use Rattle.scenario_defs.specs.declared.event.Event.{Event}
 use Rattle.scenario_defs.specs.declared.event.Event.TheVariants as events
 use Rattle.scenario_defs.specs.declared.scenario.Scenario.{Scenario}
 use Rattle.session_defs.specs.System.{System}
 use Rattle.edge_defs.specs.Steps as steps
 use Rattle.world_defs.specs.Nodes.{Nodes}
-use Rattle.world_defs.specs.System.{NodeCall, Own, Elapse, Reset, system}
-use Rattle.world_laws.specs.Sound.{IsHost, IsGroupAddr, IsFlow, SoundEntry, SoundPattern}
+use Rattle.world_defs.specs.System.{NodeCall, Own, Elapse, Reset, Price, Follow, system}
+use Rattle.world_laws.specs.Sound.{IsFlow, SoundEntry, SoundPattern}
 
--- the groups of a Join/Prune message are multicast, and all its addresses are those of IPv4
+-- the entries that a group of a Join/Prune message names are sound
 pub record SoundGroup (group : Group) : Type 0 where
-  pub group_addr : IsGroupAddr group.group
-  pub joins : AllByRecursion (λ (source : JpSource). IsHost source.addr) group.joins
-  pub prunes : AllByRecursion (λ (source : JpSource). IsHost source.addr) group.prunes
+  pub joins : AllByRecursion (λ (source : JpSource). SoundEntry (entry_of group.group source)) group.joins
+  pub prunes : AllByRecursion (λ (source : JpSource). SoundEntry (entry_of group.group source)) group.prunes
 
 abbrev pub SoundMessage : JoinPrune → Type 0
 SoundMessage message = AllByRecursion SoundGroup message.groups
 
--- A call of a node by itself: no message of a session is taken by it, and its values are sound.
+-- A call of a node by itself: no message of a session is taken by it, and no other costs; its values are sound.
 abbrev pub IsSoundCall : steps.Call → Type 0
 IsSoundCall (steps.Update peer message) = ⊥
 IsSoundCall (steps.Label neighbour message) = ⊥
@@ -37,11 +37,18 @@ IsSoundCall (steps.Unselect vrf pattern) = Unit {0}
 IsSoundCall (steps.Raised kind peer) = Unit {0}
 IsSoundCall (steps.Noticed kind peer) = Unit {0}
 IsSoundCall steps.Timers = Unit {0}
+IsSoundCall steps.Rerouted = ⊥
+
+-- the cost of a link
+abbrev pub IsCost : ℕ → Type 0
+IsCost cost = (1 ≤ cost) × (cost ≤ 65535)
 
 abbrev pub IsSoundNodeCall : Scenario → NodeCall → Type 0
 IsSoundNodeCall scenario (Own n call) = (n.0 < length scenario.nodes) × IsSoundCall call
 IsSoundNodeCall scenario (Elapse ticks) = Unit {0}
 IsSoundNodeCall scenario (Reset n) = Unit {0}
+IsSoundNodeCall scenario (Price a b cost) = IsCost cost
+IsSoundNodeCall scenario (Follow n) = n.0 < length scenario.nodes
 
 -- A call with sound values, at a node of the scenario.
 pub record SoundCall (scenario : Scenario) : Type 0 where
@@ -60,7 +67,7 @@ pub record IsLinkPlace (scenario : Scenario) (from to : NodeId) (place : ℕ) : 
   pub linked : IsLinked scenario.links from.0 to.0 cost
   pub counted : 1 ≤ place
 
--- An event of sound values. The node whose timers are run, or whose end notices a loss, and the interface of a join or a prune are those
+-- An event of sound values. The costs of links are 1 to 65535. The node whose timers are run, or whose end notices a loss, and the interface of a join or a prune are those
 -- of the scenario; a copy hops or is dropped on a link.
 abbrev pub IsSoundEvent : Scenario → Event → Type 0
 IsSoundEvent scenario (events.Timers node) = node.0 < length scenario.nodes
@@ -72,4 +79,5 @@ IsSoundEvent scenario (events.Active iface source group) = IsFlow source group
 IsSoundEvent scenario (events.Select vrf pattern) = SoundPattern pattern
 IsSoundEvent scenario (events.Hop from to place) = IsLinkPlace scenario from to place
 IsSoundEvent scenario (events.DropCopy from to place) = IsLinkPlace scenario from to place
+IsSoundEvent scenario (events.Cost a b cost) = IsCost cost
 IsSoundEvent scenario other = Unit {0}

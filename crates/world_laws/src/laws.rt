@@ -9,16 +9,18 @@ ghost use Rattle.session_defs.specs.Message.{SessionMessage};
 ghost use Rattle.session_defs.specs.System.{Behind};
 ghost use Rattle.session_defs.specs.Octets.{OctetNetwork, OctetAct, octet_run, moved};
 ghost use Rattle.session_defs.specs.Refined.{AreLines, IsHonestWhile, Refined, MovesFirst, Ends};
-ghost use Rattle.edge_defs.specs.Place.{Core};
+ghost use Rattle.world_defs.specs.Costs.{Cores};
 ghost use Rattle.world_defs.specs.Nodes.{Nodes, start_nodes};
 ghost use Rattle.world_defs.specs.Run.{Traced, Run};
 ghost use Rattle.world_defs.specs.World.{World};
+ghost use Rattle.world_laws.specs.Costs.{KnowCosts};
+ghost use Rattle.world_laws.specs.SoundRun.{SoundRun};
 ghost use Rattle.world_laws.specs.Sound.{SoundScenario, Sound};
 ghost use Rattle.world_laws.specs.Honest.{IsSoundEvent, SoundCall, sound_system};
 
 /// The nodes of a network in which nothing has happened are sound.
 pub fn start_is_sound()
-    ensures { (scenario : Scenario) (core : Core) → SoundScenario scenario → Sound scenario (start_nodes scenario core) }
+    ensures { (scenario : Scenario) (cores : Cores) → SoundScenario scenario → Sound scenario (start_nodes scenario cores) }
 {}
 
 /// Edges and core nodes are honest: as long as they are sound, whatever they put over BGP or LDP is a spelled unit, and they stay
@@ -47,6 +49,13 @@ pub fn octets_of_the_network_carry_messages()
 /// In every run of a sound scenario, by events of sound values, the nodes stay sound, and the octets in transit over each session that
 /// is joined, behind what its receiver holds back, are whole units. So no stream of a joined session has a fault.
 pub fn runs_stay_sound()
-    ensures { (core : Core) (script : Script) (events : List Timed) (trace : List Traced) (new : World) → SoundScenario script.scenario → AllByRecursion (λ (timed : Timed). IsSoundEvent script.scenario timed.event) events →
-        Run core script events trace new → Sound script.scenario new.network.state × ((pending : Direction → List SessionMessage) × AreLines new.network pending) }
+    ensures { (cores : Cores) (script : Script) (events : List Timed) (trace : List Traced) (new : World) → SoundScenario script.scenario →
+        AllByRecursion (λ (timed : Timed). IsSoundEvent script.scenario timed.event) events → Run cores script events trace new →
+        Sound script.scenario new.network.state × ((pending : Direction → List SessionMessage) × AreLines new.network pending) }
+{}
+
+/// Behind each event of such a run every node of the scenario has acted on the present costs of the links, and knows the core by them.
+pub fn nodes_know_the_present_costs()
+    ensures { (cores : Cores) (script : Script) (events : List Timed) (trace : List Traced) (new : World) →
+        SoundRun cores script events trace new → KnowCosts script.scenario cores new.network.state }
 {}

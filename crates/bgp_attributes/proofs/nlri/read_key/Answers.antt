@@ -15,4 +15,4 @@ returns-in-Mcast-clause-offset c =
     mcast_near c.in-Mcast.afi c.args.octets.now c.read_mcast.result fits c.read_mcast.ensures
 
 pub returns-in-Some-clause-len : goal.returns-in-Some-clause-len
-returns-in-Some-clause-len c = vpn_len c.args.octets.now c.in-Some.front (sym c.read_vpn.ensures ∙ c.in-Some.is)
+returns-in-Some-clause-len c = vpn_len c.in-Vpn.afi c.args.octets.now c.in-Some.front (sym c.read_vpn.ensures ∙ c.in-Some.is)

@@ -1,4 +1,5 @@
-use Rattle.label_defs.proofs.WithdrawLemmas.{same_branches, same_leaves, same_ends}
+use Rattle.label_defs.proofs.WithdrawLemmas.{same_branches, same_leaves}
+use Rattle.label_defs.proofs.IdLemmas.{step_ends}
 use Rattle.label_defs.proofs.laws.settling_keeps.Goals as goal
 
 pub returns-clause-branches : goal.returns-clause-branches
@@ -8,4 +9,4 @@ pub returns-clause-leaves : goal.returns-clause-leaves
 returns-clause-leaves c = same_leaves
 
 pub returns-clause-ends : goal.returns-clause-ends
-returns-clause-ends c = same_ends
+returns-clause-ends c = step_ends

@@ -2,4 +2,4 @@ use Rattle.world_laws.proofs.RunEvents.{run_stays}
 use Rattle.world_laws.proofs.laws.runs_stay_sound.Goals as goal
 
 pub returns : goal.returns
-returns c core script events trace new lines sound run = run_stays script.scenario core events trace new lines sound run
+returns c cores script events trace new lines sound run = run_stays script.scenario cores events trace new lines sound run

@@ -1,0 +1,5 @@
+pub mod Members
+pub mod Flows
+pub mod Leaves
+pub mod Goes
+pub mod Quiet

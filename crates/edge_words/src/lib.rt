@@ -1,0 +1,9 @@
+//! What the definitions of an edge say, in the field's words: which flows it has, of which trees it is a leaf, where a datagram
+//! leaves and goes on, which timers are due, which number a selection gets, and what a VRF chooses.
+#![tactic(auto)]
+
+mod laws;
+
+pub use laws::{
+    arriving_goes, entering_goes, flows_are_asked, leaves_are_tunnels, none_is_due, timers_leave_none_due,
+};

@@ -1,0 +1,42 @@
+//! The labels that are mapped to trees, and the raises of sessions.
+ghost use Rattle.std.specs.Prelude.{◌≡◌, ◌<◌, ◌&&◌, ℕ, not, None, Some, if◌then◌else◌};
+ghost use Rattle.indexmap.specs.IndexMap.{get, spare};
+ghost use Rattle.mldp_fec.specs.declared.fec.Fec.{Fec};
+ghost use Rattle.mv_base.specs.declared.ids.NodeId.{NodeId};
+ghost use Rattle.label_uses.specs.Held.{is_fec, is_node};
+
+use crate::held::Held;
+use indexmap::IndexMap;
+use mldp_fec::Fec;
+use mv_base::NodeId;
+use tunnel_bindings::Incarnation;
+
+/// The label that is mapped to a tree, by FEC.
+pub(crate) type MappedTrees = IndexMap<Fec, u32>;
+
+/// Which raise of a session is the present one, by neighbour.
+pub(crate) type Sessions = IndexMap<NodeId, Incarnation>;
+
+/// Notes the label of the tree. There is room for it.
+pub(crate) fn note(mapped: &mut MappedTrees, fec: &Fec, label: u32)
+    requires { 0 < spare mapped.old }
+    ensures each { (other : Fec) → get is_fec mapped.new other ≡ (if is_fec fec.now other then Some label else get is_fec mapped.old other) }
+{
+    mapped.insert(*fec, label).unwrap();
+}
+
+/// Forgets the label of the tree.
+pub(crate) fn forget(mapped: &mut MappedTrees, fec: &Fec)
+    ensures each { (other : Fec) → get is_fec mapped.new other ≡ (if is_fec fec.now other then None else get is_fec mapped.old other) }
+{
+    mapped.swap_remove(fec);
+}
+
+/// Forgets that the label which is held so is mapped, where it is.
+pub(crate) fn forget_of(mapped: &mut MappedTrees, own: &Held)
+    ensures each { (other : Fec) → get is_fec mapped.new other ≡ (if not own.now.leaving && is_fec own.now.fec other then None else get is_fec mapped.old other) }
+{
+    if !own.leaving {
+        forget(mapped, &own.fec);
+    }
+}

@@ -1,6 +1,7 @@
 -- What is found at the greatest length that covers the source is what is chosen of all routes.
 use Rattle.std.proofs.Common.{◌≡◌, ◌<◌, ℕ, suc, ◌≤◌, ◌==◌, ◌&&◌, max, Bool, true, false, inl, inr, List, [], ◌∷◌, ◌++◌, map, filter, Option, Some, None, option_map, slice_index_or, refl, sym, ap, subst, ◌∙◌, cond, arith, eqb-true, eq-eqb}
 use Rattle.std.proofs.lemmas.Bool.{and_parts, cases_Bool, cases_lt}
+use Rattle.std.specs.BTreeMap.{is_at}
 use Rattle.std.specs.FinMap as maps
 use Rattle.std.specs.FinMap.{FinMap, from_sorted}
 use Rattle.mv_base.specs.Prefix.{covers}

@@ -53,5 +53,6 @@ pub fn routes_are_learned_no_earlier()
         selected_at (place_of network a) (network.node a) key ≡ Some selected →
         maps.get (taken_from (network.node b) a) key ≡ Some route → selected.since ≤ route.since }
     ensures over { (network : EdgeNetwork) (a b : NodeId) (key : Key) (route : TakenRoute) → Rule network → a ≢ b →
-        maps.get (taken_from (network.node b) a) key ≡ Some route → route.run ≡ true → route.since + network.scenario.delay ≤ network.clock }
+        maps.get (taken_from (network.node b) a) key ≡ Some route → route.run ≡ true →
+        route.since + network.scenario.delay ≤ network.clock }
 {}

@@ -9,9 +9,7 @@ use Rattle.mv_base.specs.Address.{same_addr, same_addr_equiv}
 use Rattle.mv_base.specs.Number.{◌>>?◌, only_if}
 use Rattle.mv_base.specs.declared.addr.Addr.{Addr}
 use Rattle.mv_base.specs.declared.ids.IfaceId.{IfaceId}
-use Rattle.mv_base.specs.declared.ids.NodeId.{NodeId}
 use Rattle.mv_base.specs.declared.ids.VrfId.{VrfId}
-use Rattle.bgp_attributes.specs.declared.key.Key.{Key}
 use Rattle.pim_defs.specs.Entries.{expiry_at}
 use Rattle.pim_defs.specs.Expiry.{counts}
 use Rattle.pim_defs.specs.declared.expiry.Expiry.{Expiry}
@@ -20,7 +18,7 @@ use Rattle.scenario_defs.specs.declared.event.IfaceEntry.{IfaceEntry}
 use Rattle.scenario_defs.specs.declared.event.JoinEntry.TheVariants as entries
 use Rattle.label_defs.specs.Members.{in_order}
 use Rattle.selective_defs.specs.Selective.{Among}
-use Rattle.edge_defs.specs.Edge.{Note, VrfFlow, flow_cmp, Upstream, TakenRoute, Taken, Control}
+use Rattle.edge_defs.specs.Edge.{Note, VrfFlow, Upstream, Control}
 use Rattle.edge_defs.specs.Flows.{noted_flow, active_from, active_flows, same_flow, is_active, is_asking, ifaces_of, is_flow, joined_by, possible_flows, with_upstream, vrf_flows, flows_at}
 use Rattle.edge_defs.specs.Imported.{FlowRoute, found_in, active_of, is_admitted, imported_active}
 use Rattle.edge_defs.specs.Originated.{is_iface_of, notes_of}
@@ -31,7 +29,7 @@ use Rattle.calm_laws.proofs.Lists.{passes, among_front, among_behind, among_eith
 use Rattle.calm_laws.proofs.Maps.{some_found, found_stands, get_entry}
 use Rattle.calm_laws.proofs.Upstreams.{chained}
 use Rattle.calm_laws.proofs.Vrfs.{one_number}
-use Rattle.edge_words.specs.Asked.{IsIfaceOf, IsNoted, IsTold, IsKnown, Stands, Asks, IsAsked}
+use Rattle.edge_words.specs.Asked.{IsIfaceOf, IsNoted, IsTold, IsKnown, Asks, IsAsked}
 use Rattle.edge_words.proofs.Members.{listed, contained, taken_of, table_of, iface_of, of_iface, ifaces_from, ifaces_to, one_flow}
 
 abbrev flow : Addr → Addr → FlowRoute

@@ -1,8 +1,8 @@
 -- Which timers are due, and that a run of the timers leaves none due.
 use Rattle.std.specs.Prelude.{count_by, sum_by}
-use Rattle.std.proofs.Common.{◌≡◌, ◌↔◌, ℕ, zero, suc, ◌+◌, ◌<◌, ◌≤◌, ◌&&◌, ◌||◌, nat_le, nat_lt, Bool, true, false, cond, not, ◌⊎◌, inl, inr, List, [], ◌∷◌, map, slice_get, Option, Some, None, is_some, option_map, refl, sym, ap, subst, ◌∙◌, arith}
+use Rattle.std.proofs.Common.{◌≡◌, ◌↔◌, ℕ, zero, suc, ◌+◌, ◌<◌, ◌&&◌, ◌||◌, nat_le, Bool, true, false, cond, not, ◌⊎◌, inl, inr, List, [], ◌∷◌, map, slice_get, Option, Some, None, is_some, option_map, refl, sym, ap, subst, ◌∙◌, arith}
 use Rattle.std.specs.FinMap as maps
-use Rattle.std.specs.FinMap.{FinMap, IsAntisymmetric, find, get-entries, get-from_entries}
+use Rattle.std.specs.FinMap.{FinMap, IsAntisymmetric, get-entries, get-from_entries}
 use Rattle.std.specs.declared.cmp.Ordering.{Ordering}
 use Rattle.std.specs.Cmp.{IsTotalOrder}
 use Rattle.std.proofs.lemmas.Bool.Decides.{nat_tests}
@@ -10,12 +10,10 @@ use Rattle.std.proofs.lemmas.List.Sums.{sum_by-cons}
 use Rattle.mv_base.specs.declared.ids.NodeId.{NodeId}
 use Rattle.bgp_attributes.specs.declared.key.Key.{Key}
 use Rattle.pim_defs.specs.Entries as entries
-use Rattle.pim_defs.specs.Expiry.{is_after, counts, remaining}
+use Rattle.pim_defs.specs.Expiry.{is_after, remaining}
 use Rattle.pim_defs.specs.declared.expiry.Expiry.{Expiry}
 use Rattle.pim_defs.proofs.EntriesLemmas.{get-kept}
 use Rattle.pim_defs.proofs.KeyLemmas.{entry_cmp_total, entry_cmp_exact}
-use Rattle.scenario_defs.specs.declared.event.IfaceEntry.{IfaceEntry}
-use Rattle.label_defs.specs.Keys.{node_cmp}
 use Rattle.label_defs.specs.LabelData as labels
 use Rattle.label_defs.specs.LabelData.{LabelData, is_rested, is_hold_due}
 use Rattle.label_defs.specs.Steps as label_steps
@@ -27,10 +25,10 @@ use Rattle.label_defs.proofs.KeyLemmas.{node_cmp_total, node_cmp_exact}
 use Rattle.label_defs.proofs.MemberLemmas.{count-cons}
 use Rattle.selective_defs.specs.Selective.{Among}
 use Rattle.edge_defs.specs.Due.{is_selection_due, due_delays, due_from, due}
-use Rattle.edge_defs.specs.Edge.{VrfPattern, pattern_cmp, Selected, TakenRoute, Taken, Control, EdgeData}
+use Rattle.edge_defs.specs.Edge.{Selected, TakenRoute, Taken, EdgeData}
 use Rattle.edge_defs.specs.Imported.{ImportedSelective, taken_from, imported_selective}
 use Rattle.edge_defs.specs.Place.{EdgePlace, OwnVrf, addr_of, own_vrfs, label_place}
-use Rattle.edge_defs.specs.Steps.{selection_run, selections_run, is_imported, timed}
+use Rattle.edge_defs.specs.Steps.{selection_run, is_imported, timed}
 use Rattle.edge_defs.proofs.KeyLemmas.{pattern_total, pattern_exact}
 use Rattle.edge_laws.proofs.Taken.{run_at, table_in, get-peers_run, run_taken}
 use Rattle.calm_laws.proofs.Lists.{among_map, map_among, any_from}

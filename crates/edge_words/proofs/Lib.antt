@@ -3,3 +3,5 @@ pub mod Flows
 pub mod Leaves
 pub mod Goes
 pub mod Quiet
+pub mod Numbers
+pub mod Known

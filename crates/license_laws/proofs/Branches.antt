@@ -92,6 +92,7 @@ effect_fewer place now part (labels.Unwant f) from fec label ne h = h
 effect_fewer place now part (labels.Raised peer) from fec label ne h = h
 effect_fewer place now part (labels.Noticed peer) from fec label ne h = (and_parts (has part from fec label) (not (from.0 == peer.0)) (sym (retained branch_cmp_total branch_cmp_exact part.branches (λ branch. not (branch.node.0 == peer.0)) (branch_to from fec label)) ∙ h)).0
 effect_fewer place now part labels.Timers from fec label ne h = h
+effect_fewer place now part labels.Rerouted from fec label ne h = h
 
 step_fewer : (place : Place) (now : ℕ) (part : LabelData) (call : labels.Call) (new : settling.Stepped) (from : NodeId) (fec : Fec) (label : ℕ) → NotFrom from call → label_step place now part call ≡ Some new → has new.part from fec label ≡ true → has part from fec label ≡ true
 step_fewer place now part call new from fec label ne e h = effect_fewer place now part call from fec label ne (ap (λ (s : sets.FinSet branch_cmp). sets.contains s (branch_to from fec label)) (sym (same_branches place now part call new e)) ∙ h)

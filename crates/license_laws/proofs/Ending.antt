@@ -1,6 +1,6 @@
 -- In each run an end of a session over LDP is up exactly where the trace says so.
 use Rattle.std.specs.Prelude.{Result, Ok, Err}
-use Rattle.std.proofs.Common.{◌≡◌, ◌==◌, ◌&&◌, ◌||◌, ℕ, Bool, true, false, cond, is_some, List, [], ◌∷◌, ◌++◌, Option, Some, None, refl, sym, ap, subst, ◌∙◌}
+use Rattle.std.proofs.Common.{◌≡◌, ◌==◌, ◌&&◌, ◌||◌, ℕ, Bool, true, false, cond, is_some, option_map, List, [], ◌∷◌, ◌++◌, Option, Some, None, refl, sym, ap, subst, ◌∙◌}
 use Rattle.std.specs.FinMap as maps
 use Rattle.std.proofs.lemmas.List.{append_assoc}
 use Rattle.mv_base.specs.declared.ids.NodeId.{NodeId}
@@ -8,12 +8,13 @@ use Rattle.scenario_defs.specs.declared.event.Kind.{Kind}
 use Rattle.scenario_defs.specs.declared.event.Kind.TheVariants as kinds
 use Rattle.scenario_defs.specs.declared.scenario.Scenario.{Scenario}
 use Rattle.label_defs.specs.declared.end.End.{End}
+use Rattle.mvpn_model.specs.declared.readiness.UpEnd.{UpEnd}
 use Rattle.world_defs.specs.Costs.{Cores}
 use Rattle.edge_defs.specs.Steps as steps
 use Rattle.mvpn_model.specs.Unready.{SessionsStand}
 use Rattle.ready_laws.proofs.ActsStand as stand
 use Rattle.ready_laws.proofs.ActsStand.{WorldStands, act_stand, act_gives}
-use Rattle.ready_laws.proofs.Ends.{end_run}
+use Rattle.ready_laws.proofs.Ends.{end_run, up_in, up_end}
 use Rattle.ready_laws.proofs.Nodes.{call_stand, fresh_end}
 use Rattle.scenario_defs.specs.Kinds.{same_kind}
 use Rattle.world_defs.specs.Acts.{Act, Tick, Timers, Move, Lose, Notice, RaiseFirst, RaiseSecond, Restart, At, Enter, Land, Drop, Tell, SetCost, Reroute, Acted, act}
@@ -30,23 +31,31 @@ use Rattle.license_laws.proofs.Follows.{Keeps, stepped}
 use Rattle.license_laws.proofs.Heard.{up_next}
 
 -- the end of a node's session over LDP
-abbrev pub end_at : World → NodeId → NodeId → Option End
-end_at world n peer = maps.get (part_of (world.network.state.node n)).ends peer
+abbrev end_at : World → NodeId → NodeId → Option UpEnd
+end_at world n peer = up_in (part_of (world.network.state.node n)).ends peer
 
 abbrev pub Ending : List Traced → World → Type 0
 Ending trace world = (n peer : NodeId) → is_up_in kinds.Ldp n peer trace ≡ is_some (end_at world n peer)
 
+up_some : (o : Option End) → is_some (option_map up_end o) ≡ is_some o
+up_some None = refl
+up_some (Some end) = refl
+
+-- an end is up where the trace says so
+pub ends_as : (trace : List Traced) (world : World) → Ending trace world → (n peer : NodeId) → is_up_in kinds.Ldp n peer trace ≡ is_some (maps.get (part_of (world.network.state.node n)).ends peer)
+ends_as trace world e n peer = e n peer ∙ up_some (maps.get (part_of (world.network.state.node n)).ends peer)
+
 -- ---- one act
 
-same_both : (t : Bool) (o p : Option End) → is_some p ≡ is_some o → is_some o ≡ is_some (cond t p o)
+same_both : (t : Bool) (o p : Option UpEnd) → is_some p ≡ is_some o → is_some o ≡ is_some (cond t p o)
 same_both true o p e = sym e
 same_both false o p e = refl
 
-run_some : (life now : ℕ) (o : Option End) → is_some (end_run life now o) ≡ is_some o
+run_some : (life now : ℕ) (o : Option UpEnd) → is_some (end_run life now o) ≡ is_some o
 run_some life now None = refl
 run_some life now (Some end) = refl
 
-raises_end : (s t : Bool) (o : Option End) (new : End) → (is_some o || (s && t)) ≡ is_some (cond s (cond t (Some new) o) o)
+raises_end : (s t : Bool) (o : Option UpEnd) (new : UpEnd) → (is_some o || (s && t)) ≡ is_some (cond s (cond t (Some new) o) o)
 raises_end true true None new = refl
 raises_end true true (Some end) new = refl
 raises_end true false None new = refl
@@ -54,19 +63,19 @@ raises_end true false (Some end) new = refl
 raises_end false t None new = refl
 raises_end false t (Some end) new = refl
 
-downs_end : (s t : Bool) (o : Option End) → cond (s && t) false (is_some o) ≡ is_some (cond s (cond t None o) o)
+downs_end : (s t : Bool) (o : Option UpEnd) → cond (s && t) false (is_some o) ≡ is_some (cond s (cond t None o) o)
 downs_end true true o = refl
 downs_end true false o = refl
 downs_end false t o = refl
 
-resets_end : (s : Bool) (o : Option End) → cond s false (is_some o) ≡ is_some (cond s None o)
+resets_end : (s : Bool) (o : Option UpEnd) → cond s false (is_some o) ≡ is_some (cond s None o)
 resets_end true o = refl
 resets_end false o = refl
 
 raise_end : (kind : Kind) (a b n peer : NodeId) (scenario : Scenario) (old : SessionsStand) → (is_some (old.end kinds.Ldp n peer) || (same_kind kinds.Ldp kind && (a.0 == n.0) && (b.0 == peer.0))) ≡ is_some ((call_stand scenario a (steps.Raised kind b) old).end kinds.Ldp n peer)
 raise_end kinds.Bgp a b n peer scenario old = by (n.0 == a.0) (old.end kinds.Ldp n peer)
   where
-    by : (s : Bool) (o : Option End) → (is_some o || false) ≡ is_some (cond s o o)
+    by : (s : Bool) (o : Option UpEnd) → (is_some o || false) ≡ is_some (cond s o o)
     by true None = refl
     by true (Some end) = refl
     by false None = refl

@@ -160,7 +160,7 @@ module _ (scenario : Scenario) (trace : List Traced) (world : World) (s : InStep
           let Fits : Branch → Type 0 = λ branch. MayEnter (scenario_of world) trace id datagram vrf.edge branch.node branch.label in
           let number : ℕ = length world.datagrams in
           let fate : Fate = entering_fate place (clock_of world) edge own datagram.site datagram.source datagram.group in
-          let fits : AllByRecursion Fits fate.branches = entered (is_from_site datagram.site (upstream_for place edge.control own datagram.source)) (is_joined_in place edge.control own datagram.source datagram.group) refl in
+          let fits : AllByRecursion Fits fate.branches = entered (is_from_site datagram.site (upstream_for place edge.control own datagram.source datagram.group)) (is_joined_in place edge.control own datagram.source datagram.group) refl in
           each_append (EntersBy (scenario_of world) trace world.datagrams id) (map (λ iface. lines.Out number iface datagram.octets) fate.outs) (map (hop_line vrf.edge 255 number) fate.branches)
           (each_map (EntersBy (scenario_of world) trace world.datagrams id) (λ iface. lines.Out number iface datagram.octets) fate.outs (each_of (λ (iface : IfaceId). Unit {0}) (λ iface. tt) fate.outs))
           (each_map (EntersBy (scenario_of world) trace world.datagrams id) (hop_line vrf.edge 255 number) fate.branches (each_weaker Fits (λ branch. EntersBy (scenario_of world) trace world.datagrams id (hop_line vrf.edge 255 number branch)) (λ branch h. (datagram, sent, h)) fate.branches fits))

@@ -148,7 +148,7 @@ module _ (trace : List Traced) (world : World) (all : Branched trace world) wher
           let place : EdgePlace = place_of world.network.state vrf.edge in
           fated_hops world vrf.edge 255 (length world.datagrams) datagram.octets [] (entering_fate place (clock_of world) edge own datagram.site datagram.source datagram.group) tt
           (subst (λ (s : NodeState). AllByRecursion (IsBranch (part_of s)) (entering_fate place (clock_of world) edge own datagram.site datagram.source datagram.group).branches) (sym is)
-          (entered (is_from_site datagram.site (upstream_for place edge.control own datagram.source)) (is_joined_in place edge.control own datagram.source datagram.group)))
+          (entered (is_from_site datagram.site (upstream_for place edge.control own datagram.source datagram.group)) (is_joined_in place edge.control own datagram.source datagram.group)))
         where
           entered : (t j : Bool) → AllByRecursion (IsBranch edge.part) (cond {A = Fate} t (record {
             outs = filter (is_outside (scenario_of world) datagram.site) (asking_ifaces (place_of world.network.state vrf.edge) (clock_of world) edge.control (record { id = id; vrf = vrf }) datagram.source datagram.group);

@@ -61,7 +61,7 @@ use Rattle.label_laws.specs.Rule.{is_held, end_of}
 use Rattle.rule_laws.proofs.Acts.{IsFit}
 use Rattle.rule_laws.proofs.Outs.{mapped_towards, said_of}
 use Rattle.license_laws.specs.Lands.{LandMay, LandsMay}
-use Rattle.license_laws.proofs.Ending.{Ending}
+use Rattle.license_laws.proofs.Ending.{Ending, ends_as}
 use Rattle.license_laws.proofs.Heard.{nothing_waits}
 use Rattle.license_laws.proofs.Said.{Said}
 use Rattle.license_laws.proofs.Also.{KeepsAlso, each_next, refused_step}
@@ -164,13 +164,13 @@ module _ (trace : List Traced) (world : World) (branched : Branched trace world)
 
       from_peer : (own : OwnVrf) → Among own (own_vrfs (place_of world.network.state n)) → (peer : NodeId × Taken) → Among peer (maps.entries edge.control.peers)
           → AllByRecursion (λ iface. MayDeliver (scenario_of world) trace n fec iface) (outs_from (place_of world.network.state n) now edge.control own fec source group peer)
-      from_peer own a peer b = at (is_imported_from (place_of world.network.state n) own fec peer && is_from_edge peer.0 (upstream_for (place_of world.network.state n) edge.control own source)) refl
+      from_peer own a peer b = at (is_imported_from (place_of world.network.state n) own fec peer && is_from_edge peer.0 (upstream_for (place_of world.network.state n) edge.control own source group)) refl
         where
-          at : (c : Bool) → (is_imported_from (place_of world.network.state n) own fec peer && is_from_edge peer.0 (upstream_for (place_of world.network.state n) edge.control own source)) ≡ c
+          at : (c : Bool) → (is_imported_from (place_of world.network.state n) own fec peer && is_from_edge peer.0 (upstream_for (place_of world.network.state n) edge.control own source group)) ≡ c
               → AllByRecursion (λ iface. MayDeliver (scenario_of world) trace n fec iface) (cond c (asking_ifaces (place_of world.network.state n) now edge.control own source group) [])
           at false e = tt
           at true e =
-              let imported = (and_parts (is_imported_from place own fec peer) (is_from_edge peer.0 (upstream_for place edge.control own source)) e).0 in
+              let imported = (and_parts (is_imported_from place own fec peer) (is_from_edge peer.0 (upstream_for place edge.control own source group)) e).0 in
               let entry = any_among (is_route_of place own peer.0 fec) (maps.entries peer.1) imported in
               let table : taken_from edge.control peer.0 ≡ peer.1 = peer_table edge.control peer.0 peer.1 b in
               let held : maps.get (taken_from edge.control peer.0) entry.0.0 ≡ Some entry.0.1 = ap (λ (m : Taken). maps.get m entry.0.0) table ∙ entry_get key_total peer.1 entry.0.0 entry.0.1 entry.1 in
@@ -308,7 +308,7 @@ knows_label : (scenario : Scenario) (trace : List Traced) (world : World) → In
     → (is_up_in kinds.Ldp b a trace ≡ true) × HasLabel (put_since kinds.Ldp b a trace) fec label
 knows_label scenario trace world s branched tabling ending said a b ne label fec e =
     let held = ((s.2.kept []).rule.view a b label ne).owner fec (inl e) in
-    let up : is_up_in kinds.Ldp b a trace ≡ true = ending b a ∙ held_some (end_of (part_at world b) a) held in
+    let up : is_up_in kinds.Ldp b a trace ≡ true = ends_as trace world ending b a ∙ held_some (end_of (part_at world b) a) held in
     let x = said b a up in
     (up, has_label (put_since kinds.Ldp b a trace) x.units [] fec label x.each (x.parts ∙ sym (append-nil (octets_of x.units))) (nothing_waits kinds.Ldp) (x.says.mapped fec label e))
   where

@@ -126,7 +126,7 @@ module _ (place : Place) (now : ℕ) (start : LabelData) (call : Call) (to : Nod
       Goal : Fec → ℕ → List Put → Type 0
       Goal own label more = IsMapped (before ++ told_to (has_end (effect place now start call).0.part.ends to) to (puts ++ more)) own label
 
-      by : (own : Fec) (label : ℕ) → use_of next label ≡ Some (uses.Mapped own to) → Quiet place old fec next more ⊎ (Takes place old fec next more ⊎ Gives old fec next more) → IsMapped (before ++ told_to (has_end (effect place now start call).0.part.ends to) to (puts ++ more)) own label
+      by : (own : Fec) (label : ℕ) → use_of next label ≡ Some (uses.Mapped own to) → Quiet place old fec next more ⊎ (Takes place old fec next more ⊎ Gives place old fec next more) → IsMapped (before ++ told_to (has_end (effect place now start call).0.part.ends to) to (puts ++ more)) own label
       by own label e (inl q) =
           subst (λ (ps : List Put). IsMapped (before ++ told_to (has_end (effect place now start call).0.part.ends to) to ps) own label) (sym (ap (λ (ps : List Put). puts ++ ps) q.silent ∙ append-nil puts))
           (s.mapped own label (sym (ap (λ (ls : List LabelUse). used ls label) q.labels) ∙ e))

@@ -11,9 +11,11 @@ ghost use Rattle.scenario_defs.specs.declared.scenario.Vrf.{Vrf};
 ghost use Rattle.mvpn_model.specs.Once.{Once};
 ghost use Rattle.mvpn_model.specs.Report.{Entry, refused_lines};
 ghost use Rattle.mvpn_model.specs.Safe.{Safe};
-ghost use Rattle.edge_defs.specs.Place.{addr_of};
+ghost use Rattle.edge_defs.specs.Place.{OwnVrf, addr_of};
 ghost use Rattle.world_defs.specs.Costs.{Cores};
+ghost use Rattle.edge_defs.specs.Edge.{EdgeData};
 ghost use Rattle.world_defs.specs.Counts.{state_line};
+ghost use Rattle.world_defs.specs.Nodes.{Edge, place_of};
 ghost use Rattle.world_defs.specs.Run.{Traced, Run, report_of};
 ghost use Rattle.world_defs.specs.World.{World, Datagram, scenario_of};
 ghost use Rattle.world_laws.specs.SoundRun.{SoundRun};
@@ -22,6 +24,7 @@ ghost use Rattle.delivery_laws.specs.Calm.{CalmTree};
 ghost use Rattle.delivery_laws.specs.Choice.{CalmChoice, sends_on};
 ghost use Rattle.delivery_laws.specs.Labels.{CalmLabels};
 ghost use Rattle.delivery_laws.specs.Once.{past_of, receives_datagram};
+ghost use Rattle.once_laws.specs.Chooses.{ChoosesByTheRule};
 ghost use Rattle.once_laws.specs.Run.{CalmRun};
 ghost use Rattle.once_laws.specs.Told.{AsksAreTold, NotesAreTold, EntriesAreTold};
 ghost use Rattle.once_laws.specs.Zeros.{Zeros};
@@ -77,6 +80,14 @@ pub fn choices_are_calm()
     ensures { (cores : Cores) (script : Script) (events : List Timed) (trace : List Traced) (world : World) →
         CalmRun cores script events trace world → (datagram : Datagram) →
         CalmChoice world.network (receives_datagram (past_of script.scenario events trace) datagram) datagram }
+{}
+
+/// Behind every run of a sound scenario, by its cores and by sound events, each VRF of an edge chooses by its rule over all routes that
+/// the edge knows.
+pub fn each_choice_is_by_the_rule()
+    ensures { (cores : Cores) (script : Script) (events : List Timed) (trace : List Traced) (world : World) →
+        SoundRun cores script events trace world → (n : NodeId) (edge : EdgeData) → world.network.state.node n ≡ Edge edge →
+        (own : OwnVrf) → ChoosesByTheRule (place_of world.network.state n) edge.control own }
 {}
 
 /// In every run of a sound scenario, by its cores and by sound events: each datagram that is accepted in a window leaves once at each

@@ -45,7 +45,7 @@ module _ (place : EdgePlace) (control : Control) (own : OwnVrf) where
       let by = map_among noted_flow (flow source group) (notes_of place control own.id) a in
       let test = filter_among (λ (note : Note). is_iface_of place.scenario own.id note.iface) by.0 (in_order control.notes) by.1 in
       let same : by.0 ≡ record { iface = by.0.iface; source = source; group = group } =
-        λ i. record { iface = by.0.iface; source = (sym by.2 i).source; group = (sym by.2 i).group } in
+      λ i. record { iface = by.0.iface; source = (sym by.2 i).source; group = (sym by.2 i).group } in
       record {
         iface = by.0.iface;
         of_vrf = iface_of place.scenario own.id by.0.iface test.1;
@@ -191,11 +191,11 @@ module _ (place : EdgePlace) (now : ℕ) (control : Control) where
       let route : FlowRoute = flow key.source key.group in
       let entry : VrfFlow × Option Upstream = with_upstream place control is.own route in
       let test : is_flow place now control is.own route ≡ true =
-        any_from (is_asking place now control is.own key.source key.group) is.iface (ifaces_of place is.own) (ifaces_to place.scenario is.own.id is.iface is.of_vrf)
-        (is_asks place now control is.own key.source key.group is.iface is.asks) in
+      any_from (is_asking place now control is.own key.source key.group) is.iface (ifaces_of place is.own) (ifaces_to place.scenario is.own.id is.iface is.of_vrf)
+      (is_asks place now control is.own key.source key.group is.iface is.asks) in
       let listed = among_flat_map (vrf_flows place now control) is.own entry (own_vrfs place) is.of_edge
-        (among_map (with_upstream place control is.own) route (filter (is_flow place now control is.own) (possible_flows place control is.own))
-        (among_filter (is_flow place now control is.own) route (possible_flows place control is.own) test (possible is.own key.source key.group is.iface is.of_vrf is.asks))) in
+      (among_map (with_upstream place control is.own) route (filter (is_flow place now control is.own) (possible_flows place control is.own))
+      (among_filter (is_flow place now control is.own) route (possible_flows place control is.own) test (possible is.own key.source key.group is.iface is.of_vrf is.asks))) in
       let keys : entry.0 ≡ key = λ i. record { vrf = is.of_flow i; source = key.source; group = key.group } in
       let found = some_found flow_total key entry.1 all (subst (λ (k : VrfFlow). Among (k, entry.1) all) keys listed) in
       (found.0, maps.get-from_entries flow_total all key ∙ found.1)

@@ -4,4 +4,7 @@
 
 mod laws;
 
-pub use laws::{arriving_goes, entering_goes, flows_are_asked, leaves_are_tunnels};
+pub use laws::{
+    arriving_goes, choices_are_by_the_rule, entering_goes, flows_are_asked, leaves_are_tunnels,
+    none_is_due, numbers_are_free, timers_leave_none_due,
+};

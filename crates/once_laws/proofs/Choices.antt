@@ -103,7 +103,7 @@ nearer cost own other site edge address rd e here there =
     (λ i. is_lt (ordering_then (sym is i) (choice.origin_cmp cost (here i) (there i))))
 
 -- a VRF where a site is attached is of its VPN
-attached_of : (scenario : Scenario) (id : VrfId) (vrf : VrfId) (site : SiteId) → same_vpn scenario vrf id ≡ true → is_attached_at scenario id site ≡ true → is_attached scenario vrf site ≡ true
+pub attached_of : (scenario : Scenario) (id : VrfId) (vrf : VrfId) (site : SiteId) → same_vpn scenario vrf id ≡ true → is_attached_at scenario id site ≡ true → is_attached scenario vrf site ≡ true
 attached_of scenario id vrf site vpn h =
     let f = any_among (λ (iface : Iface). is_of_site site iface && is_of_vrf id iface) scenario.ifaces h in
     let p = and_parts (is_of_site site f.0) (is_of_vrf id f.0) f.2 in

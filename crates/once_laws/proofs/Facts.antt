@@ -330,5 +330,5 @@ pub run_facts : (scenario : Scenario) (cores : Cores) (all : List Timed) (trace 
     → NodesFact scenario new.network.state × ((over : Direction) → Rests over.kind (new.network.stream over))
 run_facts scenario cores all trace new run =
     let c = runs_hold (Facts scenario) (FitEnd scenario) (fit scenario) (MayBe scenario) (free scenario) (step scenario) all (events_may scenario all) (start scenario cores) 0 trace new
-    (record { nodes = record { same = refl; node = λ n. fresh_fact (record { scenario = scenario; cores = cores; me = n }) 0 scenario n }; rests = λ over. unfed_rests over.kind }) run in
+    (record { nodes = record { same = refl; node = λ n. fresh_fact (place_of (start_nodes scenario cores) n) 0 scenario n }; rests = λ over. unfed_rests over.kind }) run in
     (c.nodes, c.rests)

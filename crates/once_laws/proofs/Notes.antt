@@ -42,10 +42,10 @@ use Rattle.edge_defs.specs.Steps.{EdgeStepped, edge_step, own_label_call, contro
 use Rattle.edge_defs.proofs.KeyLemmas.{note_total, note_exact}
 use Rattle.world_defs.specs.Acts.{At}
 use Rattle.world_defs.specs.Events.{Happened, Done, row, one_act, at_edge, done}
-use Rattle.world_defs.specs.Nodes.{NodeState, Edge, CoreNode, Nodes, is_edge, fresh_node, with_node, place_of, label_place_of}
+use Rattle.world_defs.specs.Nodes.{NodeState, Edge, CoreNode, Nodes, is_edge, fresh_node, with_node, place_of, label_place_of, following}
 use Rattle.world_defs.specs.Refusals.{control_of, refusal}
 use Rattle.world_defs.specs.Run.{Traced, Runs, outcome, report_of}
-use Rattle.world_defs.specs.System.{NodeCall, Own, Elapse, Reset, node_called, core_called, nodes_called}
+use Rattle.world_defs.specs.System.{NodeCall, Own, Elapse, Reset, Price, Follow, node_called, core_called, nodes_called}
 use Rattle.world_defs.specs.World.{World, start, scenario_of}
 use Rattle.delivery_laws.proofs.Accepted.{TellsAccepted, accepts, tells_accepted}
 use Rattle.delivery_laws.proofs.Outcomes.{Leads, then_leads, one_leads, leads_as}
@@ -80,6 +80,8 @@ MayStand (Own n (steps.Idle iface source group)) = ⊥
 MayStand (Own n call) = ⊤
 MayStand (Elapse ticks) = ⊤
 MayStand (Reset n) = ⊥
+MayStand (Price a b cost) = ⊤
+MayStand (Follow n) = ⊤
 
 update_notes : (now : ℕ) (peer : NodeId) (message : Message) (old : Control) → (steps.with_update now peer message old).notes ≡ old.notes
 update_notes now peer message old = by (maps.get old.peers peer)
@@ -101,6 +103,7 @@ step_notes place now n old (steps.Raised kinds.Ldp peer) w = refl
 step_notes place now n old (steps.Noticed kinds.Bgp peer) w = refl
 step_notes place now n old (steps.Noticed kinds.Ldp peer) w = refl
 step_notes place now n old steps.Timers w = refl
+step_notes place now n old steps.Rerouted w = refl
 
 -- one node becomes another, which has the notes that are told
 one_stands : (scenario : Scenario) (old noted : Noted) (nodes : Nodes) (at : NodeId) (new : NodeState) → NotesStand scenario old nodes → (IsEdgeNode (nodes.node at) → IsEdgeNode new)
@@ -141,6 +144,8 @@ step : (scenario : Scenario) (noted : Noted) (nodes : Nodes) (call : NodeCall) �
 step scenario noted nodes (Own n call) w s = called_stands scenario noted nodes n call w s
 step scenario noted nodes (Elapse ticks) w s = record { same = s.same; kinds = s.kinds; notes = s.notes }
 step scenario noted nodes (Reset n) w s = absurd w
+step scenario noted nodes (Price a b cost) w s = record { same = s.same; kinds = s.kinds; notes = s.notes }
+step scenario noted nodes (Follow n) w s = called_stands scenario noted (following nodes n) n steps.Rerouted tt (record { same = s.same; kinds = s.kinds; notes = s.notes })
 
 may_free : (n : NodeId) (call : steps.Call) → IsOfSession Free n call → MayStand (Own n call)
 may_free n (steps.Active iface source group) h = absurd h
@@ -291,6 +296,7 @@ event_stands scenario rules noted world s r (events.Join iface entry) = other_ev
 event_stands scenario rules noted world s r (events.Prune iface entry) = other_event scenario noted world (events.Prune iface entry) (λ n at message. tt) s r
 event_stands scenario rules noted world s r (events.Pim iface bytes) = other_event scenario noted world (events.Pim iface bytes) (λ n at message. tt) s r
 event_stands scenario rules noted world s r (events.Select vrf pattern) = other_event scenario noted world (events.Select vrf pattern) (λ n. tt) s r
+event_stands scenario rules noted world s r (events.Cost a b cost) = other_event scenario noted world (events.Cost a b cost) (tt, λ n. tt) s r
 event_stands scenario rules noted world s r (events.Unselect vrf pattern) = other_event scenario noted world (events.Unselect vrf pattern) (λ n. tt) s r
 event_stands scenario rules noted world s r other = other_event scenario noted world other tt s r
 

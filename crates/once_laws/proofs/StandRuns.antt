@@ -107,6 +107,7 @@ any_may (events.Active iface source group) = λ n. tt
 any_may (events.Idle iface source group) = λ n. tt
 any_may (events.Select vrf pattern) = λ n. tt
 any_may (events.Unselect vrf pattern) = λ n. tt
+any_may (events.Cost a b cost) = (tt, λ n. tt)
 any_may other = tt
 
 pub rests_hold : (world : World) (event : Event) → AllRest world.network → Leads Any (λ new. AllRest new.network) (done world event)
@@ -282,6 +283,8 @@ event_stands scenario rules c told world s r events.Settle = no_ticks scenario c
 event_stands scenario rules c told world s r (events.Active iface source group) = no_ticks scenario c told told world (events.Active iface source group) (λ i a. refl) (quiet_event scenario c told world (events.Active iface source group) (λ n. tt) s r)
 event_stands scenario rules c told world s r (events.Idle iface source group) = no_ticks scenario c told told world (events.Idle iface source group) (λ i a. refl) (quiet_event scenario c told world (events.Idle iface source group) (λ n. tt) s r)
 event_stands scenario rules c told world s r (events.Select vrf pattern) = no_ticks scenario c told told world (events.Select vrf pattern) (λ i a. refl) (quiet_event scenario c told world (events.Select vrf pattern) (λ n. tt) s r)
+event_stands scenario rules c told world s r (events.Cost a b cost) =
+    no_ticks scenario c told told world (events.Cost a b cost) (λ i a. refl) (quiet_event scenario c told world (events.Cost a b cost) (tt, λ n. tt) s r)
 event_stands scenario rules c told world s r (events.Unselect vrf pattern) = no_ticks scenario c told told world (events.Unselect vrf pattern) (λ i a. refl) (quiet_event scenario c told world (events.Unselect vrf pattern) (λ n. tt) s r)
 event_stands scenario rules c told world s r (events.Move kind from to count) = no_ticks scenario c told told world (events.Move kind from to count) (λ i a. refl) (quiet_event scenario c told world (events.Move kind from to count) tt s r)
 event_stands scenario rules c told world s r (events.Lose kind a b) = no_ticks scenario c told told world (events.Lose kind a b) (λ i x. refl) (quiet_event scenario c told world (events.Lose kind a b) tt s r)

@@ -11,9 +11,11 @@ ghost use Rattle.scenario_defs.specs.declared.scenario.Vrf.{Vrf};
 ghost use Rattle.mvpn_model.specs.Once.{Once};
 ghost use Rattle.mvpn_model.specs.Report.{Entry, refused_lines};
 ghost use Rattle.mvpn_model.specs.Safe.{Safe};
-ghost use Rattle.edge_defs.specs.Place.{addr_of};
+ghost use Rattle.edge_defs.specs.Place.{OwnVrf, addr_of};
 ghost use Rattle.world_defs.specs.Costs.{Cores};
+ghost use Rattle.edge_defs.specs.Edge.{EdgeData};
 ghost use Rattle.world_defs.specs.Counts.{state_line};
+ghost use Rattle.world_defs.specs.Nodes.{Edge, place_of};
 ghost use Rattle.world_defs.specs.Run.{Traced, Run, report_of};
 ghost use Rattle.world_defs.specs.World.{World, Datagram, scenario_of};
 ghost use Rattle.world_laws.specs.SoundRun.{SoundRun};
@@ -22,6 +24,7 @@ ghost use Rattle.delivery_laws.specs.Calm.{CalmTree};
 ghost use Rattle.delivery_laws.specs.Choice.{CalmChoice, sends_on};
 ghost use Rattle.delivery_laws.specs.Labels.{CalmLabels};
 ghost use Rattle.delivery_laws.specs.Once.{past_of, receives_datagram};
+ghost use Rattle.once_laws.specs.Chooses.{ChoosesByTheRule};
 ghost use Rattle.once_laws.specs.Run.{CalmRun};
 ghost use Rattle.once_laws.specs.Told.{AsksAreTold, NotesAreTold, EntriesAreTold};
 ghost use Rattle.once_laws.specs.Zeros.{Zeros};
@@ -31,7 +34,7 @@ pub fn zeros_are_calm()
     ensures { (world : World) → state_line world ≡ lines.State 0 0 0 0 0 → Zeros world }
 {}
 
-/// Behind a run of a sound scenario, by its core and by sound events, and where `state` tells of zeros alone: the labels of each tree
+/// Behind a run of a sound scenario, by its cores and by sound events, and where `state` tells of zeros alone: the labels of each tree
 /// that has a node of the scenario as its root are calm.
 pub fn labels_are_calm()
     ensures { (cores : Cores) (script : Script) (events : List Timed) (trace : List Traced) (world : World) →
@@ -79,7 +82,15 @@ pub fn choices_are_calm()
         CalmChoice world.network (receives_datagram (past_of script.scenario events trace) datagram) datagram }
 {}
 
-/// In every run of a sound scenario, by its core and by sound events: each datagram that is accepted in a window leaves once at each
+/// Behind every run of a sound scenario, by its cores and by sound events, each VRF of an edge chooses by its rule over all routes that
+/// the edge knows.
+pub fn each_choice_is_by_the_rule()
+    ensures { (cores : Cores) (script : Script) (events : List Timed) (trace : List Traced) (world : World) →
+        SoundRun cores script events trace world → (n : NodeId) (edge : EdgeData) → world.network.state.node n ≡ Edge edge →
+        (own : OwnVrf) → ChoosesByTheRule (place_of world.network.state n) edge.control own }
+{}
+
+/// In every run of a sound scenario, by its cores and by sound events: each datagram that is accepted in a window leaves once at each
 /// interface that receives it, and nowhere else, over the whole report.
 pub fn runs_deliver_once()
     ensures { (cores : Cores) (script : Script) (events : List Timed) (trace : List Traced) (new : World) →
@@ -87,7 +98,7 @@ pub fn runs_deliver_once()
         Once script.scenario events (refused_lines (report_of trace)) (report_of trace) }
 {}
 
-/// In every run of a sound scenario, by its core and by sound events: each `out` line names a datagram that was accepted by then, with
+/// In every run of a sound scenario, by its cores and by sound events: each `out` line names a datagram that was accepted by then, with
 /// its octets, and an interface whose VRF admits the sender's.
 pub fn each_run_is_safe()
     ensures { (cores : Cores) (script : Script) (events : List Timed) (trace : List Traced) (new : World) →
@@ -95,7 +106,7 @@ pub fn each_run_is_safe()
         Safe script.scenario events (refused_lines (report_of trace)) (report_of trace) }
 {}
 
-/// Where a run of a sound scenario, by its core and by sound events, halts for want of a label: each datagram that is accepted in a
+/// Where a run of a sound scenario, by its cores and by sound events, halts for want of a label: each datagram that is accepted in a
 /// window of the events before leaves once at each interface that receives it, and nowhere else, over the report of those events.
 pub fn halting_runs_deliver_once()
     ensures { (cores : Cores) (script : Script) (report : List Entry) (node : NodeId) →

@@ -2,7 +2,7 @@
 use Rattle.std.proofs.Common.{◌≡◌, ◌≢◌, ℕ, ◌+◌, ◌==◌, ◌&&◌, Bool, true, false, cond, List, [], ◌∷◌, ◌++◌, map, is_some, option_map, Option, Some, None, refl, sym, ap, subst, ◌∙◌}
 use Rattle.std.specs.Ordering.{eq_by_cmp}
 use Rattle.std.specs.FinMap as maps
-use Rattle.std.specs.FinSet as sets
+use Rattle.std.specs.FinMap.{FinMap}
 use Rattle.mv_base.specs.declared.ids.NodeId.{NodeId}
 use Rattle.mldp_msgs.specs.declared.message.LabelMessage.{LabelMessage}
 use Rattle.mldp_msgs.specs.declared.message.LabelMessage.TheVariants as messages
@@ -10,14 +10,12 @@ use Rattle.scenario_defs.specs.declared.event.Kind.{Kind}
 use Rattle.scenario_defs.specs.declared.event.Kind.TheVariants as kinds
 use Rattle.scenario_defs.specs.declared.scenario.Scenario.{Scenario}
 use Rattle.label_defs.specs.Keys.{node_cmp}
-use Rattle.label_defs.specs.LabelData.{Place, LabelData, use_of, is_up}
-use Rattle.label_defs.specs.Settling.{with_use}
+use Rattle.label_defs.specs.LabelData.{Place, LabelData, is_up}
 use Rattle.label_defs.specs.Steps as labels
-use Rattle.label_defs.specs.Steps.{branch_to, released, hold_run, raised_end}
-use Rattle.label_defs.specs.declared.branch.Branch.{Branch}
+use Rattle.label_defs.specs.Steps.{hold_run, raised_end}
 use Rattle.label_defs.specs.declared.end.End.{End}
-use Rattle.label_defs.specs.declared.label_use.LabelUse.{LabelUse}
 use Rattle.label_defs.proofs.KeyLemmas.{node_equal, node_apart, node_cmp_total, node_cmp_exact}
+use Rattle.label_defs.proofs.IdLemmas.{effect_ends}
 use Rattle.label_defs.proofs.SetLemmas.{cut_other}
 use Rattle.label_defs.proofs.TimerLemmas.{timed_end}
 use Rattle.label_laws.specs.Network.{LabelNetwork, behind}
@@ -28,7 +26,7 @@ use Rattle.session_defs.specs.System.{Stepped, MessageNetwork, with_messages}
 use Rattle.session_defs.specs.declared.direction.Direction.{Direction}
 use Rattle.edge_defs.specs.Place.{label_place}
 use Rattle.edge_defs.specs.Steps as steps
-use Rattle.edge_defs.specs.Steps.{own_label_call, part_after}
+use Rattle.edge_defs.specs.Steps.{own_label_call}
 use Rattle.world_defs.specs.Counts.{direction}
 use Rattle.world_defs.specs.Nodes.{NodeState, Edge, CoreNode, Nodes, is_edge, place_of, part_of, core_at}
 use Rattle.world_defs.specs.Refusals.{control_of}
@@ -98,8 +96,7 @@ pub call_parts : (scenario : Scenario) (network : MessageNetwork Nodes) (copies 
 call_parts scenario network copies datagrams base n call new e good room sound up first =
     let nodes : Nodes = network.state in
     let old : LabelData = part_of (nodes.node n) in
-    let c = called_row nodes n (nodes.node n) call new refl (trees_behind scenario nodes base.sound n call good) e in
-    (
+    let c = called_row nodes n (nodes.node n) call new refl (trees_behind scenario nodes base.sound n call good) e in (
       c,
       record {
         sound = sound;
@@ -136,20 +133,9 @@ was_up : (f : End → End) (o : Option End) → is_some o ≡ true → is_some (
 was_up f (Some end) e = refl
 was_up f None e = e
 
-mapping_up : (part : LabelData) (branch : Branch) (t : Bool) (to : NodeId) → is_up part to ≡ true → is_up (cond t (record part { branches = sets.insert part.branches branch }) part) to ≡ true
-mapping_up part branch true to h = h
-mapping_up part branch false to h = h
-
-release_up : (part : LabelData) (label : ℕ) (change : LabelUse → LabelUse) (o : Option LabelUse) (to : NodeId) → is_up part to ≡ true → is_up (elim o [ None ↦ part | Some usage ↦ with_use part label (change usage) ]) to ≡ true
-release_up part label change None to h = h
-release_up part label change (Some usage) to h = h
-
 pub stays_up : (place : Place) (now : ℕ) (part : LabelData) (own : Option labels.Call) (to : NodeId) → IsNoCut to own → is_up part to ≡ true → is_up (own_effect place now part own) to ≡ true
 stays_up place now part None to cut h = h
-stays_up place now part (Some (labels.Taken from (messages.Mapping fec label))) to cut h = mapping_up part (branch_to from fec label) (place.is_tree fec) to h
-stays_up place now part (Some (labels.Taken from (messages.Withdraw fec label))) to cut h = h
-stays_up place now part (Some (labels.Taken from (messages.Release fec label))) to cut h = release_up part label (released from fec (now + place.life + 1)) (use_of part label) to h
-stays_up place now part (Some (labels.Taken from (messages.Ignored kind))) to cut h = h
+stays_up place now part (Some (labels.Taken from message)) to cut h = ap (λ (ends : FinMap node_cmp End). is_some (maps.get ends to)) (effect_ends place now part from message) ∙ h
 stays_up place now part (Some (labels.Want fec)) to cut h = h
 stays_up place now part (Some (labels.Unwant fec)) to cut h = h
 stays_up place now part (Some (labels.Raised peer)) to cut h = ap is_some (maps.get-insert node_cmp_total part.ends peer (raised_end now) to) ∙ put_up (eq_by_cmp node_cmp to peer) (raised_end now) (maps.get part.ends to) h

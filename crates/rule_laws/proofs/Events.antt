@@ -277,8 +277,10 @@ settle_in_step world s =
 cost_in_step : (world : World) (a b : NodeId) (cost : ℕ) → IsCost cost → InStep (scenario_of world) world → Comes (InStep (scenario_of world)) (row (cost_acts (scenario_of world) a b cost) world)
 cost_in_step world a b cost is s =
     let scenario = scenario_of world in
-    row_in_step scenario (cost_acts scenario a b cost) (keeps scenario (SetCost a b cost) is (λ old. tt),
-    each_map (Keep scenario) (λ n. Reroute n) (all_nodes scenario) (each_weaker (IsNode scenario) (λ n. Keep scenario (Reroute n)) (λ n within. keeps scenario (Reroute n) within (λ old. tt)) (all_nodes scenario) (nodes_within 0 (length scenario.nodes) (length scenario.nodes) (omega arith)))) world s
+    row_in_step scenario (cost_acts scenario a b cost) (
+      keeps scenario (SetCost a b cost) is (λ old. tt),
+      each_map (Keep scenario) (λ n. Reroute n) (all_nodes scenario) (each_weaker (IsNode scenario) (λ n. Keep scenario (Reroute n)) (λ n within. keeps scenario (Reroute n) within (λ old. tt)) (all_nodes scenario) (nodes_within 0 (length scenario.nodes) (length scenario.nodes) (omega arith))),
+    ) world s
 
 message_in_step : (world : World) → SoundScenario (scenario_of world) → (o : Option Given) → IsSoundGiven o → InStep (scenario_of world) world → Comes (InStep (scenario_of world)) (with_message o world)
 message_in_step world sound None is s = s

@@ -8,6 +8,7 @@ use Rattle.mv_base.specs.declared.addr.Addr.{Addr}
 use Rattle.mv_base.specs.declared.ids.NodeId.{NodeId}
 use Rattle.mv_base.specs.declared.ids.SiteId.{SiteId}
 use Rattle.mv_base.specs.declared.ids.VrfId.{VrfId}
+use Rattle.scenario_defs.specs.declared.scenario.Scenario.{Scenario}
 use Rattle.scenario_defs.specs.Vpn.{edge_of, entered}
 use Rattle.scenario_defs.specs.declared.event.Event.{Event}
 use Rattle.scenario_defs.specs.declared.event.Event.TheVariants as events
@@ -245,6 +246,9 @@ plain_quiet one plain world = by (act world one) (act_plain one plain world)
     by (Err node) s = tt
     by (Ok new) s = record { plain = plain; lines = s }
 
+pub costs_plain : (scenario : Scenario) (a b : NodeId) (cost : ℕ) → AllByRecursion IsPlain (cost_acts scenario a b cost)
+costs_plain scenario a b cost = (tt, each_map IsPlain (λ n. Reroute n) (all_nodes scenario) (each_of (λ n. IsPlain (Reroute n)) (λ n. tt) (all_nodes scenario)))
+
 -- where it lacks a label, its acts are quiet
 abbrev HaltsQuiet : Outcome → Type 0
 HaltsQuiet (Done acts world) = ⊤
@@ -292,7 +296,7 @@ done_halts world (events.DropCopy from to place) = plain_halts world (Drop from 
 done_halts world events.Heal = as_all (done world events.Heal) (heal_does IsQuiet plain_quiet world)
 done_halts world events.Settle = as_all (settled world) (settle_does IsQuiet plain_quiet world)
 done_halts world events.Drain = as_ends (done world events.Drain) (drain_ends world)
-done_halts world (events.Cost a b cost) = plain_halts world (cost_acts (scenario_of world) a b cost) (tt, each_map IsPlain (λ n. Reroute n) (all_nodes (scenario_of world)) (each_of (λ n. IsPlain (Reroute n)) (λ n. tt) (all_nodes (scenario_of world))))
+done_halts world (events.Cost a b cost) = plain_halts world (cost_acts (scenario_of world) a b cost) (costs_plain (scenario_of world) a b cost)
 done_halts world events.State = plain_halts world (Tell ∷ []) (tt, tt)
 
 -- By the acts of an event that lacks a label no copy lands and no datagram enters.

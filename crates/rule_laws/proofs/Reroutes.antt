@@ -18,8 +18,6 @@ use Rattle.edge_defs.specs.Place.{Core, upstream}
 use Rattle.edge_defs.specs.Steps as steps
 use Rattle.edge_laws.specs.Acts as edge_acts
 use Rattle.edge_laws.specs.Network.{EdgeNetwork}
-use Rattle.edge_laws.specs.Network as edge_nodes
-use Rattle.world_defs.specs.Costs.{Cores}
 use Rattle.world_defs.specs.Nodes.{Nodes, following, core_at, part_of}
 use Rattle.world_defs.specs.System.{node_called, unchanged}
 use Rattle.world_defs.specs.World.{Datagram}

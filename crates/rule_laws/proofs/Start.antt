@@ -4,7 +4,6 @@ use Rattle.std.specs.List.{AllByRecursion}
 use Rattle.std.proofs.lemmas.List.{append-nil}
 use Rattle.scenario_defs.specs.declared.event.Timed.{Timed}
 use Rattle.scenario_defs.specs.declared.scenario.Scenario.{Scenario}
-use Rattle.label_defs.specs.LabelData.{fresh}
 use Rattle.label_laws.specs.Network.{LabelNetwork, at_start}
 use Rattle.label_laws.specs.Rule.{Kept}
 use Rattle.label_laws.proofs.Full.{start_kept}

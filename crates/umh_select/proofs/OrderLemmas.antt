@@ -5,7 +5,7 @@ use Rattle.std.specs.List.Sorted.{IsStrictlySortedBy}
 use Rattle.std.specs.BTreeMap.{is_at}
 use Rattle.std.specs.BTreeMap.Range.{range_contains, entries_between}
 use Rattle.std.specs.Map.{keys_of, lookup}
-use Rattle.std.specs.FinMap.{IsAntisymmetric, nat_cmp-IsAntisymmetric, slice_cmp-IsAntisymmetric, empty, empty_of_len, entries, entries-from_sorted, len-entries, find, from_sorted, get, get-from_sorted, get-insert, get-remove, insert, is_sorted, remove, same_map}
+use Rattle.std.specs.FinMap.{FinMap, IsAntisymmetric, nat_cmp-IsAntisymmetric, slice_cmp-IsAntisymmetric, empty, empty_of_len, entries, entries-from_sorted, len-entries, find, from_sorted, get, get-entries, get-from_sorted, entries_sorted, get-insert, get-remove, insert, is_sorted, remove, same_map}
 use Rattle.std.specs.FinMap.Entries.{below_all}
 use Rattle.std.specs.Ordering.{nat_cmp, is_eq, is_gt, is_le, is_lt, eq_by_cmp, ordering_then}
 use Rattle.std.specs.declared.cmp.Ordering.{Ordering}
@@ -191,6 +191,23 @@ module _ {X : Type 0} where
       ap (λ (t : Bool). cond t (Some f.1) (lookup (is_at (key_cmp e.0)) es)) (at_itself e f same) ∙ ap (λ (g : RouteKey × X). Some g.1) (sym same)
   entry_found e (f ∷ es) a (inr m) =
       not_first e f (above f.0 e es m a.0) (is_at (key_cmp e.0) f.0) refl (lookup (is_at (key_cmp e.0)) es) ∙ entry_found e es a.1 m
+
+  below_back : (x : RouteKey) (es : List (RouteKey × X)) → T (below_all key_cmp x es) → AllByRecursion (λ y. key_cmp x y ≡ Less) (keys_of es)
+  below_back x [] h = tt
+  below_back x (e ∷ es) h =
+      let both = T_parts (is_lt (key_cmp x e.0)) (below_all key_cmp x es) h in
+      (less (key_cmp x e.0) both.0, below_back x es both.1)
+
+  sorted_back : (es : List (RouteKey × X)) → T (is_sorted key_cmp es) → Sorted es
+  unfolding IsStrictlySortedBy
+  sorted_back [] h = tt
+  sorted_back (e ∷ es) h =
+      let both = T_parts (below_all key_cmp e.0 es) (is_sorted key_cmp es) h in
+      (below_back e.0 es both.0, sorted_back es both.1)
+
+  -- an entry of a map is what the map has at its key
+  pub entry_get : (m : FinMap key_cmp X) (e : RouteKey × X) → Among e (entries m) → get m e.0 ≡ Some e.1
+  entry_get m e a = get-entries m e.0 ∙ (find-lookup e.0 (entries m) ∙ entry_found e (entries m) (sorted_back (entries m) (entries_sorted m)) a)
 
   pub filter_among : (p q : RouteKey × X → Bool) (es : List (RouteKey × X)) → ((e : RouteKey × X) → Among e es → p e ≡ q e) → filter p es ≡ filter q es
   filter_among p q [] h = refl

@@ -121,10 +121,14 @@ is_found (choices.Remote edge rd import source_as) = true
 abbrev pub AreCosts : Topology → NodeId → (NodeId → ℕ) → Type 0
 AreCosts core me cost = (node : NodeId) → node.0 < core.nodes → IsLeast core.links me.0 node.0 (cost node)
 
--- Each route is from a node of the core.
-abbrev pub AreOfCore : ℕ → List (RouteKey × Held) → Type 0
-AreOfCore nodes [] = Unit {0}
-AreOfCore nodes (entry ∷ more) = ((peer_of entry.0.place).0 < nodes) × AreOfCore nodes more
+-- Each learned route is from a node of the core.
+abbrev pub AreOfCore : ℕ → FinMap key_cmp Held → Type 0
+AreOfCore nodes learned = (key : RouteKey) (held : Held) → maps.get learned key ≡ Some held → (peer_of key.place).0 < nodes
+
+-- the same of a list of routes
+abbrev pub AreFromNodes : ℕ → List (RouteKey × Held) → Type 0
+AreFromNodes nodes [] = Unit {0}
+AreFromNodes nodes (entry ∷ more) = ((peer_of entry.0.place).0 < nodes) × AreFromNodes nodes more
 
 -- ---- how it is found
 

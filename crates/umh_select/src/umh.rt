@@ -145,7 +145,7 @@ impl Umh {
     /// with its route of the least route distinguisher. It takes no memory.
     pub fn choose(&self, source: Addr, group: Addr, me: NodeId, core: &Core) -> Choice
         requires me { me.0 < core.now.nodes }
-        requires peers { AreOfCore core.now.nodes (entries self.now.learned) }
+        requires peers { AreOfCore core.now.nodes self.now.learned }
         ensures route { (cost : NodeId → ℕ) → AreCosts core.now me cost → result ≡ chosen self.now.learned (best_route (cost_by self.now.rule cost (known self.now) source group) (known self.now) source) }
         ensures origin { (cost : NodeId → ℕ) → AreCosts core.now me cost → origin_of result ≡ choose self.now.rule cost (known self.now) source group }
     {
@@ -172,7 +172,7 @@ impl Umh {
     /// The upstream among the prefixes of that length.
     fn choose_at(&self, source: Addr, group: Addr, bits: u8, me: NodeId, core: &Core) -> Choice
         requires me { me.0 < core.now.nodes }
-        requires peers { AreOfCore core.now.nodes (entries self.now.learned) }
+        requires peers { AreOfCore core.now.nodes self.now.learned }
         ensures none { result ≡ choices.None → IsNoneAt self.now source bits }
         ensures route { (cost : NodeId → ℕ) → AreCosts core.now me cost → result ≡ chosen self.now.learned (best_route (cost_at self.now source group bits cost) (known_at self.now source bits) source) }
         ensures origin { (cost : NodeId → ℕ) → AreCosts core.now me cost → origin_of result ≡ option_map (λ route. route.origin) (best_route (cost_at self.now source group bits cost) (known_at self.now source bits) source) }
@@ -255,7 +255,7 @@ impl Umh {
     /// The upstream among the learned routes of that length.
     fn remote_at(&self, source: Addr, group: Addr, bits: u8, me: NodeId, core: &Core) -> Choice
         requires me { me.0 < core.now.nodes }
-        requires peers { AreOfCore core.now.nodes (entries self.now.learned) }
+        requires peers { AreOfCore core.now.nodes self.now.learned }
         ensures none { result ≡ choices.None → at_length source bits (entries self.now.learned) ≡ [] }
         ensures best { (cost : NodeId → ℕ) → AreCosts core.now me cost → result ≡ choice_of (best_of None (map (candidate_of (cost_at self.now source group bits cost)) (at_length source bits (entries self.now.learned)))) }
     {
@@ -273,7 +273,7 @@ impl Umh {
         core: &Core,
     ) -> Option<Candidate>
         requires me { me.0 < core.now.nodes }
-        requires peers { AreOfCore core.now.nodes (entries self.now.learned) }
+        requires peers { AreOfCore core.now.nodes self.now.learned }
         ensures none { result ≡ None → at_length source bits (entries self.now.learned) ≡ [] }
         ensures best { (cost : NodeId → ℕ) → AreCosts core.now me cost → result ≡ best_of None (map (candidate_of (measure self.now.rule cost named)) (at_length source bits (entries self.now.learned))) }
     {

@@ -8,7 +8,7 @@ use Rattle.umh_select.proofs.RangeLemmas.{between}
 use Rattle.std.specs.Map.Iter.{deref_pair}
 use Rattle.std.proofs.lemmas.Map.Iter.{rest_all}
 use Rattle.umh_select.specs.declared.route.Held.{Held}
-use Rattle.umh_select.specs.Routes.{AreOfCore, Routes, at_length, best_of, candidate_of, measure}
+use Rattle.umh_select.specs.Routes.{AreFromNodes, Routes, at_length, best_of, candidate_of, measure}
 use Rattle.umh_select.proofs.ChosenLemmas.{learned_inner, of_core}
 use Rattle.umh_select.proofs.umh.Umh.best_at.Goals as goal
 
@@ -23,7 +23,7 @@ loop-key-init c =
     c.self.inside.learned.entries c.self.invariant.0 (learned_inner c.self.inside.lengths c.self.inside.learned.entries c.self.invariant.2)
     c.args.self.now.learned (ap (λ (r : Routes). r.learned) c.self.view_is) c.into_iter-key-iterator.result (gives ∙ c.range-key-items.ensures.between c.new-ends.ensures.exhausted) in
     record {
-      peers = subst (λ (l : List (RouteKey × Held)). AreOfCore c.args.core.now.nodes l) (sym listed) (of_core c.args.core.now.nodes c.args.source c.args.bits (entries c.args.self.now.learned) c.requires.peers);
+      peers = subst (λ (l : List (RouteKey × Held)). AreFromNodes c.args.core.now.nodes l) (sym listed) (of_core c.args.core.now.nodes c.args.source c.args.bits c.args.self.now.learned c.requires.peers);
       none = λ _. refl;
       best = λ _ _. refl;
     }

@@ -3,7 +3,7 @@ bgp_update Written, mldp_msgs, mvpn_model Packet). Routes and tunnels that no ed
 
 from dataclasses import dataclass
 
-from .base import V4, addr_octets, checksum, flat_map, to_be_bytes
+from .base import V4, V6, addr_octets, checksum, flat_map, to_be_bytes
 
 
 # ---- FEC elements (RFC 6388 section 2.2)
@@ -167,14 +167,26 @@ def path_text():
     return attribute(0x40, 1, (0,)) + attribute(0x40, 2, ()) + attribute(0x40, 5, to_be_bytes(4, 100))
 
 
+def afi_of(addr):
+    return 1 if isinstance(addr, V4) else 2
+
+
+MAPPED_FRONT = (0,) * 10 + (0xFF,) * 2
+
+
+def mapped(addr):
+    return MAPPED_FRONT + addr.octets if isinstance(addr, V4) else addr.octets
+
+
 def pair(key):
-    return to_be_bytes(2, key.afi) + (5,) if isinstance(key, Mcast) else (0, 1, 128)
+    return to_be_bytes(2, key.afi) + (5,) if isinstance(key, Mcast) else to_be_bytes(2, afi_of(key.prefix.addr)) + (128,)
 
 
 def hop_of(key, addr):
     if isinstance(key, Mcast):
         return (len(addr_octets(addr)),) + addr_octets(addr)
-    return (8 + len(addr_octets(addr)),) + (0,) * 8 + addr_octets(addr)
+    octets = mapped(addr) if afi_of(key.prefix.addr) == 2 else addr_octets(addr)
+    return (8 + len(octets),) + (0,) * 8 + octets
 
 
 ADVERTISED = (0x00, 0x00, 0x31)
@@ -269,12 +281,14 @@ def pdu_written(me, number, message):
     return to_be_bytes(2, 1) + to_be_bytes(2, 6 + len(text)) + addr_octets(me) + (0, 0) + text
 
 
-# ---- IPv4 packets (RFC 791 section 3.1)
+# ---- packets of IPv4 (RFC 791 section 3.1) and IPv6 (RFC 8200 section 3)
 
 def packet_header(source, group, total, total_sum):
     return (0x45, 0) + to_be_bytes(2, total) + (0, 0, 0, 0, 64, 17) + to_be_bytes(2, total_sum) + addr_octets(source) + addr_octets(group)
 
 
 def packet(source, group, payload):
+    if isinstance(source, V6):
+        return (0x60, 0, 0, 0) + to_be_bytes(2, len(payload)) + (17, 64) + addr_octets(source) + addr_octets(group) + payload
     total = 20 + len(payload)
     return packet_header(source, group, total, checksum(packet_header(source, group, total, 0))) + payload

@@ -106,18 +106,23 @@ def read_route(fields):
     return route
 
 
-def read_unicast(fields):
+def read_unicast(afi, fields):
     """Length in bits of what is behind it; label, Route Distinguisher, prefix (RFC 8277 section 2)."""
     bits = fields.number(1) - 88
     fields.octets(3)
     rd = fields.octets(8)
     front = fields.octets((bits + 7) // 8)
-    return forms.Unicast(rd, Prefix(V4(front + (0,) * (4 - len(front))), bits))
+    addr = V4(padded(4, front)) if afi == 1 else V6(padded(16, front))
+    return forms.Unicast(rd, Prefix(addr, bits))
+
+
+def padded(count, octets):
+    return octets + (0,) * (count - len(octets))
 
 
 def read_key(family, fields):
-    if family == (1, 128):
-        return read_unicast(fields)
+    if family in ((1, 128), (2, 128)):
+        return read_unicast(family[0], fields)
     if family in ((1, 5), (2, 5)):
         return forms.Mcast(family[0], read_route(fields))
     raise Misread('family')
@@ -130,14 +135,22 @@ def read_keys(family, fields):
     return tuple(keys)
 
 
+def hop_addr(family, hop):
+    """That of a VPN route has a Route Distinguisher in front, and that of VPN-IPv6 may be an IPv4-mapped address."""
+    octets = hop[8:] if family[1] == 128 else hop
+    if family == (2, 128) and len(octets) == 16 and octets[:12] == forms.MAPPED_FRONT:
+        return V4(octets[12:])
+    return addr_of(octets)
+
+
 # ---- UPDATE messages: withdrawn length, attributes length, attributes of flags, type, length and value
 
 def read_reach(fields):
-    """AFI, SAFI, next hop behind its length, a reserved octet, keys; that of VPN-IPv4 has a Route Distinguisher in front."""
+    """AFI, SAFI, next hop behind its length, a reserved octet, keys."""
     family = (fields.number(2), fields.number(1))
     hop = fields.octets(fields.number(1))
     fields.octets(1)
-    return addr_of(hop[8:] if family == (1, 128) else hop), read_keys(family, fields)
+    return hop_addr(family, hop), read_keys(family, fields)
 
 
 def read_unreach(fields):

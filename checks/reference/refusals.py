@@ -1,6 +1,6 @@
 """Why an event is refused, by the first of its conditions that holds (world_defs: Packets, Refusals; net_defs: Network)."""
 
-from .base import V4, checksum, from_be_bytes, same_addr, slice_get
+from .base import V4, V6, checksum, from_be_bytes, same_addr, slice_get
 from .joinprune import PimFault, decoded
 from .pim import applied, are_too_many, iface_addr, message_of
 from .place import EdgeData, Note, VrfPattern, no_control
@@ -27,11 +27,29 @@ def bad(place, word):
     return f'bytes {place} {word}'
 
 
+def six_fault(octets):
+    """The first fault of a packet of IPv6 (RFC 8200 section 3)."""
+    if len(octets) < 40:
+        return bad(len(octets), 'short')
+    if number_at(4, octets) + 40 != len(octets):
+        return bad(4, 'total-length')
+    if octets[24] != 255:
+        return bad(24, 'not-multicast')
+    if octets[25] % 16 < 3:
+        return bad(24, 'link-local')
+    return None
+
+
 def packet_fault(octets):
     if len(octets) < 20:
         return bad(len(octets), 'short')
-    if octets[0] // 16 != 4:
+    if octets[0] // 16 not in (4, 6):
         return bad(0, 'version')
+    return four_fault(octets) if octets[0] // 16 == 4 else six_fault(octets)
+
+
+def four_fault(octets):
+    """The first fault of a packet of IPv4 (RFC 791 section 3.1)."""
     if header_len(octets) < 20 or len(octets) < header_len(octets):
         return bad(0, 'header-length')
     if number_at(2, octets) != len(octets):
@@ -46,11 +64,11 @@ def packet_fault(octets):
 
 
 def source_in(octets):
-    return V4(octets[12:16])
+    return V4(octets[12:16]) if octets[0] // 16 == 4 else V6(octets[8:24])
 
 
 def group_in(octets):
-    return V4(octets[16:20])
+    return V4(octets[16:20]) if octets[0] // 16 == 4 else V6(octets[24:40])
 
 
 # ---- limits

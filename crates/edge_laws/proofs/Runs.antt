@@ -19,7 +19,7 @@ plain_rule : (network : EdgeNetwork) (n : NodeId) (new : Control) → new.peers 
 plain_rule network n new peers selections rule = still_rule network n new peers (λ pattern selected e. stays network.clock (maps.get (network.node n).selections pattern) selected (ap (λ (all : FinMap pattern_cmp Selected). maps.get all pattern) (sym selections) ∙ e)) rule
 
 -- what an edge holds for its peers does not depend on the core that it knows, but on the flows that it keeps
-core_rule : (network : EdgeNetwork) (n : NodeId) (core : Core) → Rule network → Rule (with_core n core network)
+pub core_rule : (network : EdgeNetwork) (n : NodeId) (core : Core) → Rule network → Rule (with_core n core network)
 core_rule network n core rule = record { view = rule.view; alike = rule.alike; ends = rule.ends; scenario = rule.scenario }
 
 pub act_rule : (network : EdgeNetwork) (next : Act) → Rule network → Rule (act network next)

@@ -19,8 +19,13 @@ ghost use Rattle.edge_laws.specs.Rule.{Rule, selected_at, taken_values};
 /// A network in which nothing has happened meets the rule.
 pub fn start_keeps_the_rule()
     ensures { (scenario : Scenario) (core : NodeId → Core) → Rules scenario →
-        Rule (record { clock = 0; scenario = scenario; core = core; node = λ n. no_control;
-          direction = λ a b. record { joined = false; transit = [] } }) }
+        Rule (record {
+          clock = 0;
+          scenario = scenario;
+          core = core;
+          node = λ n. no_control;
+          direction = λ a b. record { joined = false; transit = [] };
+        }) }
 {}
 
 /// Whatever happens, the rule is kept.

@@ -1,30 +1,27 @@
 -- How many labels are free, and how many trees need one.
-use Rattle.std.proofs.Common.{◌≡◌, ℕ, ◌+◌, ◌-◌, ◌<◌, ◌≤◌, zero, suc, Bool, true, false, not, cond, ◌&&◌, ◌||◌, List, [], ◌∷◌, map, filter, count_by, slice_get, slice_set, Some, inl, inr, refl, sym, ap, subst, ◌∙◌, arith}
+use Rattle.std.proofs.Common.{◌≡◌, ℕ, ◌+◌, ◌<◌, ◌≤◌, zero, suc, Bool, true, false, cond, ◌&&◌, ◌||◌, List, [], ◌∷◌, map, filter, count_by, slice_get, slice_set, Some, inl, inr, refl, sym, ap, subst, ◌∙◌, arith}
 use Rattle.std.specs.Bool.{⊤}
 use Rattle.std.specs.List.{list_any}
 use Rattle.std.specs.FinSet as sets
 use Rattle.std.specs.FinSet.{FinSet}
-use Rattle.std.proofs.lemmas.Bool.{or_left, and_left}
-use Rattle.std.proofs.lemmas.List.Sums.{sum_by-cons, sum_by-set}
+use Rattle.std.proofs.lemmas.Bool.{or_left}
+use Rattle.std.proofs.lemmas.List.Sums.{sum_by-set}
 use Rattle.std.proofs.lemmas.Option.{slice_get_within, get_or_from_slice_get}
 use Rattle.mldp_fec.specs.declared.fec.Fec.{Fec}
 use Rattle.label_defs.specs.Keys.{fec_cmp}
 use Rattle.label_defs.specs.LabelData.{same_fec}
 use Rattle.label_defs.specs.Members.{in_order}
 use Rattle.label_defs.specs.Laws.{passing}
-use Rattle.label_defs.proofs.MemberLemmas.{once_in_order}
+use Rattle.label_defs.proofs.MemberLemmas.{count-cons, once_in_order}
 use Rattle.label_defs.proofs.KeyLemmas.{fec_cmp_total, fec_cmp_exact, fec_cases, same_fec_itself, fec_apart}
 use Rattle.label_defs.proofs.TreeLemmas.{not_both}
 
 module _ {X : Type 0} (p : X → Bool) where
-  pub count-cons : (x : X) (xs : List X) → count_by p (x ∷ xs) ≡ cond (p x) 1 0 + count_by p xs
-  count-cons x xs = sum_by-cons (λ y. cond (p y) 1 0) x xs
-
   pub count_none : (xs : List X) → ((k : ℕ) (x : X) → slice_get xs k ≡ Some x → p x ≡ false) → count_by p xs ≡ 0
   count_none [] none = refl
   count_none (x ∷ xs) none =
       let rest = count_none xs (λ k y e. none (suc k) y e) in
-      count-cons x xs ∙ ap (λ b. cond b 1 0 + count_by p xs) (none 0 x refl) ∙ ap (λ n. 0 + n) rest
+      count-cons p x xs ∙ ap (λ b. cond b 1 0 + count_by p xs) (none 0 x refl) ∙ ap (λ n. 0 + n) rest
 
   -- one element changes
   pub count_set : (xs : List X) (k : ℕ) (old new : X) → slice_get xs k ≡ Some old → count_by p (slice_set xs k new) + cond (p old) 1 0 ≡ count_by p xs + cond (p new) 1 0

@@ -1,5 +1,5 @@
 -- A hold is run by the timers alone, and when it is due; a noticed loss ends what the session had.
-use Rattle.std.proofs.Common.{◌≡◌, ℕ, ◌+◌, ◌≤◌, ◌==◌, nat_le, Bool, true, false, not, cond, ◌&&◌, ◌||◌, ◌⊎◌, inl, inr, List, Option, Some, None, option_map, is_some, refl, sym, ap, subst, ◌∙◌}
+use Rattle.std.proofs.Common.{◌≡◌, ℕ, ◌+◌, ◌≤◌, ◌==◌, nat_le, Bool, true, false, not, ◌&&◌, ◌||◌, ◌⊎◌, inl, inr, List, Some, option_map, is_some, refl, sym, ap, subst, ◌∙◌}
 use Rattle.std.specs.FinMap as maps
 use Rattle.std.specs.FinMap.{FinMap}
 use Rattle.std.specs.FinSet as sets
@@ -7,7 +7,6 @@ use Rattle.std.proofs.lemmas.Bool.{cases_Bool, cases_eq, cond-true, cond-false, 
 use Rattle.std.proofs.lemmas.Option.{same_Some, none-some}
 use Rattle.mv_base.specs.declared.ids.NodeId.{NodeId}
 use Rattle.mldp_fec.specs.declared.fec.Fec.{Fec}
-use Rattle.mldp_msgs.specs.declared.message.LabelMessage.TheVariants as messages
 use Rattle.label_defs.specs.declared.branch.Branch.{Branch}
 use Rattle.label_defs.specs.declared.end.End.{End}
 use Rattle.label_defs.specs.declared.label_use.LabelUse.{LabelUse}

@@ -17,7 +17,7 @@ use Rattle.label_defs.specs.LabelData.{Place, LabelData, use_of, has_tree, is_re
 use Rattle.label_defs.specs.Settling.{Stepped, with_use}
 use Rattle.label_defs.specs.Steps.{Call, Taken, Want, Unwant, Raised, Noticed, Timers, Rerouted, effect, label_step}
 use Rattle.label_defs.specs.Settled.{Maps}
-use Rattle.label_defs.specs.Laws.{takes, mapping_to, MappingIs}
+use Rattle.label_defs.specs.Laws.{releases, takes, mapping_to, MappingIs}
 use Rattle.label_defs.proofs.UseLemmas.{used, set_here, set_there}
 use Rattle.label_defs.proofs.TreeLemmas.{one_tree}
 use Rattle.label_defs.proofs.EffectLemmas.{held}
@@ -179,25 +179,26 @@ pub none_first : (before behind : List Put) (put : Put) → [] ≡ before ++ put
 none_first [] behind put e = absurd cc
 none_first (first ∷ before) behind put e = absurd cc
 
-one_first : (from to : NodeId) (fec own : Fec) (number label : ℕ) (before behind : List Put) → record { to = from; message = messages.Release fec number } ∷ [] ≡ before ++ mapping_to to own label ∷ behind → ⊥
-one_first from to fec own number label [] behind e =
-    let release : Put = record { to = from; message = messages.Release fec number } in
-    let same : release ≡ mapping_to to own label = cc in
-    let message : messages.Release fec number ≡ messages.Mapping own label = ap (λ (put : Put). put.message) same in
+one_first : (from : NodeId) (fec : Fec) (label : ℕ) (before behind : List Put) (put : Put) → releases put.message ≡ false → record { to = from; message = messages.Release fec label } ∷ [] ≡ before ++ put ∷ behind → ⊥
+one_first from fec label [] behind put none e =
+    let release : Put = record { to = from; message = messages.Release fec label } in
+    let same : release ≡ put = cc in
+    let is : true ≡ false = ap (λ (p : Put). releases p.message) same ∙ none in
     absurd cc
-one_first from to fec own number label (first ∷ before) behind e = (let rest : [] ≡ before ++ mapping_to to own label ∷ behind = cc in none_first before behind (mapping_to to own label) rest)
+one_first from fec label (first ∷ before) behind put none e = (let rest : [] ≡ before ++ put ∷ behind = cc in none_first before behind put rest)
 
-no_mapping : (place : Place) (now : ℕ) (part : LabelData) (call : Call) (before behind : List Put) (to : NodeId) (fec : Fec) (label : ℕ) → (effect place now part call).0.puts ≡ before ++ mapping_to to fec label ∷ behind → ⊥
-no_mapping place now part (Taken from (messages.Mapping own number)) before behind to fec label e = none_first before behind (mapping_to to fec label) e
-no_mapping place now part (Taken from (messages.Withdraw own number)) before behind to fec label e = one_first from to own fec number label before behind e
-no_mapping place now part (Taken from (messages.Release own number)) before behind to fec label e = none_first before behind (mapping_to to fec label) e
-no_mapping place now part (Taken from (messages.Ignored kind)) before behind to fec label e = none_first before behind (mapping_to to fec label) e
-no_mapping place now part (Want own) before behind to fec label e = none_first before behind (mapping_to to fec label) e
-no_mapping place now part (Unwant own) before behind to fec label e = none_first before behind (mapping_to to fec label) e
-no_mapping place now part (Raised peer) before behind to fec label e = none_first before behind (mapping_to to fec label) e
-no_mapping place now part (Noticed peer) before behind to fec label e = none_first before behind (mapping_to to fec label) e
-no_mapping place now part Timers before behind to fec label e = none_first before behind (mapping_to to fec label) e
-no_mapping place now part Rerouted before behind to fec label e = none_first before behind (mapping_to to fec label) e
+-- the call's own effect puts releases alone
+pub no_own_put : (place : Place) (now : ℕ) (part : LabelData) (call : Call) (before behind : List Put) (put : Put) → releases put.message ≡ false → (effect place now part call).0.puts ≡ before ++ put ∷ behind → ⊥
+no_own_put place now part (Taken from (messages.Mapping fec label)) before behind put none e = none_first before behind put e
+no_own_put place now part (Taken from (messages.Withdraw fec label)) before behind put none e = one_first from fec label before behind put none e
+no_own_put place now part (Taken from (messages.Release fec label)) before behind put none e = none_first before behind put e
+no_own_put place now part (Taken from (messages.Ignored kind)) before behind put none e = none_first before behind put e
+no_own_put place now part (Want fec) before behind put none e = none_first before behind put e
+no_own_put place now part (Unwant fec) before behind put none e = none_first before behind put e
+no_own_put place now part (Raised peer) before behind put none e = none_first before behind put e
+no_own_put place now part (Noticed peer) before behind put none e = none_first before behind put e
+no_own_put place now part Timers before behind put none e = none_first before behind put e
+no_own_put place now part Rerouted before behind put none e = none_first before behind put e
 
 pub mapping_is : (place : Place) (now : ℕ) (part : LabelData) (call : Call) (new : Stepped) (before behind : List Put) (to : NodeId) (fec : Fec) (label : ℕ) → label_step place now part call ≡ Some new
     → new.puts ≡ before ++ mapping_to to fec label ∷ behind → MappingIs place now part call new.part before to fec label
@@ -205,7 +206,7 @@ mapping_is place now part call new before behind to fec label e is =
     let start = (effect place now part call).0.part in
     let traced = step_keeps place now part call new (λ p puts. Traced place start p puts) (λ old puts own next more t x. turn_traced place start old own next puts more t x)
     (λ old x. record { free = x.free; taken = x.taken; found = λ b r u f l h. (let y = x.found b r u f l h in record { toward = y.toward; ready = counted_ready old u ∙ y.ready; free = y.free; least = y.least; tree = y.tree; holds = y.holds }) })
-    (record { free = λ k h. h; taken = λ k h. inl h; found = λ b r u f l h. absurd (no_mapping place now part call b r u f l h) }) e in
+    (record { free = λ k h. h; taken = λ k h. inl h; found = λ b r u f l h. absurd (no_own_put place now part call b r (mapping_to u f l) refl h) }) e in
     let f = traced.found before behind to fec label is in
     record {
       toward = f.toward;

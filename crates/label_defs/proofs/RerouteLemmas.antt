@@ -14,12 +14,12 @@ use Rattle.label_defs.specs.declared.put.Put.{Put}
 use Rattle.label_defs.specs.Keys.{fec_cmp}
 use Rattle.label_defs.specs.LabelData.{Place, LabelData, same_fec, use_of, is_free, mapped_label, has_branch, has_tree, is_ready, trees}
 use Rattle.label_defs.specs.Settling.{Stepped, with_use, upstream_of, holder_of, same_neighbour, is_ready_to, change_of, changed, put_by, settle_all}
-use Rattle.label_defs.specs.Steps.{Call, Noticed, Rerouted, twice, counted, label_step}
+use Rattle.label_defs.specs.Steps.{Rerouted, twice, counted, label_step}
 use Rattle.label_defs.specs.Settled.{Maps, Settled, AllSettled}
 use Rattle.label_defs.specs.Laws.{needs_label, needs_new_label, passing, withdraw_to, mapping_to, WithdrawnThen, MovedThen}
 use Rattle.label_defs.proofs.KeyLemmas.{fec_cases, fec_apart, same_fec_itself}
 use Rattle.label_defs.proofs.UseLemmas.{used, set_here, map_some, mapped_none, mapped_some}
-use Rattle.label_defs.proofs.TreeLemmas.{not_both, one_tree, same_ready, holder, neighbours_equal, withdraw_none, tied, Beside, beside_settled, After, step_after, Loose, loose, beside_loose, Begun, step_begun}
+use Rattle.label_defs.proofs.TreeLemmas.{not_both, one_tree, same_ready, holder, neighbours_equal, withdraw_none, Beside, beside_settled, After, step_after, Loose, loose, beside_loose, Begun, step_begun}
 use Rattle.label_defs.proofs.SettleLemmas.{bind_some}
 use Rattle.label_defs.proofs.LossLemmas.{absent}
 use Rattle.label_defs.proofs.TurnLemmas.{Turn, Quiet, Takes, Gives, Off, turn, settle_all_keeps, has_hop, has_label}

@@ -2,6 +2,7 @@
 use Rattle.std.proofs.Common.{◌≡◌, ℕ, ◌+◌, ◌<◌, ◌==◌, nat_le, Bool, true, false, cond, ◌&&◌, ◌++◌, ◌⊎◌, inl, inr, List, [], ◌∷◌, filter, Some, option_map, refl, sym, ap, ◌∙◌}
 use Rattle.std.proofs.lemmas.Bool.{cases_Bool, cond-true, cond-false, eq-eqb, eqb-true, and_parts, and_from, lt-leb}
 use Rattle.std.proofs.lemmas.List.{append-nil}
+use Rattle.std.proofs.lemmas.List.Elements.{filter-append}
 use Rattle.std.proofs.lemmas.Option.{same_Some}
 use Rattle.mv_base.specs.declared.ids.NodeId.{NodeId}
 use Rattle.mldp_fec.specs.declared.fec.Fec.{Fec}
@@ -26,14 +27,6 @@ withdraw_answered place now part from fec label new e =
     let first : Put = record { to = from; message = messages.Release fec label } in
     step_keeps place now part (Taken from (messages.Withdraw fec label)) new (λ p puts. (rest : List Put) × (puts ≡ first ∷ rest))
     (λ old puts own next more t x. (x.0 ++ more, ap (λ (ps : List Put). ps ++ more) x.1)) (λ old x. x) ([], refl) e
-
-filter-append : {X : Type 0} (p : X → Bool) (xs ys : List X) → filter p (xs ++ ys) ≡ filter p xs ++ filter p ys
-filter-append p [] ys = refl
-filter-append p (x ∷ xs) ys =
-    elim (p x) as (λ b. cond b (x ∷ filter p (xs ++ ys)) (filter p (xs ++ ys)) ≡ cond b (x ∷ filter p xs) (filter p xs) ++ filter p ys) [
-      | true ↦ ap (λ zs. x ∷ zs) (filter-append p xs ys)
-      | false ↦ filter-append p xs ys
-    ]
 
 abbrev is_release : Put → Bool
 is_release put = releases put.message

@@ -5,7 +5,6 @@ use Rattle.std.proofs.lemmas.List.{append_assoc}
 use Rattle.std.proofs.lemmas.Option.{same_Some}
 use Rattle.mv_base.specs.declared.ids.NodeId.{NodeId}
 use Rattle.mldp_fec.specs.declared.fec.Fec.{Fec}
-use Rattle.mldp_msgs.specs.declared.message.LabelMessage.TheVariants as messages
 use Rattle.label_defs.specs.declared.label_use.LabelUse.{LabelUse}
 use Rattle.label_defs.specs.declared.label_use.LabelUse.TheVariants as uses
 use Rattle.label_defs.specs.declared.put.Put.{Put}
@@ -13,7 +12,7 @@ use Rattle.label_defs.specs.LabelData.{Place, LabelData, use_of, has_tree}
 use Rattle.label_defs.specs.Settling.{Stepped, with_use}
 use Rattle.label_defs.specs.Steps.{Call, counted, label_step}
 use Rattle.label_defs.specs.Settled.{Maps}
-use Rattle.label_defs.specs.Laws.{FreeIn, mapping_to, TakenThen, FreeThen}
+use Rattle.label_defs.specs.Laws.{FreeIn, mapping_to, FreeThen}
 use Rattle.label_defs.proofs.UseLemmas.{used, set_here, set_there}
 use Rattle.label_defs.proofs.TreeLemmas.{one_tree}
 use Rattle.label_defs.proofs.TurnLemmas.{Turn, Off, on_it}

@@ -13,17 +13,17 @@ use Rattle.label_defs.specs.LabelData.{Place, LabelData, use_of, has_tree}
 use Rattle.label_defs.specs.Settling.{Stepped, with_use}
 use Rattle.label_defs.specs.Steps.{Call, Taken, Want, Unwant, Raised, Noticed, Timers, Rerouted, released, effect, counted, label_step}
 use Rattle.label_defs.specs.Settled.{Maps}
-use Rattle.label_defs.specs.Laws.{WithdrawIs, WithdrawnThen, MappedThen, withdraw_to}
+use Rattle.label_defs.specs.Laws.{WithdrawIs, MappedThen, withdraw_to}
 use Rattle.label_defs.proofs.KeyLemmas.{node_equal}
 use Rattle.label_defs.proofs.UseLemmas.{used, map_some, set_here, set_there}
-use Rattle.label_defs.proofs.TreeLemmas.{not_both, one_tree}
+use Rattle.label_defs.proofs.TreeLemmas.{one_tree}
 use Rattle.label_defs.proofs.EffectLemmas.{released_maps}
 use Rattle.label_defs.proofs.LossLemmas.{freed_maps}
 use Rattle.label_defs.proofs.TimerLemmas.{woken_maps}
 use Rattle.label_defs.proofs.TurnLemmas.{SameRest, Turn, Quiet, Takes, Gives, Off, on_it}
 use Rattle.label_defs.proofs.OwnLemmas.{step_keeps, own_use, effect_use, rest_tree}
 use Rattle.label_defs.proofs.RestLemmas.{turn_stays}
-use Rattle.label_defs.proofs.MappingLemmas.{snoc_split, same_uses, none_first}
+use Rattle.label_defs.proofs.MappingLemmas.{snoc_split, same_uses, no_own_put}
 
 -- ---- what is withdrawn was mapped
 
@@ -144,33 +144,13 @@ module _ (place : Place) (start old : LabelData) (fec : Fec) (next : LabelData) 
     | inr (inr w) ↦ gives_told t w x
   ]
 
-one_first : (from to : NodeId) (fec own : Fec) (number label : ℕ) (before behind : List Put) → record { to = from; message = messages.Release fec number } ∷ [] ≡ before ++ withdraw_to to own label ∷ behind → ⊥
-one_first from to fec own number label [] behind e =
-    let release : Put = record { to = from; message = messages.Release fec number } in
-    let same : release ≡ withdraw_to to own label = cc in
-    let message : messages.Release fec number ≡ messages.Withdraw own label = ap (λ (put : Put). put.message) same in
-    absurd cc
-one_first from to fec own number label (first ∷ before) behind e = (let rest : [] ≡ before ++ withdraw_to to own label ∷ behind = cc in none_first before behind (withdraw_to to own label) rest)
-
-no_withdraw : (place : Place) (now : ℕ) (part : LabelData) (call : Call) (before behind : List Put) (to : NodeId) (fec : Fec) (label : ℕ) → (effect place now part call).0.puts ≡ before ++ withdraw_to to fec label ∷ behind → ⊥
-no_withdraw place now part (Taken from (messages.Mapping own number)) before behind to fec label e = none_first before behind (withdraw_to to fec label) e
-no_withdraw place now part (Taken from (messages.Withdraw own number)) before behind to fec label e = one_first from to own fec number label before behind e
-no_withdraw place now part (Taken from (messages.Release own number)) before behind to fec label e = none_first before behind (withdraw_to to fec label) e
-no_withdraw place now part (Taken from (messages.Ignored kind)) before behind to fec label e = none_first before behind (withdraw_to to fec label) e
-no_withdraw place now part (Want own) before behind to fec label e = none_first before behind (withdraw_to to fec label) e
-no_withdraw place now part (Unwant own) before behind to fec label e = none_first before behind (withdraw_to to fec label) e
-no_withdraw place now part (Raised peer) before behind to fec label e = none_first before behind (withdraw_to to fec label) e
-no_withdraw place now part (Noticed peer) before behind to fec label e = none_first before behind (withdraw_to to fec label) e
-no_withdraw place now part Rerouted before behind to fec label e = none_first before behind (withdraw_to to fec label) e
-no_withdraw place now part Timers before behind to fec label e = none_first before behind (withdraw_to to fec label) e
-
 pub withdraw_is : (place : Place) (now : ℕ) (part : LabelData) (call : Call) (new : Stepped) (before behind : List Put) (to : NodeId) (fec : Fec) (label : ℕ) → label_step place now part call ≡ Some new
     → new.puts ≡ before ++ withdraw_to to fec label ∷ behind → WithdrawIs place part new.part to fec label
 withdraw_is place now part call new before behind to fec label e is =
     let start = (effect place now part call).0.part in
     let told = step_keeps place now part call new (λ p puts. Told place start p puts) (λ old puts own next more t x. turn_told place start old own next puts more t x)
     (λ old x. record { kept = x.kept; found = λ b r u f l h. (let y = x.found b r u f l h in record { was = y.was; leaves = y.leaves; off = y.off }) })
-    (record { kept = λ k f u h. inl h; found = λ b r u f l h. absurd (no_withdraw place now part call b r u f l h) }) e in
+    (record { kept = λ k f u h. inl h; found = λ b r u f l h. absurd (no_own_put place now part call b r (withdraw_to u f l) refl h) }) e in
     let f = told.found before behind to fec label is in
     record { mapped = mapped_before place now part call label fec to f.was; leaves = f.leaves; off = f.off }
 

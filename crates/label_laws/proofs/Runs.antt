@@ -1,5 +1,5 @@
 -- Each act keeps the rule and leaves all trees settled, and so does each run.
-use Rattle.std.proofs.Common.{◌≡◌, ◌≢◌, ℕ, ◌==◌, ◌&&◌, Bool, true, false, not, inl, inr, refl, sym, ap, subst, ◌∙◌, List, [], ◌∷◌, Option, Some, None, is_some, length}
+use Rattle.std.proofs.Common.{◌≡◌, ◌≢◌, ℕ, ◌==◌, ◌&&◌, Bool, true, false, not, inl, inr, refl, sym, ap, subst, ◌∙◌, List, [], ◌∷◌, Option, Some, None, is_some}
 use Rattle.std.proofs.lemmas.Bool.{cases_Bool, and_right, or_right, or_cases, and_parts, eqb-true}
 use Rattle.std.specs.Cmp.{Equal-is}
 use Rattle.std.specs.Ordering.{eq_by_cmp}

@@ -13,7 +13,7 @@ use Rattle.label_defs.specs.Settling.{Stepped}
 use Rattle.label_defs.specs.Steps as steps
 use Rattle.label_defs.specs.Steps.{Call, effect, counted, label_step, branch_to}
 use Rattle.label_defs.specs.Settled.{Settled, AllSettled, MayBe}
-use Rattle.label_defs.proofs.KeyLemmas.{node_itself, node_apart, node_cases}
+use Rattle.label_defs.proofs.KeyLemmas.{node_apart, node_cases}
 use Rattle.label_defs.proofs.OwnLemmas.{step_keeps}
 use Rattle.label_defs.proofs.StepLemmas.{step_settled}
 use Rattle.label_defs.proofs.RerouteLemmas.{rerouted_settled}

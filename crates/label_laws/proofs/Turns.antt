@@ -20,7 +20,7 @@ use Rattle.label_defs.specs.Steps.{branch_to}
 use Rattle.label_defs.proofs.KeyLemmas.{node_cases}
 use Rattle.label_defs.proofs.UseLemmas.{used, set_here, set_there}
 use Rattle.label_defs.proofs.TurnLemmas.{Turn, SameRest}
-use Rattle.label_defs.proofs.IdLemmas.{passed, passed_held, passed_raised, get_after}
+use Rattle.label_defs.proofs.IdLemmas.{passed, passed_held, passed_raised}
 use Rattle.label_laws.specs.Network.{LabelNetwork, place_of, sent, behind}
 use Rattle.label_laws.specs.Rule.{Holds, View, ViewAt, LabelCovers, Covered, Unheld, Rule, is_held, end_of, branch_trees, is_of_owner, is_release_of}
 use Rattle.label_laws.proofs.Frames.{along_view, none_to, fails_to, sent_other, sent_quiet, sent_skips, sent_passes, stand_along, covered_along, covered_if, behind_silent}

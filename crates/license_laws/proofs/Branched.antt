@@ -25,7 +25,7 @@ use Rattle.world_defs.specs.Local.{is_up_in, taken_since, MayHop}
 use Rattle.world_defs.specs.Nodes.{NodeState}
 use Rattle.world_defs.specs.Run.{Traced}
 use Rattle.world_defs.specs.World.{World, start}
-use Rattle.edge_defs.specs.Place.{Core}
+use Rattle.world_defs.specs.Costs.{Cores}
 use Rattle.rule_laws.specs.Labels.{labels_in}
 use Rattle.rule_laws.proofs.Acts.{InStep}
 use Rattle.rule_laws.proofs.Puts.{labels_both}
@@ -55,8 +55,8 @@ module _ (kind : Kind) (P : NodeId → List SessionMessage → NodeState → Typ
         heard_more kind from to (P from) (f from to) before world world (refused_step number line reason) refl refl (λ off. refl) (λ j. j) x.hears (λ d p. p) (l from to);
   }
 
-  pub all_heard_start : (scenario : Scenario) (core : Core) → AllHeard [] (start scenario core)
-  all_heard_start scenario core from to = record { up = λ j. absurd cc; heard = λ u. absurd cc; silent = λ d. (f from to).fresh [] scenario }
+  pub all_heard_start : (scenario : Scenario) (cores : Cores) → AllHeard [] (start scenario cores)
+  all_heard_start scenario cores from to = record { up = λ j. absurd cc; heard = λ u. absurd cc; silent = λ d. (f from to).fresh [] scenario }
 
 -- ---- branches
 

@@ -33,8 +33,8 @@ use Rattle.edge_defs.specs.Place.{EdgePlace, addr_of, label_place}
 use Rattle.edge_defs.specs.Steps as steps
 use Rattle.edge_defs.specs.Steps.{EdgeStepped, LabelStep, own_label_call, one_call, changed_leaves, label_row, part_after, control_step, edge_step}
 use Rattle.edge_defs.specs.Tunnels.{leaves}
-use Rattle.world_defs.specs.Nodes.{NodeState, Edge, CoreNode, Nodes, with_node, place_of, part_of}
-use Rattle.world_defs.specs.Puts.{bgp_puts, label_puts}
+use Rattle.world_defs.specs.Nodes.{NodeState, Edge, CoreNode, Nodes, with_node, place_of, part_of, label_place_of}
+use Rattle.node_defs.specs.Puts.{bgp_puts, label_puts}
 use Rattle.world_defs.specs.System.{node_called, core_called, call_of, unchanged}
 use Rattle.world_laws.proofs.Lists.{each_map, each_of}
 use Rattle.rule_laws.specs.Labels.{labels_in}
@@ -92,6 +92,7 @@ effect_fewer place now part (labels.Unwant f) from fec label ne h = h
 effect_fewer place now part (labels.Raised peer) from fec label ne h = h
 effect_fewer place now part (labels.Noticed peer) from fec label ne h = (and_parts (has part from fec label) (not (from.0 == peer.0)) (sym (retained branch_cmp_total branch_cmp_exact part.branches (λ branch. not (branch.node.0 == peer.0)) (branch_to from fec label)) ∙ h)).0
 effect_fewer place now part labels.Timers from fec label ne h = h
+effect_fewer place now part labels.Rerouted from fec label ne h = h
 
 step_fewer : (place : Place) (now : ℕ) (part : LabelData) (call : labels.Call) (new : settling.Stepped) (from : NodeId) (fec : Fec) (label : ℕ) → NotFrom from call → label_step place now part call ≡ Some new → has new.part from fec label ≡ true → has part from fec label ≡ true
 step_fewer place now part call new from fec label ne e h = effect_fewer place now part call from fec label ne (ap (λ (s : sets.FinSet branch_cmp). sets.contains s (branch_to from fec label)) (sym (same_branches place now part call new e)) ∙ h)
@@ -108,6 +109,7 @@ leaf_not from (labels.Taken n message) is = absurd is
 leaf_not from (labels.Raised peer) is = absurd is
 leaf_not from (labels.Noticed peer) is = absurd is
 leaf_not from labels.Timers is = absurd is
+leaf_not from labels.Rerouted is = absurd is
 
 changed_leaf : (old new : sets.FinSet fec_cmp) → AllByRecursion IsLeafCall (changed_leaves old new)
 changed_leaf old new =
@@ -143,13 +145,13 @@ rows_own place now from Q fewer (Some call) wants are part row e q =
     let r = row_of place now part call wants row e in
     subst (λ (x : List LabelStep). Q (part_after part x)) (sym r.parts) (fewer r.new.part (part_after r.new.part r.rest) (λ fec label h. row_fewer place now from fec label wants are r.new.part r.rest r.others h) (q r.new r.made))
 
-node_own : (nodes : Nodes) (n from : NodeId) (Q : LabelData → Type 0) → Fewer Q from → (state : NodeState) (call : steps.Call) (new : Stepped Nodes) → nodes.node n ≡ state → node_called nodes n state call ≡ Some new → Own (label_place nodes.scenario nodes.core n) nodes.clock (part_of state) (own_label_call call) Q → Q (part_of (new.state.node n))
+node_own : (nodes : Nodes) (n from : NodeId) (Q : LabelData → Type 0) → Fewer Q from → (state : NodeState) (call : steps.Call) (new : Stepped Nodes) → nodes.node n ≡ state → node_called nodes n state call ≡ Some new → Own (label_place_of nodes n) nodes.clock (part_of state) (own_label_call call) Q → Q (part_of (new.state.node n))
 node_own nodes n from Q fewer (Edge edge) call new at e q =
     let place : EdgePlace = place_of nodes n in
     let control = control_step place nodes.clock edge.control call in
     let made : EdgeStepped → Stepped Nodes = λ made. record {
       state = with_node nodes n (Edge made.edge);
-      puts = bgp_puts place edge.control made.edge.control ++ flat_map (label_puts n (addr_of nodes.scenario n) (label_place nodes.scenario nodes.core n) nodes.clock) made.row;
+      puts = bgp_puts place edge.control made.edge.control ++ flat_map (label_puts n (addr_of nodes.scenario n) (label_place_of nodes n) nodes.clock) made.row;
     } in
     let behind_row : List LabelStep → EdgeStepped = λ row. record { edge = record { control = control; part = part_after edge.part row }; row = row } in
     let wants : List labels.Call = changed_leaves (leaves place edge.control) (leaves place control) in
@@ -161,14 +163,14 @@ node_own nodes n from Q fewer (Edge edge) call new at e q =
     (subst (λ (t : Bool). Q (part_of (cond t (Edge (record { control = control; part = part_after edge.part y.0 })) (nodes.node n)))) (sym (node_itself n n refl)) there)
 node_own nodes n from Q fewer (CoreNode part) call new at e q = by (own_label_call call) e q
   where
-    by : (o : Option labels.Call) → core_called nodes n part o ≡ Some new → Own (label_place nodes.scenario nodes.core n) nodes.clock part o Q → Q (part_of (new.state.node n))
+    by : (o : Option labels.Call) → core_called nodes n part o ≡ Some new → Own (label_place_of nodes n) nodes.clock part o Q → Q (part_of (new.state.node n))
     by None e q = subst (λ (s : Stepped Nodes). Q (part_of (s.state.node n))) (same_Some (unchanged nodes) new e) (subst (λ (state : NodeState). Q (part_of state)) (sym at) q)
     by (Some own) e q =
         let made : settling.Stepped → Stepped Nodes = λ next. record {
           state = with_node nodes n (CoreNode next.part);
-          puts = label_puts n (addr_of nodes.scenario n) (label_place nodes.scenario nodes.core n) nodes.clock (record { old = part; call = own; new = next });
+          puts = label_puts n (addr_of nodes.scenario n) (label_place_of nodes n) nodes.clock (record { old = part; call = own; new = next });
         } in
-        let x = bind_some (label_step (label_place nodes.scenario nodes.core n) nodes.clock part own) (λ next. Some (made next)) new e in
+        let x = bind_some (label_step (label_place_of nodes n) nodes.clock part own) (λ next. Some (made next)) new e in
         subst (λ (s : Stepped Nodes). Q (part_of (s.state.node n))) (same_Some (made x.0) new x.2)
         (subst (λ (t : Bool). Q (part_of (cond t (CoreNode x.0.part) (nodes.node n)))) (sym (node_itself n n refl)) (q x.0 x.1))
 
@@ -198,6 +200,7 @@ own_other place now part from ms (steps.Raised kinds.Ldp peer) ne q = λ first e
 own_other place now part from ms (steps.Noticed kinds.Bgp peer) ne q = q
 own_other place now part from ms (steps.Noticed kinds.Ldp peer) ne q = λ first e fec label h. q fec label (step_fewer place now part (labels.Noticed peer) first from fec label tt e h)
 own_other place now part from ms steps.Timers ne q = λ first e fec label h. q fec label (step_fewer place now part labels.Timers first from fec label tt e h)
+own_other place now part from ms steps.Rerouted ne q = λ first e fec label h. q fec label (step_fewer place now part labels.Rerouted first from fec label tt e h)
 
 -- a message that is taken
 taken_mapped : (place : Place) (now : ℕ) (part : LabelData) (from : NodeId) (ms : List LabelMessage) (message : LabelMessage) → MappedPart from ms part → MappedPart from (ms ++ message ∷ []) (effect place now part (labels.Taken from message)).0.part
@@ -234,11 +237,11 @@ noticed_none place now part from fec label h =
 pub mapped_follower : (from to : NodeId) → Follower kinds.Ldp from to (Mapped from)
 mapped_follower from to = record {
   called = λ ms nodes state call new at other e p.
-      node_own nodes to from (MappedPart from (labels_in ms)) (fewer_mapped from (labels_in ms)) state call new at e (own_other (label_place nodes.scenario nodes.core to) nodes.clock (part_of state) from (labels_in ms) call other p);
+      node_own nodes to from (MappedPart from (labels_in ms)) (fewer_mapped from (labels_in ms)) state call new at e (own_other (label_place_of nodes to) nodes.clock (part_of state) from (labels_in ms) call other p);
   taken = λ ms nodes state message new at is e p. taken_by ms nodes state message new at is e p;
   noticed = λ nodes state new at e.
       node_own nodes to from (MappedPart from []) (fewer_mapped from []) state (steps.Noticed kinds.Ldp from) new at e (λ first made fec label h.
-      absurd (noticed_none (label_place nodes.scenario nodes.core to) nodes.clock (part_of state) from fec label (ap (λ (s : sets.FinSet branch_cmp). sets.contains s (branch_to from fec label)) (sym (same_branches (label_place nodes.scenario nodes.core to) nodes.clock (part_of state) (labels.Noticed from) first made)) ∙ h)));
+      absurd (noticed_none (label_place_of nodes to) nodes.clock (part_of state) from fec label (ap (λ (s : sets.FinSet branch_cmp). sets.contains s (branch_to from fec label)) (sym (same_branches (label_place_of nodes to) nodes.clock (part_of state) (labels.Noticed from) first made)) ∙ h)));
   fresh = λ ms scenario fec label h. (let x : true ≡ false = sym h ∙ ap (λ (d : LabelData). has d from fec label) (fresh_part scenario to) ∙ sets.contains-empty branch_cmp (branch_to from fec label) in absurd cc);
 }
   where
@@ -247,5 +250,5 @@ mapped_follower from to = record {
     taken_by ms nodes state (Label message) new at is e p =
         subst (λ (all : List LabelMessage). MappedPart from all (part_of (new.state.node to))) (sym (labels_both ms (Label message ∷ [])))
         (node_own nodes to from (MappedPart from (labels_in ms ++ message ∷ [])) (fewer_mapped from (labels_in ms ++ message ∷ [])) state (steps.Label from message) new at e (λ first made fec label h.
-        taken_mapped (label_place nodes.scenario nodes.core to) nodes.clock (part_of state) from (labels_in ms) message p fec label
-        (ap (λ (s : sets.FinSet branch_cmp). sets.contains s (branch_to from fec label)) (sym (same_branches (label_place nodes.scenario nodes.core to) nodes.clock (part_of state) (labels.Taken from message) first made)) ∙ h)))
+        taken_mapped (label_place_of nodes to) nodes.clock (part_of state) from (labels_in ms) message p fec label
+        (ap (λ (s : sets.FinSet branch_cmp). sets.contains s (branch_to from fec label)) (sym (same_branches (label_place_of nodes to) nodes.clock (part_of state) (labels.Taken from message) first made)) ∙ h)))

@@ -1,6 +1,6 @@
 -- In each run an end of a session over LDP is up exactly where the trace says so.
 use Rattle.std.specs.Prelude.{Result, Ok, Err}
-use Rattle.std.proofs.Common.{◌≡◌, ◌==◌, ◌&&◌, ◌||◌, ℕ, Bool, true, false, cond, is_some, List, [], ◌∷◌, ◌++◌, Option, Some, None, refl, sym, ap, subst, ◌∙◌}
+use Rattle.std.proofs.Common.{◌≡◌, ◌==◌, ◌&&◌, ◌||◌, ℕ, Bool, true, false, cond, is_some, option_map, List, [], ◌∷◌, ◌++◌, Option, Some, None, refl, sym, ap, subst, ◌∙◌}
 use Rattle.std.specs.FinMap as maps
 use Rattle.std.proofs.lemmas.List.{append_assoc}
 use Rattle.mv_base.specs.declared.ids.NodeId.{NodeId}
@@ -8,15 +8,16 @@ use Rattle.scenario_defs.specs.declared.event.Kind.{Kind}
 use Rattle.scenario_defs.specs.declared.event.Kind.TheVariants as kinds
 use Rattle.scenario_defs.specs.declared.scenario.Scenario.{Scenario}
 use Rattle.label_defs.specs.declared.end.End.{End}
-use Rattle.edge_defs.specs.Place.{Core}
+use Rattle.mvpn_model.specs.declared.readiness.UpEnd.{UpEnd}
+use Rattle.world_defs.specs.Costs.{Cores}
 use Rattle.edge_defs.specs.Steps as steps
 use Rattle.mvpn_model.specs.Unready.{SessionsStand}
 use Rattle.ready_laws.proofs.ActsStand as stand
 use Rattle.ready_laws.proofs.ActsStand.{WorldStands, act_stand, act_gives}
-use Rattle.ready_laws.proofs.Ends.{end_run}
+use Rattle.ready_laws.proofs.Ends.{end_run, up_in, up_end}
 use Rattle.ready_laws.proofs.Nodes.{call_stand, fresh_end}
 use Rattle.scenario_defs.specs.Kinds.{same_kind}
-use Rattle.world_defs.specs.Acts.{Act, Tick, Timers, Move, Lose, Notice, RaiseFirst, RaiseSecond, Restart, At, Enter, Land, Drop, Tell, Acted, act}
+use Rattle.world_defs.specs.Acts.{Act, Tick, Timers, Move, Lose, Notice, RaiseFirst, RaiseSecond, Restart, At, Enter, Land, Drop, Tell, SetCost, Reroute, Acted, act}
 use Rattle.world_defs.specs.Counts.{direction}
 use Rattle.world_defs.specs.Local.{is_up_after, is_up_in}
 use Rattle.world_defs.specs.Nodes.{part_of}
@@ -30,23 +31,31 @@ use Rattle.license_laws.proofs.Follows.{Keeps, stepped}
 use Rattle.license_laws.proofs.Heard.{up_next}
 
 -- the end of a node's session over LDP
-abbrev pub end_at : World → NodeId → NodeId → Option End
-end_at world n peer = maps.get (part_of (world.network.state.node n)).ends peer
+abbrev end_at : World → NodeId → NodeId → Option UpEnd
+end_at world n peer = up_in (part_of (world.network.state.node n)).ends peer
 
 abbrev pub Ending : List Traced → World → Type 0
 Ending trace world = (n peer : NodeId) → is_up_in kinds.Ldp n peer trace ≡ is_some (end_at world n peer)
 
+up_some : (o : Option End) → is_some (option_map up_end o) ≡ is_some o
+up_some None = refl
+up_some (Some end) = refl
+
+-- an end is up where the trace says so
+pub ends_as : (trace : List Traced) (world : World) → Ending trace world → (n peer : NodeId) → is_up_in kinds.Ldp n peer trace ≡ is_some (maps.get (part_of (world.network.state.node n)).ends peer)
+ends_as trace world e n peer = e n peer ∙ up_some (maps.get (part_of (world.network.state.node n)).ends peer)
+
 -- ---- one act
 
-same_both : (t : Bool) (o p : Option End) → is_some p ≡ is_some o → is_some o ≡ is_some (cond t p o)
+same_both : (t : Bool) (o p : Option UpEnd) → is_some p ≡ is_some o → is_some o ≡ is_some (cond t p o)
 same_both true o p e = sym e
 same_both false o p e = refl
 
-run_some : (life now : ℕ) (o : Option End) → is_some (end_run life now o) ≡ is_some o
+run_some : (life now : ℕ) (o : Option UpEnd) → is_some (end_run life now o) ≡ is_some o
 run_some life now None = refl
 run_some life now (Some end) = refl
 
-raises_end : (s t : Bool) (o : Option End) (new : End) → (is_some o || (s && t)) ≡ is_some (cond s (cond t (Some new) o) o)
+raises_end : (s t : Bool) (o : Option UpEnd) (new : UpEnd) → (is_some o || (s && t)) ≡ is_some (cond s (cond t (Some new) o) o)
 raises_end true true None new = refl
 raises_end true true (Some end) new = refl
 raises_end true false None new = refl
@@ -54,19 +63,19 @@ raises_end true false (Some end) new = refl
 raises_end false t None new = refl
 raises_end false t (Some end) new = refl
 
-downs_end : (s t : Bool) (o : Option End) → cond (s && t) false (is_some o) ≡ is_some (cond s (cond t None o) o)
+downs_end : (s t : Bool) (o : Option UpEnd) → cond (s && t) false (is_some o) ≡ is_some (cond s (cond t None o) o)
 downs_end true true o = refl
 downs_end true false o = refl
 downs_end false t o = refl
 
-resets_end : (s : Bool) (o : Option End) → cond s false (is_some o) ≡ is_some (cond s None o)
+resets_end : (s : Bool) (o : Option UpEnd) → cond s false (is_some o) ≡ is_some (cond s None o)
 resets_end true o = refl
 resets_end false o = refl
 
 raise_end : (kind : Kind) (a b n peer : NodeId) (scenario : Scenario) (old : SessionsStand) → (is_some (old.end kinds.Ldp n peer) || (same_kind kinds.Ldp kind && (a.0 == n.0) && (b.0 == peer.0))) ≡ is_some ((call_stand scenario a (steps.Raised kind b) old).end kinds.Ldp n peer)
 raise_end kinds.Bgp a b n peer scenario old = by (n.0 == a.0) (old.end kinds.Ldp n peer)
   where
-    by : (s : Bool) (o : Option End) → (is_some o || false) ≡ is_some (cond s o o)
+    by : (s : Bool) (o : Option UpEnd) → (is_some o || false) ≡ is_some (cond s o o)
     by true None = refl
     by true (Some end) = refl
     by false None = refl
@@ -90,6 +99,7 @@ call_end scenario m (steps.Unselect vrf pattern) old n peer world sound fit = sa
 call_end scenario m (steps.Raised kind p) old n peer world sound fit = absurd fit
 call_end scenario m (steps.Noticed kind p) old n peer world sound fit = absurd fit
 call_end scenario m steps.Timers old n peer world sound fit = same_both (n.0 == m.0) (old.end kinds.Ldp n peer) (end_run scenario.life old.clock (old.end kinds.Ldp n peer)) (run_some scenario.life old.clock (old.end kinds.Ldp n peer))
+call_end scenario m steps.Rerouted old n peer world sound fit = same_both (n.0 == m.0) (old.end kinds.Ldp n peer) (old.end kinds.Ldp n peer) refl
 
 act_end : (scenario : Scenario) (world : World) (one : Act) → SoundAct scenario one → IsFit world one → (old : SessionsStand) (n peer : NodeId) → is_up_after kinds.Ldp n peer (is_some (old.end kinds.Ldp n peer)) (Some one) ≡ is_some ((act_stand scenario one old).end kinds.Ldp n peer)
 act_end scenario world (Tick ticks) sound fit old n peer = refl
@@ -105,6 +115,8 @@ act_end scenario world (Enter vrf) sound fit old n peer = refl
 act_end scenario world (Land a b place) sound fit old n peer = refl
 act_end scenario world (Drop a b place) sound fit old n peer = refl
 act_end scenario world Tell sound fit old n peer = refl
+act_end scenario world (SetCost a b cost) sound fit old n peer = refl
+act_end scenario world (Reroute m) sound fit old n peer = refl
 
 -- ---- runs
 
@@ -139,5 +151,5 @@ ending_kept scenario = record {
   refused = λ before number world line reason k n peer. up_next kinds.Ldp n peer before (refused_step number line reason) ∙ k n peer;
 }
 
-pub ending_start : (scenario : Scenario) (core : Core) → Ending [] (start scenario core)
-ending_start scenario core n peer = ap is_some (sym (fresh_end scenario n peer))
+pub ending_start : (scenario : Scenario) (cores : Cores) → Ending [] (start scenario cores)
+ending_start scenario cores n peer = ap is_some (sym (fresh_end scenario n peer))

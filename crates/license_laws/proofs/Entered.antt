@@ -43,7 +43,7 @@ use Rattle.edge_defs.proofs.KeyLemmas.{key_total}
 use Rattle.calm_laws.proofs.Lists.{any_among, found_among}
 use Rattle.calm_laws.proofs.Maps.{entry_get}
 use Rattle.calm_laws.proofs.Tables.{peer_table}
-use Rattle.world_defs.specs.Acts.{Act, Enter, RaiseFirst, RaiseSecond, Tick, Timers, Move, Lose, Notice, Restart, At, Land, Drop, Tell, Acted, hop_line, datagram_at, enters_at, entering, act}
+use Rattle.world_defs.specs.Acts.{Act, Enter, RaiseFirst, RaiseSecond, Tick, Timers, Move, Lose, Notice, Restart, At, Land, Drop, Tell, SetCost, Reroute, Acted, hop_line, datagram_at, enters_at, entering, act}
 use Rattle.world_defs.specs.Local.{MayHop, MayEnter, EntersBy, taken_since}
 use Rattle.world_defs.specs.Nodes.{NodeState, Edge, CoreNode, place_of, part_of}
 use Rattle.world_defs.specs.Refusals.{control_of}
@@ -160,7 +160,7 @@ module _ (scenario : Scenario) (trace : List Traced) (world : World) (s : InStep
           let Fits : Branch → Type 0 = λ branch. MayEnter (scenario_of world) trace id datagram vrf.edge branch.node branch.label in
           let number : ℕ = length world.datagrams in
           let fate : Fate = entering_fate place (clock_of world) edge own datagram.site datagram.source datagram.group in
-          let fits : AllByRecursion Fits fate.branches = entered (is_from_site datagram.site (upstream_for place edge.control own datagram.source)) (is_joined_in place edge.control own datagram.source datagram.group) refl in
+          let fits : AllByRecursion Fits fate.branches = entered (is_from_site datagram.site (upstream_for place edge.control own datagram.source datagram.group)) (is_joined_in place edge.control own datagram.source datagram.group) refl in
           each_append (EntersBy (scenario_of world) trace world.datagrams id) (map (λ iface. lines.Out number iface datagram.octets) fate.outs) (map (hop_line vrf.edge 255 number) fate.branches)
           (each_map (EntersBy (scenario_of world) trace world.datagrams id) (λ iface. lines.Out number iface datagram.octets) fate.outs (each_of (λ (iface : IfaceId). Unit {0}) (λ iface. tt) fate.outs))
           (each_map (EntersBy (scenario_of world) trace world.datagrams id) (hop_line vrf.edge 255 number) fate.branches (each_weaker Fits (λ branch. EntersBy (scenario_of world) trace world.datagrams id (hop_line vrf.edge 255 number branch)) (λ branch h. (datagram, sent, h)) fate.branches fits))
@@ -215,6 +215,8 @@ step_more scenario old more before (Some (At n call)) all h = tt
 step_more scenario old more before (Some (Land a b place)) all h = tt
 step_more scenario old more before (Some (Drop a b place)) all h = tt
 step_more scenario old more before (Some Tell) all h = tt
+step_more scenario old more before (Some (SetCost a b cost)) all h = tt
+step_more scenario old more before (Some (Reroute n)) all h = tt
 
 act_enters : (scenario : Scenario) (trace : List Traced) (world : World) → InStep scenario world → Branched trace world → Tabling trace world → (one : Act) (acted : Acted) → act world one ≡ Ok acted → EnterMay scenario world.datagrams trace (Some one) acted.lines
 act_enters scenario trace world s branched tabling (Enter id) acted e =
@@ -231,6 +233,8 @@ act_enters scenario trace world s branched tabling (At n call) acted e = tt
 act_enters scenario trace world s branched tabling (Land a b place) acted e = tt
 act_enters scenario trace world s branched tabling (Drop a b place) acted e = tt
 act_enters scenario trace world s branched tabling Tell acted e = tt
+act_enters scenario trace world s branched tabling (SetCost a b cost) acted e = tt
+act_enters scenario trace world s branched tabling (Reroute n) acted e = tt
 
 pub entering_kept : (scenario : Scenario) → KeepsAlso scenario (λ trace world. (Taking trace world × Branched trace world) × Tabling trace world) (Entering scenario)
 entering_kept scenario = record {

@@ -31,16 +31,16 @@ use Rattle.session_defs.specs.Refined.{seen}
 use Rattle.session_defs.specs.declared.direction.Direction.{Direction}
 use Rattle.edge_defs.specs.Steps as steps
 use Rattle.label_laws.specs.Rule.{Kept}
-use Rattle.world_defs.specs.Acts.{Act, Tick, Timers, Move, Lose, Notice, RaiseFirst, RaiseSecond, Restart, At, Enter, Land, Drop, Tell, Acted, act}
+use Rattle.world_defs.specs.Acts.{Act, Tick, Timers, Move, Lose, Notice, RaiseFirst, RaiseSecond, Restart, At, Enter, Land, Drop, Tell, SetCost, Reroute, Acted, act}
 use Rattle.world_defs.specs.Counts.{direction, all_nodes, directions, link_ways, is_joined, is_up as is_end}
-use Rattle.world_defs.specs.Events.{Happened, Outcome, Done, Halted, and_then, one_act, row, each, times, raise_acts, is_session_of, raises, notices, turn, healed, settled, landings, drain_round, sent, at_edge, with_message, done}
+use Rattle.world_defs.specs.Events.{cost_acts, Happened, Outcome, Done, Halted, and_then, one_act, row, each, times, raise_acts, is_session_of, raises, notices, turn, healed, settled, landings, drain_round, sent, at_edge, with_message, done}
 use Rattle.mvpn_model.specs.Packets.{source_in, group_in}
 use Rattle.world_defs.specs.Refusals.{control_at, edge_of_vrf, refused_if, is_session_joined, is_selected, are_sessions_full, selection_limit, selections_at, refusal}
 use Rattle.world_defs.specs.Run.{Traced, traced, outcome, Runs}
 use Rattle.world_defs.specs.World.{World, Datagram, scenario_of}
 use Rattle.world_defs.proofs.Kept.{Gives, Comes, both_give}
 use Rattle.world_laws.specs.Sound.{SoundScenario}
-use Rattle.world_laws.specs.Honest.{IsSoundCall, IsSoundEvent}
+use Rattle.world_laws.specs.Honest.{IsCost, IsSoundCall, IsSoundEvent}
 use Rattle.world_laws.proofs.Lists.{each_of, each_map, each_flat, each_weaker}
 use Rattle.world_laws.proofs.RunActs.{SoundAct}
 use Rattle.world_laws.proofs.RunNodes.{IsNode, IsFoundNode, nodes_within, edge_within, vrf_within}
@@ -170,6 +170,14 @@ module _ (scenario : Scenario) (K : List Traced → World → Type 0) (keeps : K
 
   round_follows : (all : List Direction) → Turns K H number Keeping (each turn all)
   round_follows all = each_follows K H number leaves.whole Keeping turn all (each_of (λ over. Turns K H number Keeping (turn over)) turn_follows all)
+
+  cost_follows : (a b : NodeId) (cost : ℕ) → IsCost cost → Turns K H number Keeping (row (cost_acts scenario a b cost))
+  cost_follows a b cost is before world s k =
+      row_follows K H number leaves.whole Keeping (cost_acts scenario a b cost) (
+        fine (SetCost a b cost) is (λ old. tt),
+        each_map (Fine K H number Keeping) (λ n. Reroute n) (all_nodes scenario)
+            (each_weaker (IsNode scenario) (λ n. Fine K H number Keeping (Reroute n)) (λ n within. fine (Reroute n) within (λ old. tt)) (all_nodes scenario) (nodes_within 0 (length scenario.nodes) (length scenario.nodes) (omega arith))),
+      ) before world s k
 
   settle_follows : Turns K H number Keeping settled
   settle_follows before world s k = subst (λ (own : Scenario). Follows K H number Keeping before (and_then (row (map (λ n. Timers n) (all_nodes own)) world) (times (each turn (directions own)) (length own.nodes + 3)))) (sym s.2.base.sound.same)
@@ -316,8 +324,8 @@ done_follows K H number before world keeps leaves lines s (events.Notice kind a 
 done_follows K H number before world keeps leaves lines s (events.Raise kind a b) free sound k =
     let x = or_parts (is_end world kind a b) (is_end world kind b a) (not_refused (is_end world kind a b || is_end world kind b a) refusals.State free) in
     raise_follows (scenario_of world) K keeps H leaves number kind a b (sessions (scenario_of world)) (sessions_declared (scenario_of world) lines) before world x.0 x.1 s k
-done_follows K H number before world keeps leaves lines s (events.Join iface entry) free sound k = message_follows K H number before world keeps leaves lines (message_of (scenario_of world) (events.Join iface entry)) (join_is_sound (scenario_of world) lines iface entry sound.0 sound.1) s k
-done_follows K H number before world keeps leaves lines s (events.Prune iface entry) free sound k = message_follows K H number before world keeps leaves lines (message_of (scenario_of world) (events.Prune iface entry)) (prune_is_sound (scenario_of world) lines iface entry sound.0 sound.1) s k
+done_follows K H number before world keeps leaves lines s (events.Join iface entry) free sound k = message_follows K H number before world keeps leaves lines (message_of (scenario_of world) (events.Join iface entry)) (join_is_sound (scenario_of world) iface entry sound.1) s k
+done_follows K H number before world keeps leaves lines s (events.Prune iface entry) free sound k = message_follows K H number before world keeps leaves lines (message_of (scenario_of world) (events.Prune iface entry)) (prune_is_sound (scenario_of world) iface entry sound.1) s k
 done_follows K H number before world keeps leaves lines s (events.Pim iface octets) free sound k = message_follows K H number before world keeps leaves lines (message_of (scenario_of world) (events.Pim iface octets)) (read_is_sound iface octets sound) s k
 done_follows K H number before world keeps leaves lines s (events.Active iface source group) free sound k =
     edge_follows (scenario_of world) K keeps H leaves number (edge_of (scenario_of world) iface) (steps.Active iface source group) (edge_within (scenario_of world) lines iface) sound before world (λ n e. tt) s k
@@ -334,6 +342,7 @@ done_follows K H number before world keeps leaves lines s (events.Unselect vrf p
     edge_follows (scenario_of world) K keeps H leaves number (edge_of_vrf (scenario_of world) vrf) (steps.Unselect vrf pattern) (vrf_within (scenario_of world) lines vrf) tt before world (λ n e. tt) s k
 done_follows K H number before world keeps leaves lines s (events.Hop from to place) free sound k = lone_act (scenario_of world) K keeps H leaves number (Land from to place) tt before world (two_ends (scenario_of world) lines from to place sound) s k
 done_follows K H number before world keeps leaves lines s (events.DropCopy from to place) free sound k = lone_act (scenario_of world) K keeps H leaves number (Drop from to place) tt before world tt s k
+done_follows K H number before world keeps leaves lines s (events.Cost a b cost) free sound k = cost_follows (scenario_of world) K keeps H leaves number a b cost sound before world s k
 done_follows K H number before world keeps leaves lines s events.Heal free sound k =
     each_follows K H number leaves.whole (InStep (scenario_of world)) healed (sessions (scenario_of world))
     (each_weaker (λ t. Declared (scenario_of world) t) (λ session. Turns K H number (InStep (scenario_of world)) (healed session)) (λ session declared. healed_follows (scenario_of world) K keeps H leaves number session declared) (sessions (scenario_of world)) (sessions_declared (scenario_of world) lines)) before world s k

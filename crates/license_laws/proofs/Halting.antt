@@ -6,8 +6,8 @@ use Rattle.scenario_defs.specs.declared.event.Script.{Script}
 use Rattle.scenario_defs.specs.declared.report.ReportLine.{ReportLine}
 use Rattle.scenario_defs.specs.declared.scenario.Scenario.{Scenario}
 use Rattle.mvpn_model.specs.Report.{Entry}
-use Rattle.edge_defs.specs.Place.{Core}
-use Rattle.world_defs.specs.Acts.{Act, Tick, Timers, Move, Lose, Notice, RaiseFirst, RaiseSecond, Restart, At, Enter, Land, Drop, Tell}
+use Rattle.world_defs.specs.Costs.{Cores}
+use Rattle.world_defs.specs.Acts.{Act, Tick, Timers, Move, Lose, Notice, RaiseFirst, RaiseSecond, Restart, At, Enter, Land, Drop, Tell, SetCost, Reroute}
 use Rattle.world_defs.specs.Events.{Happened}
 use Rattle.world_defs.specs.Local.{goes_on, IsLicensed, TakesWhatWasPut, Local}
 use Rattle.world_defs.specs.Run.{Traced, traced}
@@ -53,6 +53,8 @@ quiet_licensed scenario datagrams before (Some (Restart n)) all p s = s
 quiet_licensed scenario datagrams before (Some (At n call)) all p s = s
 quiet_licensed scenario datagrams before (Some (Drop a b place)) all p s = s
 quiet_licensed scenario datagrams before (Some Tell) all p s = s
+quiet_licensed scenario datagrams before (Some (SetCost a b cost)) all p s = s
+quiet_licensed scenario datagrams before (Some (Reroute n)) all p s = s
 
 -- a step of two traces is one of the first, or is as each of the second
 of_either : (Q : Traced → Type 0) (first more front after : List Traced) (step : Traced) → first ++ more ≡ front ++ step ∷ after → AllByRecursion Q more → ((rest : List Traced) × (first ≡ front ++ step ∷ rest)) ⊎ Q step
@@ -68,20 +70,20 @@ of_either Q (own ∷ first) more (other ∷ front) after step e all =
 
 -- ---- runs that halt
 
-pub halt_is_local : (core : Core) (script : Script) (report : List Entry) (node : NodeId) (s : SoundHalt core script report node) → Local s.halt.world (s.halt.trace ++ traced (length s.halt.before) s.halt.acts)
-halt_is_local core script report node s = record {
+pub halt_is_local : (cores : Cores) (script : Script) (report : List Entry) (node : NodeId) (s : SoundHalt cores script report node) → Local s.halt.world (s.halt.trace ++ traced (length s.halt.before) s.halt.acts)
+halt_is_local cores script report node s = record {
   takes =
       halt_leaves script.scenario Taking TakesWhatWasPut (taking_kept script.scenario) (takes_left script.scenario) (length s.halt.before) s.halt.trace s.halt.world
-      (run_in_step script.scenario core s.halt.before s.halt.trace s.halt.world s.scenario run.sound_events s.halt.run) s.halt.timed (event_sound core script report node s)
-      (run_takes script.scenario core s.halt.before s.halt.trace s.halt.world s.scenario run.sound_events s.halt.run (start_in_step script.scenario core s.scenario)) s.halt.acts node s.halt.lacks;
+      (run_in_step script.scenario cores s.halt.before s.halt.trace s.halt.world s.scenario run.sound_events s.halt.run) s.halt.timed (event_sound cores script report node s)
+      (run_takes script.scenario cores s.halt.before s.halt.trace s.halt.world s.scenario run.sound_events s.halt.run (start_in_step script.scenario cores s.scenario)) s.halt.acts node s.halt.lacks;
   licensed = λ front after step e. elim (of_either IsStill s.halt.trace (traced number s.halt.acts) front after step e still) [
     | inl (rest, same) ↦ before.licensed front rest step same
     | inr quiet ↦ quiet_licensed (scenario_of s.halt.world) s.halt.world.datagrams front step.happened.act step.happened.lines quiet.plain (none_goes_on step.happened.lines quiet.lines)
   ];
 }
   where
-    run : SoundRun core script s.halt.before s.halt.trace s.halt.world
-    run = run_before core script report node s
+    run : SoundRun cores script s.halt.before s.halt.trace s.halt.world
+    run = run_before cores script report node s
 
     number : ℕ
     number = length s.halt.before
@@ -90,7 +92,7 @@ halt_is_local core script report node s = record {
     IsStill step = IsQuiet step.happened
 
     still : AllByRecursion IsStill (traced number s.halt.acts)
-    still = each_map IsStill (λ happened. record { event = number; happened = happened }) s.halt.acts (acts_quiet core script report node s)
+    still = each_map IsStill (λ happened. record { event = number; happened = happened }) s.halt.acts (acts_quiet cores script report node s)
 
     before : Local s.halt.world s.halt.trace
-    before = run_is_local script.scenario core s.halt.before s.halt.trace s.halt.world s.scenario run.sound_events s.halt.run
+    before = run_is_local script.scenario cores s.halt.before s.halt.trace s.halt.world s.scenario run.sound_events s.halt.run

@@ -23,12 +23,12 @@ use Rattle.session_defs.specs.System.{Stepped, Behind, with_earlier}
 use Rattle.session_defs.specs.declared.direction.Direction.{Direction}
 use Rattle.session_defs.proofs.Lines.{direction_is}
 use Rattle.edge_defs.specs.Steps as steps
-use Rattle.world_defs.specs.Acts.{Act, Tick, Timers, Move, Lose, Notice, RaiseFirst, RaiseSecond, Restart, At, Enter, Land, Drop, Tell, Acted, with_network, at_node, put_lines, with_aged, aged, is_of_session, is_from_peer, is_at, leads_to, act}
+use Rattle.world_defs.specs.Acts.{Act, Tick, Timers, Move, Lose, Notice, RaiseFirst, RaiseSecond, Restart, At, Enter, Land, Drop, Tell, SetCost, Reroute, Acted, with_network, at_node, put_lines, with_aged, aged, is_of_session, is_from_peer, is_at, leads_to, act}
 use Rattle.world_defs.specs.Counts.{direction, directions}
 use Rattle.world_defs.specs.Local.{is_up_after, is_up_in, taken_by, taken_since}
 use Rattle.world_defs.specs.Nodes.{NodeState, Nodes, with_node, fresh_node}
 use Rattle.world_defs.specs.Run.{Traced}
-use Rattle.world_defs.specs.System.{NodeCall, Own, Elapse, Reset, system}
+use Rattle.world_defs.specs.System.{NodeCall, Own, Elapse, Reset, Price, Follow, system}
 use Rattle.world_defs.specs.World.{World, scenario_of}
 use Rattle.world_defs.proofs.Kept.{enter_keeps, land_keeps}
 use Rattle.world_laws.specs.Honest.{IsSoundCall}
@@ -71,6 +71,7 @@ sound_own (steps.Unselect vrf pattern) s = tt
 sound_own (steps.Raised kind peer) s = tt
 sound_own (steps.Noticed kind peer) s = tt
 sound_own steps.Timers s = tt
+sound_own steps.Rerouted s = absurd s
 
 module _ (kind : Kind) (from to : NodeId) (P : List SessionMessage → NodeState → Type 0) (f : Follower kind from to P) where
   -- What a node keeps of a neighbour, by the trace: what it took since the last raise, while its end is up, and nothing otherwise.
@@ -329,3 +330,6 @@ module _ (kind : Kind) (from to : NodeId) (P : List SessionMessage → NodeState
         still_heard (Land a b place) acted fit e refl (said_of IsOtherLine (act world (Land a b place)) acted (land_other world a b place) e) (given_by (λ new. new.network ≡ world.network) (act world (Land a b place)) acted (land_keeps (λ net. net ≡ world.network) world a b place refl) e)
     single_heard (Drop a b place) acted sound fit e = still_heard (Drop a b place) acted tt e refl (said_of IsOtherLine (act world (Drop a b place)) acted tt e) (given_by (λ new. new.network ≡ world.network) (act world (Drop a b place)) acted refl e)
     single_heard Tell acted sound fit e = still_heard Tell acted tt e refl (said_of IsOtherLine (act world Tell) acted (tt, tt) e) (given_by (λ new. new.network ≡ world.network) (act world Tell) acted refl e)
+    single_heard (SetCost a b cost) acted sound fit e =
+        by_effect (SetCost a b cost) acted tt e refl (tame_effect kind from to P f world a (octets.Call (Price a b cost) ∷ []) acted (tt, tt) e)
+    single_heard (Reroute n) acted sound fit e = by_effect (Reroute n) acted tt e refl (tame_effect kind from to P f world n (octets.Call (Follow n) ∷ []) acted (tt, tt) e)

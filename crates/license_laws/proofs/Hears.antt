@@ -28,9 +28,9 @@ use Rattle.edge_defs.specs.Steps as steps
 use Rattle.edge_defs.specs.Steps.{EdgeStepped, edge_step, own_label_call}
 use Rattle.world_defs.specs.Counts.{direction}
 use Rattle.world_laws.proofs.Lists.{each_append}
-use Rattle.world_defs.specs.Nodes.{NodeState, Edge, CoreNode, Nodes, with_node, fresh_node, place_of}
-use Rattle.world_defs.specs.Puts.{bgp_puts, label_puts}
-use Rattle.world_defs.specs.System.{NodeCall, Own, Elapse, Reset, node_called, core_called, call_of, system}
+use Rattle.world_defs.specs.Nodes.{NodeState, Edge, CoreNode, Nodes, with_node, fresh_node, following, place_of, label_place_of}
+use Rattle.node_defs.specs.Puts.{bgp_puts, label_puts}
+use Rattle.world_defs.specs.System.{NodeCall, Own, Elapse, Reset, Price, Follow, node_called, core_called, call_of, system}
 
 -- ---- calls
 
@@ -69,6 +69,8 @@ own_other kinds.Bgp from (steps.Noticed k peer) own = tt
 own_other kinds.Ldp from (steps.Noticed k peer) own = tt
 own_other kinds.Bgp from steps.Timers own = tt
 own_other kinds.Ldp from steps.Timers own = tt
+own_other kinds.Bgp from steps.Rerouted own = tt
+own_other kinds.Ldp from steps.Rerouted own = tt
 
 -- the message is one of the kind
 abbrev pub IsOfKind : Kind → SessionMessage → Type 0
@@ -90,7 +92,7 @@ called_elsewhere nodes n m (Edge edge) call ne = by (edge_step (place_of nodes n
   where
     by : (o : Option EdgeStepped) → StaysAt nodes m (o >>? λ new. Some (record {
       state = with_node nodes n (Edge new.edge);
-      puts = bgp_puts (place_of nodes n) edge.control new.edge.control ++ flat_map (label_puts n (addr_of nodes.scenario n) (label_place nodes.scenario nodes.core n) nodes.clock) new.row;
+      puts = bgp_puts (place_of nodes n) edge.control new.edge.control ++ flat_map (label_puts n (addr_of nodes.scenario n) (label_place_of nodes n) nodes.clock) new.row;
     }))
     by None = tt
     by (Some new) = elsewhere nodes n m (Edge new.edge) ne
@@ -98,11 +100,11 @@ called_elsewhere nodes n m (CoreNode part) call ne = by (own_label_call call)
   where
     by : (o : Option labels.Call) → StaysAt nodes m (core_called nodes n part o)
     by None = refl
-    by (Some own) = step own (label_step (label_place nodes.scenario nodes.core n) nodes.clock part own)
+    by (Some own) = step own (label_step (label_place_of nodes n) nodes.clock part own)
       where
         step : (own : labels.Call) (o : Option settling.Stepped) → StaysAt nodes m (o >>? λ new. Some (record {
           state = with_node nodes n (CoreNode new.part);
-          puts = label_puts n (addr_of nodes.scenario n) (label_place nodes.scenario nodes.core n) nodes.clock (record { old = part; call = own; new = new });
+          puts = label_puts n (addr_of nodes.scenario n) (label_place_of nodes n) nodes.clock (record { old = part; call = own; new = new });
         }))
         step own None = tt
         step own (Some new) = elsewhere nodes n m (CoreNode new.part) ne
@@ -148,6 +150,8 @@ module _ (kind : Kind) (from to : NodeId) (P : List SessionMessage → NodeState
   pub call_has : (ms : List SessionMessage) (nodes : Nodes) (call : NodeCall) → IsOwn call → P ms (nodes.node to) → StateHas ms (system.called call nodes)
   call_has ms nodes (Own n call) own p = node_has ms nodes n call (λ e. own_other kind from call own) p
   call_has ms nodes (Elapse ticks) own p = p
+  call_has ms nodes (Price a b cost) own p = p
+  call_has ms nodes (Follow n) own p = node_has ms (following nodes n) n steps.Rerouted (λ e. own_other kind from steps.Rerouted tt) p
   call_has ms nodes (Reset n) own p = elim (node_cases to n) [
     | inl same ↦ subst (λ (m : NodeId). P ms ((with_node nodes m (fresh_node nodes.scenario m)).node to)) same (subst (P ms) (sym (ap (λ (t : Bool). cond t (fresh_node nodes.scenario to) (nodes.node to)) (node_itself to to refl))) (f.fresh ms nodes.scenario))
     | inr ne ↦ subst (P ms) (sym (elsewhere nodes n to (fresh_node nodes.scenario n) ne)) p

@@ -27,13 +27,13 @@ use Rattle.edge_defs.specs.Place.{EdgePlace, OwnVrf}
 use Rattle.edge_defs.specs.Steps as steps
 use Rattle.edge_defs.specs.Tunnels.{transmit_tunnel, is_joined_in}
 use Rattle.edge_defs.specs.Upstream.{upstream_for}
-use Rattle.world_defs.specs.Acts.{Act, Tick, Timers, Move, Lose, Notice, RaiseFirst, RaiseSecond, Restart, At, Enter, Land, Drop, Tell, Acted, with_network, at_node, put_line, put_lines, with_aged, is_of_session, is_from_peer, is_at, leads_to, hop_line, fated, datagram_at, enters_at, entering, fate_at, with_ttl, landed, without_copy, landing, act}
+use Rattle.world_defs.specs.Acts.{Act, Tick, Timers, Move, Lose, Notice, RaiseFirst, RaiseSecond, Restart, At, Enter, Land, Drop, Tell, SetCost, Reroute, Acted, with_network, at_node, put_line, put_lines, with_aged, is_of_session, is_from_peer, is_at, leads_to, hop_line, fated, datagram_at, enters_at, entering, fate_at, with_ttl, landed, without_copy, landing, act}
 use Rattle.world_defs.specs.Counts.{direction, directions}
 use Rattle.world_defs.specs.LabelRule.{part_at}
 use Rattle.world_defs.specs.Local.{goes_on}
 use Rattle.world_defs.specs.Nodes.{NodeState, Edge, CoreNode, Nodes, place_of, part_of}
 use Rattle.world_defs.specs.Run.{Traced}
-use Rattle.world_defs.specs.System.{Own, Elapse, Reset, system}
+use Rattle.world_defs.specs.System.{Own, Elapse, Reset, Price, Follow, system}
 use Rattle.world_defs.specs.World.{World, Datagram, LinkCopy, scenario_of, clock_of}
 use Rattle.world_laws.proofs.Lists.{each_append, each_flat, each_of, each_map, each_weaker, each_filtered}
 use Rattle.rule_laws.proofs.Outs.{Says, said_of}
@@ -83,6 +83,8 @@ plain_stays (Enter vrf) plain world = absurd plain
 plain_stays (Land from to place) plain world = absurd plain
 plain_stays (Drop from to place) plain world = tt
 plain_stays Tell plain world = (refl, tt)
+plain_stays (SetCost a b cost) plain world = network_stays world [] (octet_run system world.network (octets.Call (Price a b cost) ∷ [])) a tt
+plain_stays (Reroute n) plain world = network_stays world [] (octet_run system world.network (octets.Call (Follow n) ∷ [])) n tt
 
 -- ---- branches
 
@@ -146,7 +148,7 @@ module _ (trace : List Traced) (world : World) (all : Branched trace world) wher
           let place : EdgePlace = place_of world.network.state vrf.edge in
           fated_hops world vrf.edge 255 (length world.datagrams) datagram.octets [] (entering_fate place (clock_of world) edge own datagram.site datagram.source datagram.group) tt
           (subst (λ (s : NodeState). AllByRecursion (IsBranch (part_of s)) (entering_fate place (clock_of world) edge own datagram.site datagram.source datagram.group).branches) (sym is)
-          (entered (is_from_site datagram.site (upstream_for place edge.control own datagram.source)) (is_joined_in place edge.control own datagram.source datagram.group)))
+          (entered (is_from_site datagram.site (upstream_for place edge.control own datagram.source datagram.group)) (is_joined_in place edge.control own datagram.source datagram.group)))
         where
           entered : (t j : Bool) → AllByRecursion (IsBranch edge.part) (cond {A = Fate} t (record {
             outs = filter (is_outside (scenario_of world) datagram.site) (asking_ifaces (place_of world.network.state vrf.edge) (clock_of world) edge.control (record { id = id; vrf = vrf }) datagram.source datagram.group);
@@ -193,6 +195,8 @@ act_hops trace world all one acted e = by one e
     by (At n call) e = plain (At n call) tt e
     by (Drop a b place) e = plain (Drop a b place) tt e
     by Tell e = plain Tell tt e
+    by (SetCost a b cost) e = plain (SetCost a b cost) tt e
+    by (Reroute n) e = plain (Reroute n) tt e
 
 abbrev pub Hopping : List Traced → World → Type 0
 Hopping trace world = HopsMay trace

@@ -42,7 +42,7 @@ use Rattle.calm_laws.proofs.Lists.{any_among}
 use Rattle.calm_laws.proofs.Maps.{entry_get}
 use Rattle.calm_laws.proofs.Tables.{peer_table}
 use Rattle.calm_laws.proofs.Vrfs.{own_at, own_edge}
-use Rattle.world_defs.specs.Acts.{Act, Tick, Timers, Move, Lose, Notice, RaiseFirst, RaiseSecond, Restart, At, Enter, Land, Drop, Tell, Acted, hop_line, datagram_at, fate_at, with_ttl, landed, without_copy, landing, act}
+use Rattle.world_defs.specs.Acts.{Act, Tick, Timers, Move, Lose, Notice, RaiseFirst, RaiseSecond, Restart, At, Enter, Land, Drop, Tell, SetCost, Reroute, Acted, hop_line, datagram_at, fate_at, with_ttl, landed, without_copy, landing, act}
 use Rattle.world_defs.specs.LabelRule.{part_at}
 use Rattle.world_defs.specs.Local.{goes_on, is_up_in, put_since, MayHop, HopsOf, MayDeliver, OutsOf, MayLand}
 use Rattle.world_defs.specs.Nodes.{NodeState, Edge, CoreNode, place_of, part_of}
@@ -61,7 +61,7 @@ use Rattle.label_laws.specs.Rule.{is_held, end_of}
 use Rattle.rule_laws.proofs.Acts.{IsFit}
 use Rattle.rule_laws.proofs.Outs.{mapped_towards, said_of}
 use Rattle.license_laws.specs.Lands.{LandMay, LandsMay}
-use Rattle.license_laws.proofs.Ending.{Ending}
+use Rattle.license_laws.proofs.Ending.{Ending, ends_as}
 use Rattle.license_laws.proofs.Heard.{nothing_waits}
 use Rattle.license_laws.proofs.Said.{Said}
 use Rattle.license_laws.proofs.Also.{KeepsAlso, each_next, refused_step}
@@ -164,13 +164,13 @@ module _ (trace : List Traced) (world : World) (branched : Branched trace world)
 
       from_peer : (own : OwnVrf) → Among own (own_vrfs (place_of world.network.state n)) → (peer : NodeId × Taken) → Among peer (maps.entries edge.control.peers)
           → AllByRecursion (λ iface. MayDeliver (scenario_of world) trace n fec iface) (outs_from (place_of world.network.state n) now edge.control own fec source group peer)
-      from_peer own a peer b = at (is_imported_from (place_of world.network.state n) own fec peer && is_from_edge peer.0 (upstream_for (place_of world.network.state n) edge.control own source)) refl
+      from_peer own a peer b = at (is_imported_from (place_of world.network.state n) own fec peer && is_from_edge peer.0 (upstream_for (place_of world.network.state n) edge.control own source group)) refl
         where
-          at : (c : Bool) → (is_imported_from (place_of world.network.state n) own fec peer && is_from_edge peer.0 (upstream_for (place_of world.network.state n) edge.control own source)) ≡ c
+          at : (c : Bool) → (is_imported_from (place_of world.network.state n) own fec peer && is_from_edge peer.0 (upstream_for (place_of world.network.state n) edge.control own source group)) ≡ c
               → AllByRecursion (λ iface. MayDeliver (scenario_of world) trace n fec iface) (cond c (asking_ifaces (place_of world.network.state n) now edge.control own source group) [])
           at false e = tt
           at true e =
-              let imported = (and_parts (is_imported_from place own fec peer) (is_from_edge peer.0 (upstream_for place edge.control own source)) e).0 in
+              let imported = (and_parts (is_imported_from place own fec peer) (is_from_edge peer.0 (upstream_for place edge.control own source group)) e).0 in
               let entry = any_among (is_route_of place own peer.0 fec) (maps.entries peer.1) imported in
               let table : taken_from edge.control peer.0 ≡ peer.1 = peer_table edge.control peer.0 peer.1 b in
               let held : maps.get (taken_from edge.control peer.0) entry.0.0 ≡ Some entry.0.1 = ap (λ (m : Taken). maps.get m entry.0.0) table ∙ entry_get key_total peer.1 entry.0.0 entry.0.1 entry.1 in
@@ -300,13 +300,15 @@ land_fit world (At n call) fit = tt
 land_fit world (Enter vrf) fit = tt
 land_fit world (Drop a b place) fit = tt
 land_fit world Tell fit = tt
+land_fit world (SetCost a b cost) fit = tt
+land_fit world (Reroute n) fit = tt
 
 -- a label that is mapped was put, and the end is up
 knows_label : (scenario : Scenario) (trace : List Traced) (world : World) → InStep scenario world → Branched trace world → Tabling trace world → Ending trace world → Said scenario trace world → (a b : NodeId) → a ≢ b → (label : ℕ) (fec : Fec) → use_of (part_at world b) label ≡ Some (uses.Mapped fec a)
     → (is_up_in kinds.Ldp b a trace ≡ true) × HasLabel (put_since kinds.Ldp b a trace) fec label
 knows_label scenario trace world s branched tabling ending said a b ne label fec e =
     let held = ((s.2.kept []).rule.view a b label ne).owner fec (inl e) in
-    let up : is_up_in kinds.Ldp b a trace ≡ true = ending b a ∙ held_some (end_of (part_at world b) a) held in
+    let up : is_up_in kinds.Ldp b a trace ≡ true = ends_as trace world ending b a ∙ held_some (end_of (part_at world b) a) held in
     let x = said b a up in
     (up, has_label (put_since kinds.Ldp b a trace) x.units [] fec label x.each (x.parts ∙ sym (append-nil (octets_of x.units))) (nothing_waits kinds.Ldp) (x.says.mapped fec label e))
   where
@@ -334,6 +336,8 @@ act_lands scenario trace world s branched tabling ending said one acted fit e = 
     by (At n call) fit e = plain (At n call) tt e
     by (Drop a b place) fit e = plain (Drop a b place) tt e
     by Tell fit e = plain Tell tt e
+    by (SetCost a b cost) fit e = plain (SetCost a b cost) tt e
+    by (Reroute n) fit e = plain (Reroute n) tt e
 
 abbrev pub LandStep : Scenario → List Traced → Traced → Type 0
 LandStep scenario before step = LandMay scenario before step.happened.act step.happened.lines

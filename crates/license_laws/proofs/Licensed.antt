@@ -3,7 +3,7 @@ use Rattle.std.proofs.Common.{List, []}
 use Rattle.std.specs.List.{AllByRecursion}
 use Rattle.scenario_defs.specs.declared.event.Timed.{Timed}
 use Rattle.scenario_defs.specs.declared.scenario.Scenario.{Scenario}
-use Rattle.edge_defs.specs.Place.{Core}
+use Rattle.world_defs.specs.Costs.{Cores}
 use Rattle.world_defs.specs.Run.{Traced, Runs}
 use Rattle.world_defs.specs.World.{World, start}
 use Rattle.world_laws.specs.Honest.{IsSoundEvent}
@@ -61,7 +61,7 @@ entered_kept scenario =
 all_kept : (scenario : Scenario) → Keeps scenario (Kept scenario)
 all_kept scenario = keeps_also scenario (Entered scenario) (Landing scenario) (entered_kept scenario) (also_under scenario (Entered scenario) (λ trace world. Heeds trace world × (Ending trace world × Said scenario trace world)) (Landing scenario) (λ trace world k. (k.0.0.0, k.0.0.1)) (landing_kept scenario))
 
-pub run_kept : (scenario : Scenario) (core : Core) (all : List Timed) (trace : List Traced) (new : World) → SoundScenario scenario → AllByRecursion (λ timed. IsSoundEvent scenario timed.event) all → Runs (start scenario core) 0 all trace new → Kept scenario trace new
-run_kept scenario core all trace new lines sound run =
-    runs_follow scenario (Kept scenario) (all_kept scenario) all sound [] (start scenario core) 0 trace new (start_in_step scenario core lines)
-    ((((((taking_start scenario core, all_heard_start kinds.Ldp Mapped mapped_follower scenario core), all_heard_start kinds.Bgp Tabled tabled_follower scenario core), (ending_start scenario core, λ from to up. absurd cc)), each_none HopStep), each_none (EnterStep scenario [])), each_none (LandStep scenario)) run
+pub run_kept : (scenario : Scenario) (cores : Cores) (all : List Timed) (trace : List Traced) (new : World) → SoundScenario scenario → AllByRecursion (λ timed. IsSoundEvent scenario timed.event) all → Runs (start scenario cores) 0 all trace new → Kept scenario trace new
+run_kept scenario cores all trace new lines sound run =
+    runs_follow scenario (Kept scenario) (all_kept scenario) all sound [] (start scenario cores) 0 trace new (start_in_step scenario cores lines)
+    ((((((taking_start scenario cores, all_heard_start kinds.Ldp Mapped mapped_follower scenario cores), all_heard_start kinds.Bgp Tabled tabled_follower scenario cores), (ending_start scenario cores, λ from to up. absurd cc)), each_none HopStep), each_none (EnterStep scenario [])), each_none (LandStep scenario)) run

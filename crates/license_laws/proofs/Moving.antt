@@ -19,12 +19,12 @@ use Rattle.session_defs.specs.Octets.{octet_run}
 use Rattle.edge_defs.specs.Datagrams.{Fate, entering_fate}
 use Rattle.edge_defs.specs.Place.{OwnVrf}
 use Rattle.edge_defs.specs.Steps as steps
-use Rattle.world_defs.specs.Acts.{Act, Tick, Timers, Move, Lose, Notice, RaiseFirst, RaiseSecond, Restart, At, Enter, Land, Drop, Tell, Acted, at_node, with_aged, aged, is_of_session, is_from_peer, is_at, leads_to, hop_line, fated, datagram_at, enters_at, entering, fate_at, with_ttl, landed, without_copy, landing, act}
+use Rattle.world_defs.specs.Acts.{Act, Tick, Timers, Move, Lose, Notice, RaiseFirst, RaiseSecond, Restart, At, Enter, Land, Drop, Tell, SetCost, Reroute, Acted, at_node, with_aged, aged, is_of_session, is_from_peer, is_at, leads_to, hop_line, fated, datagram_at, enters_at, entering, fate_at, with_ttl, landed, without_copy, landing, act}
 use Rattle.mvpn_model.specs.Sessions.{is_between}
 use Rattle.world_defs.specs.Counts.{direction}
 use Rattle.world_defs.specs.Local.{put_by, taken_by}
 use Rattle.world_defs.specs.Nodes.{NodeState, Edge, CoreNode, place_of}
-use Rattle.world_defs.specs.System.{NodeCall, Own, Elapse, Reset, system}
+use Rattle.world_defs.specs.System.{NodeCall, Own, Elapse, Reset, Price, Follow, system}
 use Rattle.world_defs.specs.World.{World, Datagram, LinkCopy, scenario_of, clock_of}
 use Rattle.world_defs.proofs.Kept.{Gives, enter_keeps, land_keeps}
 use Rattle.world_laws.proofs.Lists.{each_append, each_of, each_map}
@@ -163,6 +163,8 @@ module _ (kind : Kind) (from to : NodeId) where
   single_moves world (Drop a b place) acted fit idle e =
       copy_moves world acted.world acted.lines (said_of IsOther (act world (Drop a b place)) acted tt e) (given_by (λ new. new.network ≡ world.network) (act world (Drop a b place)) acted refl e) (idle kind from to)
   single_moves world Tell acted fit idle e = copy_moves world acted.world acted.lines (said_of IsOther (act world Tell) acted (tt, tt) e) (given_by (λ new. new.network ≡ world.network) (act world Tell) acted refl e) (idle kind from to)
+  single_moves world (SetCost a b cost) acted fit idle e = quiet_moves world a (octets.Call (Price a b cost) ∷ []) acted (tt, tt) (idle kind from to) e
+  single_moves world (Reroute n) acted fit idle e = quiet_moves world n (octets.Call (Follow n) ∷ []) acted (tt, tt) (idle kind from to) e
 
   pub single_hits : (number : ℕ) (world : World) (one : Act) (acted : Acted) → IsFit world one → hit kind from to (stepped number one acted) ≡ false
   single_hits number world (Tick ticks) acted fit = refl
@@ -178,3 +180,5 @@ module _ (kind : Kind) (from to : NodeId) where
   single_hits number world (Land a b place) acted fit = refl
   single_hits number world (Drop a b place) acted fit = refl
   single_hits number world Tell acted fit = refl
+  single_hits number world (SetCost a b cost) acted fit = refl
+  single_hits number world (Reroute n) acted fit = refl

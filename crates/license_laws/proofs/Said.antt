@@ -23,13 +23,13 @@ use Rattle.session_defs.specs.Octets.{OctetNetwork, octet_run}
 use Rattle.session_defs.specs.System.{Put, Behind, octets_over}
 use Rattle.session_defs.proofs.Lines.{are_spelled, are_both, sent_over}
 use Rattle.edge_defs.specs.Steps as steps
-use Rattle.world_defs.specs.Acts.{Act, Tick, Timers, Move, Lose, Notice, RaiseFirst, RaiseSecond, Restart, At, Enter, Land, Drop, Tell, Acted, with_network, at_node, put_lines, with_aged, aged, is_of_session, is_from_peer, is_at, leads_to, act}
+use Rattle.world_defs.specs.Acts.{Act, Tick, Timers, Move, Lose, Notice, RaiseFirst, RaiseSecond, Restart, At, Enter, Land, Drop, Tell, SetCost, Reroute, Acted, with_network, at_node, put_lines, with_aged, aged, is_of_session, is_from_peer, is_at, leads_to, act}
 use Rattle.mvpn_model.specs.Sessions.{is_between}
 use Rattle.world_defs.specs.Counts.{direction, directions, is_up as is_end}
 use Rattle.world_defs.specs.Local.{put_by, is_up_after, is_up_in, put_since}
 use Rattle.world_defs.specs.Nodes.{part_of, Nodes}
 use Rattle.world_defs.specs.Run.{Traced}
-use Rattle.world_defs.specs.System.{NodeCall, Own, Elapse, Reset, system}
+use Rattle.world_defs.specs.System.{NodeCall, Own, Elapse, Reset, Price, Follow, system}
 use Rattle.world_defs.specs.World.{World, scenario_of}
 use Rattle.world_defs.proofs.Kept.{enter_keeps, land_keeps}
 use Rattle.world_laws.specs.Sound.{Sound}
@@ -157,6 +157,8 @@ module _ (scenario : Scenario) (from to : NodeId) where
       still_speaks world acted.world acted.lines s.2.base.sound (given_by (λ new. new.network ≡ world.network) (act world (Drop a b place)) acted refl e) (others_silent kinds.Ldp from to acted.lines (said_of IsOtherLine (act world (Drop a b place)) acted tt e)).0
   single_speaks world Tell acted s sound fit e =
       still_speaks world acted.world acted.lines s.2.base.sound (given_by (λ new. new.network ≡ world.network) (act world Tell) acted refl e) (others_silent kinds.Ldp from to acted.lines (said_of IsOtherLine (act world Tell) acted (tt, tt) e)).0
+  single_speaks world (SetCost a b cost) acted s sound fit e = acts_speak world a (octets.Call (Price a b cost) ∷ []) acted s.2.base.sound (sound, tt) e
+  single_speaks world (Reroute n) acted s sound fit e = acts_speak world n (octets.Call (Follow n) ∷ []) acted s.2.base.sound (sound, tt) e
 
   down_up : (t b : Bool) → cond t false b ≡ true → b ≡ true
   down_up true b e = absurd cc
@@ -176,6 +178,8 @@ module _ (scenario : Scenario) (from to : NodeId) where
   up_before world (Land u n place) fit b e = e
   up_before world (Drop u n place) fit b e = e
   up_before world Tell fit b e = e
+  up_before world (SetCost u n cost) fit b e = e
+  up_before world (Reroute n) fit b e = e
 
   -- what is so where the end is up
   abbrev pub SaidAt : List Traced → World → Type 0
@@ -192,7 +196,6 @@ module _ (scenario : Scenario) (from to : NodeId) where
 
   nothing_said : (world : World) → InStep scenario world → from ≢ to → is_end world kinds.Ldp from to ≡ false → Says to [] (part_of (world.network.state.node from))
   nothing_said world s ne off = record {
-    ids = s.2.base.ids from;
     mapped = λ fec label e.
         let held = ((s.2.kept []).rule.view to from label (λ same. ne (sym same))).owner fec (inl e) in
         let x : true ≡ false = sym (held_up (end_of (part_of (world.network.state.node from)) to) held) ∙ off in absurd cc;

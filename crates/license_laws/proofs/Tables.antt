@@ -31,8 +31,8 @@ use Rattle.edge_defs.specs.Steps as steps
 use Rattle.edge_defs.specs.Steps.{EdgeStepped, LabelStep, learned, taken_change, with_update, effect, is_vrf_step, refreshed, control_step, own_label_call, one_call, changed_leaves, label_row, part_after, edge_step}
 use Rattle.edge_defs.specs.Tunnels.{leaves}
 use Rattle.edge_laws.proofs.Taken.{run_at, get-peers_run, table_in, run_taken}
-use Rattle.world_defs.specs.Nodes.{NodeState, Edge, CoreNode, Nodes, with_node, place_of}
-use Rattle.world_defs.specs.Puts.{bgp_puts, label_puts}
+use Rattle.world_defs.specs.Nodes.{NodeState, Edge, CoreNode, Nodes, with_node, place_of, label_place_of}
+use Rattle.node_defs.specs.Puts.{bgp_puts, label_puts}
 use Rattle.world_defs.specs.Refusals.{control_of}
 use Rattle.world_defs.specs.System.{node_called, core_called, call_of, unchanged}
 use Rattle.world_laws.proofs.Lists.{each_append}
@@ -170,6 +170,7 @@ effect_has place now from changes old (steps.Raised kinds.Ldp peer) ne h = h
 effect_has place now from changes old (steps.Noticed kinds.Bgp peer) ne h = remove_other from peer changes old.peers h
 effect_has place now from changes old (steps.Noticed kinds.Ldp peer) ne h = h
 effect_has place now from changes old steps.Timers ne h = run_other place now from changes old.peers h
+effect_has place now from changes old steps.Rerouted ne h = h
 
 flows_apart : (place : EdgePlace) (now : ℕ) (from : NodeId) (changes : List Change) (own : Control) (vrf : Bool) → PeerHas from changes own.peers → PeerHas from changes (cond vrf (refreshed place now own) own).peers
 flows_apart place now from changes own true h = h
@@ -199,7 +200,7 @@ node_control nodes n from changes (Edge edge) call new at e h =
     let control : Control = control_step place nodes.clock edge.control call in
     let made : EdgeStepped → Stepped Nodes = λ made. record {
       state = with_node nodes n (Edge made.edge);
-      puts = bgp_puts place edge.control made.edge.control ++ flat_map (label_puts n (addr_of nodes.scenario n) (label_place nodes.scenario nodes.core n) nodes.clock) made.row;
+      puts = bgp_puts place edge.control made.edge.control ++ flat_map (label_puts n (addr_of nodes.scenario n) (label_place_of nodes n) nodes.clock) made.row;
     } in
     let behind_row : List LabelStep → EdgeStepped = λ row. record { edge = record { control = control; part = part_after edge.part row }; row = row } in
     let x = bind_some (edge_step place nodes.clock edge call) (λ m. Some (made m)) new e in
@@ -218,9 +219,9 @@ node_control nodes n from changes (CoreNode part) call new at e h = by (own_labe
     by (Some own) e =
         let made : settling.Stepped → Stepped Nodes = λ next. record {
           state = with_node nodes n (CoreNode next.part);
-          puts = label_puts n (addr_of nodes.scenario n) (label_place nodes.scenario nodes.core n) nodes.clock (record { old = part; call = own; new = next });
+          puts = label_puts n (addr_of nodes.scenario n) (label_place_of nodes n) nodes.clock (record { old = part; call = own; new = next });
         } in
-        let x = bind_some (label_step (label_place nodes.scenario nodes.core n) nodes.clock part own) (λ next. Some (made next)) new e in
+        let x = bind_some (label_step (label_place_of nodes n) nodes.clock part own) (λ next. Some (made next)) new e in
         subst (λ (s : Stepped Nodes). PeerHas from changes (control_of (s.state.node n)).peers) (same_Some (made x.0) new x.2)
         (subst (λ (t : Bool). PeerHas from changes (control_of (cond t (CoreNode x.0.part) (nodes.node n))).peers) (sym (node_itself n n refl)) none)
 

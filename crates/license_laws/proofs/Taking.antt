@@ -18,15 +18,16 @@ use Rattle.scenario_defs.specs.Kinds.{same_kind}
 use Rattle.session_defs.specs.Octets as octets
 use Rattle.session_defs.specs.Octets.{OctetNetwork, octet_run, with_step}
 use Rattle.session_defs.specs.System.{Stepped, Behind, with_earlier}
-use Rattle.edge_defs.specs.Place.{Core, addr_of, label_place}
+use Rattle.edge_defs.specs.Place.{addr_of, label_place}
+use Rattle.world_defs.specs.Costs.{Cores}
 use Rattle.edge_defs.specs.Steps as steps
 use Rattle.edge_defs.specs.Steps.{EdgeStepped, edge_step, own_label_call}
 use Rattle.world_defs.specs.Acts.{RaiseFirst, RaiseSecond, Acted, with_network, put_lines, is_of_session, act}
 use Rattle.mvpn_model.specs.Sessions.{is_between}
 use Rattle.world_defs.specs.Counts.{direction, directions}
 use Rattle.world_defs.specs.Local.{put_since, taken_since, TakesWhatWasPut}
-use Rattle.world_defs.specs.Nodes.{NodeState, Edge, CoreNode, Nodes, with_node, place_of}
-use Rattle.world_defs.specs.Puts.{bgp_puts, label_puts}
+use Rattle.world_defs.specs.Nodes.{NodeState, Edge, CoreNode, Nodes, with_node, place_of, label_place_of}
+use Rattle.node_defs.specs.Puts.{bgp_puts, label_puts}
 use Rattle.world_defs.specs.Run.{Traced, Runs}
 use Rattle.world_defs.specs.System.{Own, node_called, core_called, system}
 use Rattle.world_defs.specs.World.{World, start, scenario_of}
@@ -53,7 +54,7 @@ called_scenario nodes n (Edge edge) call = by (edge_step (place_of nodes n) node
   where
     by : (o : Option EdgeStepped) → SameScenario nodes (o >>? λ new. Some (record {
       state = with_node nodes n (Edge new.edge);
-      puts = bgp_puts (place_of nodes n) edge.control new.edge.control ++ flat_map (label_puts n (addr_of nodes.scenario n) (label_place nodes.scenario nodes.core n) nodes.clock) new.row;
+      puts = bgp_puts (place_of nodes n) edge.control new.edge.control ++ flat_map (label_puts n (addr_of nodes.scenario n) (label_place_of nodes n) nodes.clock) new.row;
     }))
     by None = tt
     by (Some new) = refl
@@ -61,11 +62,11 @@ called_scenario nodes n (CoreNode part) call = by (own_label_call call)
   where
     by : (o : Option label_calls.Call) → SameScenario nodes (core_called nodes n part o)
     by None = refl
-    by (Some own) = step own (label_step (label_place nodes.scenario nodes.core n) nodes.clock part own)
+    by (Some own) = step own (label_step (label_place_of nodes n) nodes.clock part own)
       where
         step : (own : label_calls.Call) (o : Option labels.Stepped) → SameScenario nodes (o >>? λ new. Some (record {
           state = with_node nodes n (CoreNode new.part);
-          puts = label_puts n (addr_of nodes.scenario n) (label_place nodes.scenario nodes.core n) nodes.clock (record { old = part; call = own; new = new });
+          puts = label_puts n (addr_of nodes.scenario n) (label_place_of nodes n) nodes.clock (record { old = part; call = own; new = new });
         }))
         step own None = tt
         step own (Some new) = refl
@@ -180,8 +181,8 @@ taking_kept scenario = record {
       takes_next before step world k.takes (λ kind from to. way_moves kind from to before world world step refl refl (rests kind from to world (lines.Refused line reason ∷ []) (all_idle before world k kind from to) refl refl) (k.ways kind from to));
 }
 
-pub taking_start : (scenario : Scenario) (core : Core) → Taking [] (start scenario core)
-taking_start scenario core = record {
+pub taking_start : (scenario : Scenario) (cores : Cores) → Taking [] (start scenario cores)
+taking_start scenario cores = record {
   takes = λ before after kind from to e. subst (λ (b : List Traced). (rest : List ℕ) × (put_since kind from to b ≡ taken_since kind from to b ++ rest)) (sym (nil_left before after e)) ([], refl);
   ways = λ kind from to. record { first = ([], refl); joined = λ e. absurd cc; idle = λ e. refl };
 }
@@ -190,9 +191,9 @@ taking_start scenario core = record {
     nil_left [] ys e = refl
     nil_left (x ∷ xs) ys e = absurd cc
 
-pub run_takes : (scenario : Scenario) (core : Core) (all : List Timed) (trace : List Traced) (new : World) → SoundScenario scenario → AllByRecursion (λ timed. IsSoundEvent scenario timed.event) all → Runs (start scenario core) 0 all trace new → InStep scenario (start scenario core)
+pub run_takes : (scenario : Scenario) (cores : Cores) (all : List Timed) (trace : List Traced) (new : World) → SoundScenario scenario → AllByRecursion (λ timed. IsSoundEvent scenario timed.event) all → Runs (start scenario cores) 0 all trace new → InStep scenario (start scenario cores)
     → Taking trace new
-run_takes scenario core all trace new lines sound run s = runs_follow scenario Taking (taking_kept scenario) all sound [] (start scenario core) 0 trace new s (taking_start scenario core) run
+run_takes scenario cores all trace new lines sound run s = runs_follow scenario Taking (taking_kept scenario) all sound [] (start scenario cores) 0 trace new s (taking_start scenario cores) run
 
 -- the same behind the first act of a raise
 pub first_taking : (scenario : Scenario) (before : List Traced) (number : ℕ) (world : World) (session : Session) (first : Acted) → Declared scenario session → scenario_of world ≡ scenario → act world (RaiseFirst session.kind session.a session.b) ≡ Ok first → Taking before world

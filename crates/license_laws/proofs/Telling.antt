@@ -6,6 +6,8 @@ use Rattle.std.proofs.lemmas.List.{append-nil, append_assoc}
 use Rattle.std.proofs.lemmas.Option.{same_Some}
 use Rattle.mv_base.specs.Number.{◌>>?◌}
 use Rattle.mv_base.specs.declared.ids.NodeId.{NodeId}
+use Rattle.core_walks.specs.Costs.{with_cost}
+use Rattle.edge_defs.specs.Steps as steps
 use Rattle.framing.specs.Feed.{fed}
 use Rattle.framing.specs.Units.{messages_of, AreUnits}
 use Rattle.mldp_msgs.specs.declared.message.LabelMessage.{LabelMessage}
@@ -22,13 +24,12 @@ use Rattle.session_defs.specs.System.{Put, Stepped, Behind, with_earlier}
 use Rattle.session_defs.specs.declared.direction.Direction.{Direction}
 use Rattle.session_defs.proofs.Lines.{are_before}
 use Rattle.session_defs.proofs.Moves.{came_of}
-use Rattle.world_defs.specs.Nodes.{Nodes, with_node, fresh_node, part_of}
-use Rattle.world_defs.specs.System.{NodeCall, Own, Elapse, Reset, call_of, unchanged, system}
+use Rattle.world_defs.specs.Nodes.{following, Nodes, with_node, fresh_node, part_of}
+use Rattle.world_defs.specs.System.{NodeCall, Own, Elapse, Reset, Price, Follow, call_of, unchanged, system}
 use Rattle.world_laws.specs.Honest.{IsSoundNodeCall}
 use Rattle.world_laws.specs.Sound.{Sound}
 use Rattle.world_laws.proofs.Lists.{each_append}
 use Rattle.world_laws.proofs.Nodes.{honest_nodes}
-use Rattle.rule_laws.proofs.Ids.{fresh_ids_ok}
 use Rattle.rule_laws.proofs.Octets.{units_carried}
 use Rattle.rule_laws.proofs.Puts.{over_ldp, over_ldp_both}
 use Rattle.rule_laws.proofs.Sessions.{fresh_part}
@@ -41,7 +42,6 @@ ArePuts puts = AllByRecursion (λ (put : Put). IsPut put.over.kind put.unit.mess
 
 fresh_says : (scenario : Scenario) (n to : NodeId) (ms : List LabelMessage) → Says to ms (part_of (fresh_node scenario n))
 fresh_says scenario n to ms = subst (Says to ms) (sym (fresh_part scenario n)) (record {
-  ids = fresh_ids_ok scenario.labels;
   mapped = λ fec label e. (let x = used_some (fresh scenario.labels).labels label (uses.Mapped fec to) e in let y = all_free scenario.labels _ (uses.Mapped fec to) x.1 in absurd cc);
 })
 
@@ -90,6 +90,10 @@ module _ (scenario : Scenario) (from to : NodeId) where
   call_says before nodes (Own n call) new e s = called_says nodes n from to call new before e s
   call_says before nodes (Elapse ticks) new e s =
       subst (λ (w : Stepped Nodes). Says to (before ++ over_ldp from to w.puts) (part_of (w.state.node from))) (same_Some (unchanged (record nodes { clock = _ })) new e) (subst (λ (ms : List LabelMessage). Says to ms (part_of (nodes.node from))) (sym (append-nil before)) s)
+  call_says before nodes (Price a b cost) new e s =
+      subst (λ (w : Stepped Nodes). Says to (before ++ over_ldp from to w.puts) (part_of (w.state.node from))) (same_Some (unchanged (record nodes { links = with_cost a b cost nodes.links })) new e)
+      (subst (λ (ms : List LabelMessage). Says to ms (part_of (nodes.node from))) (sym (append-nil before)) s)
+  call_says before nodes (Follow n) new e s = called_says (following nodes n) n from to steps.Rerouted new before e s
   call_says before nodes (Reset n) new e s =
       let back : Nodes = with_node nodes n (fresh_node nodes.scenario n) in
       let there : Says to before (part_of (back.node from)) = elim (node_cases from n) [

@@ -5,8 +5,8 @@ use Rattle.scenario_defs.specs.declared.event.Timed.{Timed}
 use Rattle.scenario_defs.specs.declared.report.ReportLine.{ReportLine}
 use Rattle.scenario_defs.specs.declared.report.ReportLine.TheVariants as lines
 use Rattle.scenario_defs.specs.declared.scenario.Scenario.{Scenario}
-use Rattle.edge_defs.specs.Place.{Core}
-use Rattle.world_defs.specs.Acts.{Act, Tick, Timers, Move, Lose, Notice, RaiseFirst, RaiseSecond, Restart, At, Enter, Land, Drop, Tell}
+use Rattle.world_defs.specs.Costs.{Cores}
+use Rattle.world_defs.specs.Acts.{Act, Tick, Timers, Move, Lose, Notice, RaiseFirst, RaiseSecond, Restart, At, Enter, Land, Drop, Tell, SetCost, Reroute}
 use Rattle.world_defs.specs.Local.{IsLicensed, Local}
 use Rattle.world_defs.specs.Run.{Traced, Runs}
 use Rattle.world_defs.specs.World.{World, Datagram, start, scenario_of}
@@ -40,11 +40,13 @@ licensed scenario datagrams before (Some (Restart n)) all l e = l
 licensed scenario datagrams before (Some (At n call)) all l e = l
 licensed scenario datagrams before (Some (Drop a b place)) all l e = l
 licensed scenario datagrams before (Some Tell) all l e = l
+licensed scenario datagrams before (Some (SetCost a b cost)) all l e = l
+licensed scenario datagrams before (Some (Reroute n)) all l e = l
 
-pub run_is_local : (scenario : Scenario) (core : Core) (all : List Timed) (trace : List Traced) (new : World) → SoundScenario scenario → AllByRecursion (λ timed. IsSoundEvent scenario timed.event) all → Runs (start scenario core) 0 all trace new → Local new trace
-run_is_local scenario core all trace new lines sound run =
-    let k = run_kept scenario core all trace new lines sound run in
-    let same : scenario_of new ≡ scenario = (run_in_step scenario core all trace new lines sound run).2.base.sound.same in
+pub run_is_local : (scenario : Scenario) (cores : Cores) (all : List Timed) (trace : List Traced) (new : World) → SoundScenario scenario → AllByRecursion (λ timed. IsSoundEvent scenario timed.event) all → Runs (start scenario cores) 0 all trace new → Local new trace
+run_is_local scenario cores all trace new lines sound run =
+    let k = run_kept scenario cores all trace new lines sound run in
+    let same : scenario_of new ≡ scenario = (run_in_step scenario cores all trace new lines sound run).2.base.sound.same in
     record {
       takes = k.0.0.0.0.0.0.takes;
       licensed = λ before after step e. subst (λ (own : Scenario). IsLicensed own new.datagrams before step.happened.act step.happened.lines) (sym same) (licensed scenario new.datagrams before step.happened.act step.happened.lines (k.1 before after step e) (k.0.1 before after step e));

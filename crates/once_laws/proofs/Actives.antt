@@ -35,7 +35,8 @@ use Rattle.edge_defs.specs.Flows.{noted_flow, active_from, active_flows, same_fl
 use Rattle.edge_defs.specs.Imported.{FlowRoute, active_of, imported_active, taken_from, is_admitted}
 use Rattle.edge_defs.specs.Keys.{Value}
 use Rattle.edge_defs.specs.Originated.{is_iface_of, notes_of, afi_of, active_key, plain_value, target_comms, unicast_routes, selective_routes, active_routes}
-use Rattle.edge_defs.specs.Place.{Core, EdgePlace, OwnVrf, own_vrfs}
+use Rattle.edge_defs.specs.Place.{EdgePlace, OwnVrf, own_vrfs}
+use Rattle.world_defs.specs.Costs.{Cores}
 use Rattle.edge_defs.proofs.KeyLemmas.{note_total, note_exact, key_total, key_exact}
 use Rattle.edge_laws.specs.Network.{EdgeNetwork, place_of}
 use Rattle.calm_laws.specs.Calm.{AreOfOneVpn}
@@ -118,12 +119,12 @@ active_flow other flow e = absurd (none-some flow e)
 own_flow : (source group : Addr) → same_flow source group (record { source = source; group = group }) ≡ true
 own_flow source group = and_from (same_addr source source) (same_addr group group) (same_addr_equiv.refl source) (same_addr_equiv.refl group)
 
-module _ (scenario : Scenario) (core : Core) (world : World) (k : Known scenario core world) (past : Past) (of_past : past.scenario ≡ scenario_of world) (told : NotesAreTold past world) where
+module _ (scenario : Scenario) (cores : Cores) (world : World) (k : Known scenario cores world) (past : Past) (of_past : past.scenario ≡ scenario_of world) (told : NotesAreTold past world) where
   abbrev sc : Scenario
   sc = scenario_of world
 
   abbrev w : EdgeNetwork
-  w = net scenario core world k
+  w = net scenario cores world k
 
   -- ---- an interface of a VRF
 
@@ -178,13 +179,13 @@ module _ (scenario : Scenario) (core : Core) (world : World) (k : Known scenario
       let only = cond_some (is_admitted own.vrf taken.value.comms) first.0 flow first.2 in
       let named = active_flow key flow (first.1 ∙ ap (λ (f : FlowRoute). Some f) only.1) in
       let got : maps.get control.peers p ≡ Some table = entry_get node_cmp_total control.peers p table b in
-      let is = peer_is scenario core world k n h p (ap (λ (o : Option Taken). is_some o) got) in
-      let calm = calm_session scenario core world k p n is.0 h is.1 in
+      let is = peer_is scenario cores world k n h p (ap (λ (o : Option Taken). is_some o) got) in
+      let calm = calm_session scenario cores world k p n is.0 h is.1 in
       let at : maps.get (taken_from control p) key ≡ Some taken = ap (λ (t : Taken). maps.get t key) (taken_is control p table got) ∙ entry_get key_total table key taken c in
-      let held = taken_held w p n key taken (rule scenario core world k) calm at in
+      let held = taken_held w p n key taken (rule scenario cores world k) calm at in
       let found = active_held (place_of w p) (w.node p) n named.afi named.rd source group taken.value (subst (λ (x : Key). IsHeld (place_of w p) (w.node p) n (x, taken.value)) named.is (is_held (place_of w p) (w.node p) n key taken.value held)) in
       let vpn : AreOfOneVpn found.root own = admitted_plain p n found.root own taken.value found.of_root a found.is only.0 in
-      let ids : same_vpn sc own.id found.root.id ≡ true = vpn_ids scenario core world k (place_of w n) (place_of w p) own found.root refl refl a found.of_root (same_back found.root.vrf.targets own.vrf.targets vpn) in
+      let ids : same_vpn sc own.id found.root.id ≡ true = vpn_ids scenario cores world k (place_of w n) (place_of w p) own found.root refl refl a found.of_root (same_back found.root.vrf.targets own.vrf.targets vpn) in
       let o = of_vrf found.iface found.root found.own in
       noted_at own.id found.root found.iface source group ids o (has_note p found.root found.of_root found.iface source group o ∙ found.has)
 
@@ -229,7 +230,7 @@ module _ (scenario : Scenario) (core : Core) (world : World) (k : Known scenario
       let place : EdgePlace = place_of w f in
       let control : Control = w.node n in
       let flow : FlowRoute = noted_flow note in
-      let calm = calm_session scenario core world k f n hf h ne in
+      let calm = calm_session scenario cores world k f n hf h ne in
       let key : Key = active_key root.vrf note.source note.group in
       let value : Value = plain_value place root.vrf in
       let entry : Key × Value = (key, value) in
@@ -238,14 +239,14 @@ module _ (scenario : Scenario) (core : Core) (world : World) (k : Known scenario
       let u = active_held place (w.node f) n (afi_of note.source) root.vrf.rd note.source note.group held.0 (is_held place (w.node f) n key held.0 held.1) in
       let alike : root ≡ u.root = one_rd place root u.root k.rules b u.of_root u.named in
       let is : held.0 ≡ value = u.is ∙ ap (λ (o : OwnVrf). plain_value place o.vrf) (sym alike) in
-      let taken = held_taken w f n key held.0 (rule scenario core world k) calm held.1 in
+      let taken = held_taken w f n key held.0 (rule scenario cores world k) calm held.1 in
       let says : taken.0.value ≡ value = taken.2 ∙ is in
       let admitted : is_admitted own.vrf value.comms ≡ true = ap (is_admitted own.vrf) (sym (append-nil (target_comms root.vrf))) ∙ vpn_admits root.vrf own.vrf [] (own_rules place root k.rules b).some vpn in
       let read : imported_active own.vrf (key, taken.0) ≡ Some flow = ap (λ (v : Value). only_if (is_admitted own.vrf v.comms) flow) says ∙ passes (is_admitted own.vrf value.comms) flow admitted in
       let table : Taken = taken_from control f in
       let here : Among flow (active_from own (f, table)) = among_found (imported_active own.vrf) (key, taken.0) flow (maps.entries table) (get_entry key_exact table key taken.0 taken.1) read in
       known_flow n own note.source note.group
-      (among_behind flow (map noted_flow (notes_of (place_of w n) control own.id)) (flat_map (active_from own) (maps.entries control.peers)) (among_flat_map (active_from own) (f, table) flow (maps.entries control.peers) (among_peers control f (far_up w f n (rule scenario core world k) calm)) here))
+      (among_behind flow (map noted_flow (notes_of (place_of w n) control own.id)) (flat_map (active_from own) (maps.entries control.peers)) (among_flat_map (active_from own) (f, table) flow (maps.entries control.peers) (among_peers control f (far_up w f n (rule scenario cores world k) calm)) here))
 
   of_noted : (n : NodeId) → is_edge sc n ≡ true → (own : OwnVrf) → Among own (own_vrfs (place_of w n)) → (source group : Addr) → pasts.is_active past own.id source group ≡ true → is_active (place_of w n) (w.node n) own source group ≡ true
   of_noted n h own a source group t =

@@ -24,7 +24,8 @@ use Rattle.edge_defs.specs.Edge.{VrfFlow, flow_cmp, Upstream, Control}
 use Rattle.edge_defs.specs.Flows.{active_flows, same_flow, is_active, is_asking, ifaces_of, is_flow, joined_by, possible_flows, with_upstream, vrf_flows}
 use Rattle.edge_defs.specs.Imported.{FlowRoute, found_in}
 use Rattle.edge_defs.specs.Originated.{is_iface_of}
-use Rattle.edge_defs.specs.Place.{Core, EdgePlace, OwnVrf, own_vrfs}
+use Rattle.edge_defs.specs.Place.{EdgePlace, OwnVrf, own_vrfs}
+use Rattle.world_defs.specs.Costs.{Cores}
 use Rattle.edge_defs.specs.Upstream.{upstream_for}
 use Rattle.edge_defs.proofs.KeyLemmas.{flow_total}
 use Rattle.edge_laws.specs.Network.{EdgeNetwork, place_of}
@@ -116,14 +117,14 @@ asked_by false true false false h = absurd (true≢false (sym h))
 asked_by false false true false h = absurd (true≢false (sym h))
 asked_by false false false false h = absurd (true≢false (sym h))
 
-module _ (scenario : Scenario) (core : Core) (world : World) (k : Known scenario core world) where
+module _ (scenario : Scenario) (cores : Cores) (world : World) (k : Known scenario cores world) where
   abbrev own_net : EdgeNetwork
-  own_net = net scenario core world k
+  own_net = net scenario cores world k
 
   -- a peer whose end is up is another edge, with a calm session
   pub peer_is : (n : NodeId) → is_edge (scenario_of world) n ≡ true → (p : NodeId) → is_some (maps.get (own_net.node n).peers p) ≡ true → (is_edge (scenario_of world) p ≡ true) × (p ≢ n)
   peer_is n h p up =
-      let e = calm_edge scenario core world k n h in
+      let e = calm_edge scenario cores world k n h in
       let f = e.fact.peers p (sym (ap (λ (s : NodeState). is_some (maps.get (control_of s).peers p)) e.at) ∙ up) in
       (f.0, (λ same. f.1 (sym same)))
 
@@ -139,7 +140,7 @@ module _ (scenario : Scenario) (core : Core) (world : World) (k : Known scenario
       by : (o : Option Expiry) → maps.get (own_net.node n).entries at ≡ o → counts moment o ≡ counts own_net.clock o
       by None e = refl
       by (Some expiry) e =
-          let c = calm_edge scenario core world k n h in
+          let c = calm_edge scenario cores world k n h in
           let alive : is_after expiry own_net.clock ≡ true = c.alive at expiry (sym (ap (λ (s : NodeState). maps.get (control_of s).entries at) c.at) ∙ e) in
           earlier expiry moment own_net.clock le alive ∙ sym alive
 
@@ -166,12 +167,12 @@ module _ (scenario : Scenario) (core : Core) (world : World) (k : Known scenario
 
   pub asked_flow : (n : NodeId) → is_edge (scenario_of world) n ≡ true → (own : OwnVrf) → Among own (own_vrfs (place_of own_net n)) → (source group : Addr) (iface : IfaceId) → is_iface_of_vrf (scenario_of world) iface own.id ≡ true
       → is_asking (place_of own_net n) own_net.clock (own_net.node n) own source group iface ≡ true
-      → maps.get (own_net.node n).flows (record { vrf = own.id; source = source; group = group }) ≡ Some (upstream_for (place_of own_net n) (own_net.node n) own source)
+      → maps.get (own_net.node n).flows (record { vrf = own.id; source = source; group = group }) ≡ Some (upstream_for (place_of own_net n) (own_net.node n) own source group)
   asked_flow n h own a source group iface of asks =
       let place : EdgePlace = place_of own_net n in
       let control : Control = own_net.node n in
       let o = of_vrf (scenario_of world) iface own of in
-      let stands = flows_stand scenario core world k n in
+      let stands = flows_stand scenario cores world k n in
       let moment : ℕ = stands.0 in
       let flow : FlowRoute = record { source = source; group = group } in
       let key : VrfFlow = record { vrf = own.id; source = source; group = group } in
@@ -180,11 +181,11 @@ module _ (scenario : Scenario) (core : Core) (world : World) (k : Known scenario
       let then_asks : is_asking place moment control own source group iface ≡ true = (λ i. before (join_entries.Source source group) i || (before (join_entries.Star group) i && not (before (join_entries.Rpt source group) i) && active)) ∙ asks in
       let possible : Among flow (possible_flows place control own) = asked_possible n own source group iface o asks in
       let is : is_flow place moment control own flow ≡ true = any_from (is_asking place moment control own source group) iface (ifaces_of place own) (iface_listed place iface own o) then_asks in
-      let up : Option Upstream = upstream_for place control own source in
+      let up : Option Upstream = upstream_for place control own source group in
       let one : Among (key, up) (vrf_flows place moment control own) = among_map (with_upstream place control own) flow (filter (is_flow place moment control own) (possible_flows place control own)) (among_filter (is_flow place moment control own) flow (possible_flows place control own) is possible) in
       let all : Among (key, up) (flat_map (vrf_flows place moment control) (own_vrfs place)) = among_flat_map (vrf_flows place moment control) own (key, up) (own_vrfs place) a one in
       let some = some_found flow_total key up (flat_map (vrf_flows place moment control) (own_vrfs place)) all in
       let got : maps.get control.flows key ≡ Some some.0 = ap (λ (m : maps.FinMap flow_cmp (Option Upstream)). maps.get m key) stands.2 ∙ (maps.get-from_entries flow_total (flat_map (vrf_flows place moment control) (own_vrfs place)) key ∙ some.1) in
-      let flow_is = is_flow_of own_net n key some.0 (flows_stand scenario core world k) got in
+      let flow_is = is_flow_of own_net n key some.0 (flows_stand scenario cores world k) got in
       let same : flow_is.own ≡ own = one_number place flow_is.own own flow_is.among a (ap (λ v. v.0) flow_is.id) in
-      got ∙ ap (λ (u : Option Upstream). Some u) (flow_is.is ∙ ap (λ (x : OwnVrf). upstream_for place control x source) same)
+      got ∙ ap (λ (u : Option Upstream). Some u) (flow_is.is ∙ ap (λ (x : OwnVrf). upstream_for place control x source group) same)

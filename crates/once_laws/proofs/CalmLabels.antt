@@ -4,6 +4,8 @@ use Rattle.std.specs.List.{AllByRecursion}
 use Rattle.std.specs.FinSet as sets
 use Rattle.std.proofs.lemmas.Bool.{true≢false, or_cases, cases_lt}
 use Rattle.std.proofs.lemmas.Option.{same_Some, none-some, slice_get-get_or}
+use Rattle.std.proofs.lemmas.List.Elements.{recursion_from_All}
+use Rattle.std.proofs.lemmas.List.Elements.{All-from_recursion}
 use Rattle.mv_base.specs.Address.{same_addr, same_addr_equiv, same_addr_equal}
 use Rattle.mv_base.specs.Number.{◌>>?◌}
 use Rattle.mv_base.specs.declared.addr.Addr.{Addr}
@@ -28,16 +30,18 @@ use Rattle.label_laws.specs.Rule.{Kind, PhaseIs, Phase, Kept, is_of_owner, is_re
 use Rattle.session_defs.specs.Message.{SessionMessage}
 use Rattle.session_defs.specs.Refined.{Carried, IsLine, AreLines, seen}
 use Rattle.session_defs.specs.declared.direction.Direction.{Direction}
-use Rattle.edge_defs.specs.Place.{Core, IsCoreOf, addr_of, node_with, upstream}
+use Rattle.edge_defs.specs.Place.{Core, IsCoreOf, addr_of, node_with}
 use Rattle.world_defs.specs.Counts.{direction}
-use Rattle.world_defs.specs.Nodes.{part_of}
+use Rattle.core_walks.specs.Topology.{HasCost, HasEnds}
+use Rattle.world_defs.specs.Nodes.{Nodes, core_at, label_place_of, part_of}
+use Rattle.world_laws.specs.Costs.{KnowCosts}
 use Rattle.world_defs.specs.World.{World, Datagram, scenario_of}
 use Rattle.rule_laws.specs.Labels.{labels_in, label_network}
 use Rattle.rule_laws.proofs.Vpns.{first_at, some_first, one_addr, addr_at}
 use Rattle.delivery_laws.specs.Flood.{OnLinks}
 use Rattle.delivery_laws.specs.Labels.{CalmLabels}
 use Rattle.once_laws.specs.Zeros.{Zeros}
-use Rattle.once_laws.proofs.Depths.{depth_of, depth_few, nearer}
+use Rattle.once_laws.proofs.Depths.{depth_of, depth_few, nearer, repriced_each, repriced_ends, repriced_costs}
 use Rattle.once_laws.proofs.Pairs.{Pair, Alike, link_pairs, linked_pair, way_pair}
 use Rattle.once_laws.proofs.Rests.{Rests, nothing_pending}
 
@@ -89,20 +93,38 @@ mapped_branch phases.Idle u label usage down up branches fec p d b is = absurd (
 
 -- ---- a network of zeros
 
-module _ (world : World) (rules : Rules (scenario_of world)) (is_core : IsCoreOf (scenario_of world) world.network.state.core) (all : List Datagram) (pending : Direction → List SessionMessage) (are : AreLines world.network pending)
+module _ (world : World) (rules : Rules (scenario_of world)) (costs : KnowCosts (scenario_of world) world.network.state.cores world.network.state) (all : List Datagram) (pending : Direction → List SessionMessage) (are : AreLines world.network pending)
     (kept : Kept (label_network (seen world.network pending) world.copies all)) (rests : (over : Direction) → Rests over.kind (world.network.stream over)) (on_links : OnLinks world.network) (zeros : Zeros world)
     (leafless : (n : NodeId) → length (scenario_of world).nodes ≤ n.0 → (fec : Fec) → sets.contains (part_of (world.network.state.node n)).leaves fec ≡ false) where
   abbrev part : NodeId → LabelData
   part n = part_of (world.network.state.node n)
 
+  abbrev nodes : Nodes
+  nodes = world.network.state
+
+  -- the core by the present costs, which each node of the scenario knows
   abbrev core : Core
-  core = world.network.state.core
+  core = nodes.cores nodes.links
+
+  same_core : (n : NodeId) → n.0 < length (scenario_of world).nodes → core_at nodes n ≡ core
+  same_core n within = ap nodes.cores (costs.present n within)
+
+  present_core : (n : NodeId) → n.0 < length (scenario_of world).nodes → IsCoreOf (length (scenario_of world).nodes) nodes.links core
+  present_core n within = subst (λ (links : List Link). IsCoreOf (length (scenario_of world).nodes) links (nodes.cores links)) (costs.present n within) (costs.core n)
 
   alike : Alike world
   alike u n ne = (kept.rule.session u n ne).alike
 
   pairs : AllByRecursion (λ (link : Link). Pair world link.a link.b) (scenario_of world).links
   pairs = link_pairs world rules alike zeros
+
+  own_ends : AllByRecursion (HasEnds (length (scenario_of world).nodes)) (scenario_of world).links
+  own_ends = recursion_from_All (HasEnds (length (scenario_of world).nodes)) (scenario_of world).links rules.core.topology.ends
+
+  -- linked nodes have a calm session, whatever the link costs
+  present_pairs : AllByRecursion (λ (link : Link). Pair world link.a link.b) nodes.links
+  present_pairs = repriced_each (λ (link : Link). Pair world link.a link.b) (λ (link : Link). Pair world link.a link.b)
+      (λ link other a b cost p. subst (λ (x : NodeId). Pair world x other.b) (sym a) (subst (λ (x : NodeId). Pair world link.a x) (sym b) p)) (scenario_of world).links nodes.links costs.links pairs
 
   silent : (u n : NodeId) → Pair world u n → labels_in (pending (direction kinds.Ldp u n)) ≡ []
   silent u n p =
@@ -132,28 +154,37 @@ module _ (world : World) (rules : Rules (scenario_of world)) (is_core : IsCoreOf
   -- ---- towards a root
 
   module _ (root : NodeId) (within : root.0 < length (scenario_of world).nodes) (fec : Fec) (rooted : fec.root ≡ addr_of (scenario_of world) root) where
-    towards : (n : NodeId) → upstream (scenario_of world) core n fec ≡ core.toward n root
-    towards n = ap (λ (o : Option NodeId). o >>? λ (at : NodeId). core.toward n at) (ap (node_with (scenario_of world)) rooted ∙ root_with (scenario_of world) rules root within)
+    towards : (n : NodeId) → (label_place_of nodes n).upstream fec ≡ (core_at nodes n).toward n root
+    towards n = ap (λ (o : Option NodeId). o >>? λ (at : NodeId). (core_at nodes n).toward n at) (ap (node_with (scenario_of world)) rooted ∙ root_with (scenario_of world) rules root within)
 
     -- the neighbour above a node
     record Above (n above : NodeId) : Type 0 where
-      pub toward : upstream (scenario_of world) core n fec ≡ Some above
+      pub toward : (label_place_of nodes n).upstream fec ≡ Some above
       pub pair : Pair world n above
       pub less : depth_of (scenario_of world) core root above < depth_of (scenario_of world) core root n
 
     some_above : (n : NodeId) → n.0 < length (scenario_of world).nodes → n ≢ root → (above : NodeId) × Above n above
     some_above n here off =
+        let is_core = present_core n here in
         let first = is_core.first n root here within off in
-        let next = nearer (scenario_of world) core rules is_core root n first.0 within here first.2 in
-        (first.0, record { toward = towards n ∙ first.1; pair = linked_pair world pairs n first.0 next.cost next.linked; less = next.less })
+        let ends = All-from_recursion (HasEnds (length (scenario_of world).nodes)) nodes.links (repriced_ends (length (scenario_of world).nodes) (scenario_of world).links nodes.links costs.links own_ends) in
+        let prices = All-from_recursion HasCost nodes.links (repriced_costs (length (scenario_of world).nodes) (scenario_of world).links nodes.links costs.links own_ends) in
+        let next = nearer (scenario_of world) nodes.links core ends prices is_core root n first.0 within here first.2 in (
+          first.0,
+          record {
+            toward = towards n ∙ ap (λ (c : Core). c.toward n root) (same_core n here) ∙ first.1;
+            pair = linked_pair world nodes.links present_pairs n first.0 next.cost next.linked;
+            less = next.less;
+          },
+        )
 
-    none_outside : (n : NodeId) (u : NodeId) → length (scenario_of world).nodes ≤ n.0 → core.toward n root ≡ Some u → ⊥
-    none_outside n u out e = none-some u (sym (is_core.outside n root (inl out)).1 ∙ e)
+    none_outside : (n : NodeId) (u : NodeId) → length (scenario_of world).nodes ≤ n.0 → (core_at nodes n).toward n root ≡ Some u → ⊥
+    none_outside n u out e = none-some u (sym ((costs.core n).outside n root (inl out)).1 ∙ e)
 
-    is_above : (n u : NodeId) → upstream (scenario_of world) core n fec ≡ Some u → Above n u
+    is_above : (n u : NodeId) → (label_place_of nodes n).upstream fec ≡ Some u → Above n u
     is_above n u e = elim (cases_lt n.0 (length (scenario_of world).nodes)) [
       | inl here ↦ elim (node_cases n root) [
-        | inl same ↦ absurd (none-some u (sym (ap (λ (m : NodeId). core.toward m root) same ∙ is_core.itself root) ∙ (sym (towards n) ∙ e)))
+        | inl same ↦ absurd (none-some u (sym (ap (λ (m : NodeId). (core_at nodes n).toward m root) same ∙ (costs.core n).itself root) ∙ (sym (towards n) ∙ e)))
         | inr off ↦ (let a = some_above n here off in subst (Above n) (same_Some a.0 u (sym a.1.toward ∙ e)) a.1)
       ]
       | inr out ↦ absurd (none_outside n u out (sym (towards n) ∙ e))
@@ -179,7 +210,7 @@ module _ (world : World) (rules : Rules (scenario_of world)) (is_core : IsCoreOf
     pub calm_labels : CalmLabels world.network fec root
     calm_labels = record {
       settled = λ n. kept.settled n fec;
-      root_is = towards root ∙ is_core.itself root;
+      root_is = towards root ∙ (costs.core root).itself root;
       told = λ u n label has. told u n fec label has;
       known = known;
       depth = depth_of (scenario_of world) core root;

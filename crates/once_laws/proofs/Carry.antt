@@ -33,14 +33,14 @@ use Rattle.session_defs.specs.System.{Put, Stepped, Behind, with_earlier}
 use Rattle.session_defs.specs.declared.direction.Direction.{Direction}
 use Rattle.edge_defs.specs.Datagrams.{entering_fate}
 use Rattle.edge_defs.specs.Steps as steps
-use Rattle.world_defs.specs.Acts.{Act, Tick, Timers, Move, Lose, Notice, RaiseFirst, RaiseSecond, Restart, At, Enter, Land, Drop, Tell, Acted, act, with_network, at_node, is_of_session, is_at, leads_to, is_from_peer, with_aged, with_branches, copy_on, fate_at, with_ttl, landed, landing, without_copy, enters_at, entering, datagram_at}
+use Rattle.world_defs.specs.Acts.{Act, Tick, Timers, Move, Lose, Notice, RaiseFirst, RaiseSecond, Restart, At, Enter, Land, Drop, Tell, SetCost, Reroute, Acted, act, with_network, at_node, is_of_session, is_at, leads_to, is_from_peer, with_aged, with_branches, copy_on, fate_at, with_ttl, landed, landing, without_copy, enters_at, entering, datagram_at}
 use Rattle.world_defs.specs.Counts.{direction, directions, is_joined, is_up, link_ways, all_nodes}
 use Rattle.world_defs.specs.Events.{Done, row, each, times, raise_acts, raises, is_session_of, notices, healed, turn, landings, drain_round, sent, at_edge, with_message, done}
 use Rattle.world_defs.specs.Nodes.{Nodes, NodeState, Edge, CoreNode, place_of}
 use Rattle.mvpn_model.specs.Packets.{source_in, group_in}
 use Rattle.world_defs.specs.Refusals.{edge_of_vrf}
 use Rattle.world_defs.specs.Run.{Traced, Runs}
-use Rattle.world_defs.specs.System.{NodeCall, Own, Elapse, Reset, system, call_of, nodes_called}
+use Rattle.world_defs.specs.System.{NodeCall, Own, Elapse, Reset, Price, Follow, system, call_of, nodes_called}
 use Rattle.world_defs.specs.World.{World, Datagram, LinkCopy, scenario_of, clock_of, with_copies}
 use Rattle.std.proofs.lemmas.List.Folds.{find_at}
 use Rattle.delivery_laws.proofs.Copies.{all_at}
@@ -182,6 +182,8 @@ module _ (F : Nodes → Type 0) (Fits : Kind → NodeId → NodeId → Type 0) (
   IsFine (RaiseFirst kind a b) = Fits kind a b
   IsFine (RaiseSecond kind a b) = Fits kind b a
   IsFine (At n call) = May (Own n call)
+  IsFine (SetCost a b cost) = May (Price a b cost)
+  IsFine (Reroute n) = May (Follow n)
   IsFine other = ⊤
 
   pub act_holds : (one : Act) → IsFine one → (world : World) → Holding world → Gives Any Holding (act world one)
@@ -198,6 +200,8 @@ module _ (F : Nodes → Type 0) (Fits : Kind → NodeId → NodeId → Type 0) (
   act_holds (Land from to place) w world c = (tt, lands world from to place c _)
   act_holds (Drop from to place) w world c = (tt, c)
   act_holds Tell w world c = (tt, c)
+  act_holds (SetCost a b cost) w world c = node_gives world a [] (octets.Call (Price a b cost) ∷ []) (w, tt) c
+  act_holds (Reroute n) w world c = node_gives world n [] (octets.Call (Follow n) ∷ []) (w, tt) c
 
   -- ---- events
 
@@ -220,6 +224,7 @@ module _ (F : Nodes → Type 0) (Fits : Kind → NodeId → NodeId → Type 0) (
   EventMay (events.Idle iface source group) = (n : NodeId) → May (Own n (steps.Idle iface source group))
   EventMay (events.Select vrf pattern) = (n : NodeId) → May (Own n (steps.Select vrf pattern))
   EventMay (events.Unselect vrf pattern) = (n : NodeId) → May (Own n (steps.Unselect vrf pattern))
+  EventMay (events.Cost a b cost) = May (Price a b cost) × ((n : NodeId) → May (Follow n))
   EventMay other = ⊤
 
   raises_fine : (list : List Session) → AllByRecursion (AreFit Fits) list → (kind : Kind) (a b : NodeId) → Fine (raises list kind a b)
@@ -235,6 +240,10 @@ module _ (F : Nodes → Type 0) (Fits : Kind → NodeId → NodeId → Type 0) (
   timers_fine : ((n : NodeId) → May (Own n steps.Timers)) → (list : List NodeId) → Fine (map (λ n. Timers n) list)
   timers_fine w [] = tt
   timers_fine w (n ∷ more) = (w n, timers_fine w more)
+
+  reroutes_fine : ((n : NodeId) → May (Follow n)) → (list : List NodeId) → Fine (map (λ n. Reroute n) list)
+  reroutes_fine w [] = tt
+  reroutes_fine w (n ∷ more) = (w n, reroutes_fine w more)
 
   landings_fine : (world : World) (ways : List (NodeId × NodeId)) → Fine (flat_map (landings world) ways)
   landings_fine world [] = tt
@@ -302,6 +311,8 @@ module _ (F : Nodes → Type 0) (Fits : Kind → NodeId → NodeId → Type 0) (
   event_holds world (events.Idle iface source group) w c = at_edge_holds (edge_of (scenario_of world) iface) (steps.Idle iface source group) w world c
   event_holds world (events.Select vrf pattern) w c = at_edge_holds (edge_of_vrf (scenario_of world) vrf) (steps.Select vrf pattern) w world c
   event_holds world (events.Unselect vrf pattern) w c = at_edge_holds (edge_of_vrf (scenario_of world) vrf) (steps.Unselect vrf pattern) w world c
+  event_holds world (events.Cost a b cost) w c =
+      rows (SetCost a b cost ∷ map (λ n. Reroute n) (all_nodes (scenario_of world))) (w.0, reroutes_fine w.1 (all_nodes (scenario_of world))) world c
   event_holds world (events.Hop from to place) w c = rows (Land from to place ∷ []) (tt, tt) world c
   event_holds world (events.DropCopy from to place) w c = rows (Drop from to place ∷ []) (tt, tt) world c
   event_holds world events.Heal w c = all_healed (sessions (scenario_of world)) (fit world.network.state c.nodes) world c

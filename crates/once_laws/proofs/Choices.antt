@@ -26,7 +26,7 @@ use Rattle.scenario_defs.specs.declared.scenario.Scenario.{Scenario}
 use Rattle.scenario_defs.specs.declared.scenario.Vrf.{Vrf}
 use Rattle.scenario_defs.proofs.RuleLemmas.{iface_rules_at, vrf_rules_at}
 use Rattle.choice_defs.specs.Choice as choice
-use Rattle.choice_defs.specs.Choice.{cost_by, is_better, best_route, of_site}
+use Rattle.choice_defs.specs.Choice.{is_better, best_route, of_site}
 use Rattle.choice_defs.specs.declared.known_route.KnownRoute.{KnownRoute}
 use Rattle.choice_defs.specs.declared.origin.Origin.{Origin}
 use Rattle.choice_defs.specs.declared.origin.Origin.TheVariants as origins
@@ -37,8 +37,9 @@ use Rattle.edge_defs.specs.Edge.{Import, Upstream, Site, Remote, TakenRoute, Tak
 use Rattle.edge_defs.specs.Imported.{JoinBy, is_admitted, join_by, taken_from}
 use Rattle.edge_defs.specs.Keys.{Value}
 use Rattle.edge_defs.specs.Originated.{own_import, import_comm, source_as_comm, unicast_value, unicast_routes, selective_routes, active_routes}
-use Rattle.edge_defs.specs.Place.{Core, EdgePlace, OwnVrf, own_vrfs, vrfs_from, addr_of}
-use Rattle.edge_defs.specs.Upstream.{known_route, known_from, known_routes, upstream_by, upstream_for}
+use Rattle.edge_defs.specs.Place.{EdgePlace, OwnVrf, own_vrfs, vrfs_from, addr_of}
+use Rattle.world_defs.specs.Costs.{Cores}
+use Rattle.edge_defs.specs.Upstream.{costs_of, known_route, known_from, known_routes, upstream_by, upstream_for}
 use Rattle.edge_defs.proofs.KeyLemmas.{key_total, key_exact}
 use Rattle.edge_laws.specs.Network.{EdgeNetwork, place_of}
 use Rattle.calm_laws.specs.Calm.{AreOfOneVpn}
@@ -102,19 +103,19 @@ nearer cost own other site edge address rd e here there =
     (λ i. is_lt (ordering_then (sym is i) (choice.origin_cmp cost (here i) (there i))))
 
 -- a VRF where a site is attached is of its VPN
-attached_of : (scenario : Scenario) (id : VrfId) (vrf : VrfId) (site : SiteId) → same_vpn scenario vrf id ≡ true → is_attached_at scenario id site ≡ true → is_attached scenario vrf site ≡ true
+pub attached_of : (scenario : Scenario) (id : VrfId) (vrf : VrfId) (site : SiteId) → same_vpn scenario vrf id ≡ true → is_attached_at scenario id site ≡ true → is_attached scenario vrf site ≡ true
 attached_of scenario id vrf site vpn h =
     let f = any_among (λ (iface : Iface). is_of_site site iface && is_of_vrf id iface) scenario.ifaces h in
     let p = and_parts (is_of_site site f.0) (is_of_vrf id f.0) f.2 in
     let same : f.0.vrf.0 ≡ id.0 = eqb-true f.0.vrf.0 id.0 p.1 in
     any_from (λ (iface : Iface). is_of_site site iface && same_vpn scenario vrf iface.vrf) f.0 scenario.ifaces f.1 (and_from (is_of_site site f.0) (same_vpn scenario vrf f.0.vrf) p.0 ((λ i. same_vpn scenario vrf (record { 0 = same i })) ∙ vpn))
 
-module _ (scenario : Scenario) (core : Core) (world : World) (k : Known scenario core world) where
+module _ (scenario : Scenario) (cores : Cores) (world : World) (k : Known scenario cores world) where
   abbrev sc : Scenario
   sc = scenario_of world
 
   abbrev w : EdgeNetwork
-  w = net scenario core world k
+  w = net scenario cores world k
 
   -- VRFs of one VPN, by their numbers
   pub vpn_ids : (place at : EdgePlace) (own other : OwnVrf) → place.scenario ≡ sc → at.scenario ≡ sc → Among own (own_vrfs place) → Among other (own_vrfs at) → AreOfOneVpn own other → same_vpn sc own.id other.id ≡ true
@@ -192,10 +193,10 @@ module _ (scenario : Scenario) (core : Core) (world : World) (k : Known scenario
       let one : made ≡ known = same_Some made known second.2 in
       let only = cond_some (is_admitted own.vrf taken.value.comms) taken.value first.0 first.1 in
       let got : maps.get control.peers p ≡ Some table = entry_get node_cmp_total control.peers p table b in
-      let is = peer_is scenario core world k n h p (ap (λ (o : Option Taken). is_some o) got) in
-      let calm = calm_session scenario core world k p n is.0 h is.1 in
+      let is = peer_is scenario cores world k n h p (ap (λ (o : Option Taken). is_some o) got) in
+      let calm = calm_session scenario cores world k p n is.0 h is.1 in
       let at : maps.get (taken_from control p) (Unicast rd prefix) ≡ Some taken = ap (λ (t : Taken). maps.get t (Unicast rd prefix)) (taken_is control p table got) ∙ entry_get key_total table (Unicast rd prefix) taken c in
-      let held = taken_held w p n (Unicast rd prefix) taken (rule scenario core world k) calm at in
+      let held = taken_held w p n (Unicast rd prefix) taken (rule scenario cores world k) calm at in
       let u = unicast_of p n rd prefix taken.value (is_held (place_of w p) (w.node p) n (Unicast rd prefix) taken.value held) in
       let vpn : AreOfOneVpn u.root own = admitted_unicast w p n u.root own taken.value k.rules u.of_root a u.is only.0 in
       let ids : same_vpn sc own.id u.root.id ≡ true = vpn_ids (place_of w n) (place_of w p) own u.root refl refl a u.of_root (same_back u.root.vrf.targets own.vrf.targets vpn) in
@@ -228,7 +229,7 @@ module _ (scenario : Scenario) (core : Core) (world : World) (k : Known scenario
   far_known n h own a f hf ne root b vpn route listed =
       let place : EdgePlace = place_of w f in
       let control : Control = w.node n in
-      let calm = calm_session scenario core world k f n hf h ne in
+      let calm = calm_session scenario cores world k f n hf h ne in
       let key : Key = Unicast root.vrf.rd route.prefix in
       let value : Value = unicast_value place root.vrf in
       let entry : Key × Value = (key, value) in
@@ -237,7 +238,7 @@ module _ (scenario : Scenario) (core : Core) (world : World) (k : Known scenario
       let u = unicast_held place (w.node f) n root.vrf.rd route.prefix held.0 held.1 in
       let alike : root ≡ u.own = one_rd place root u.own k.rules b u.among u.distinguisher in
       let is : held.0 ≡ value = u.is ∙ ap (λ (o : OwnVrf). unicast_value place o.vrf) (sym alike) in
-      let taken = held_taken w f n key held.0 (rule scenario core world k) calm held.1 in
+      let taken = held_taken w f n key held.0 (rule scenario cores world k) calm held.1 in
       let says : taken.0.value ≡ value = taken.2 ∙ is in
       let known : KnownRoute = record { prefix = route.prefix; origin = origins.Remote f (addr_of sc f) root.vrf.rd } in
       let admitted : is_admitted own.vrf value.comms ≡ true = vpn_admits root.vrf own.vrf (import_comm (own_import place root.vrf) ∷ source_as_comm sc.system ∷ []) (own_rules place root k.rules b).some vpn in
@@ -247,7 +248,7 @@ module _ (scenario : Scenario) (core : Core) (world : World) (k : Known scenario
       ∙ ap (λ (o : Option JoinBy). o >>? λ by. Some known) (joins_by place root k.rules b) in
       let table : Taken = taken_from control f in
       let here : Among known (known_from (place_of w n) own.vrf (f, table)) = among_found (known_route (place_of w n) own.vrf f) (key, taken.0) known (maps.entries table) (get_entry key_exact table key taken.0 taken.1) read in
-      (known, among_behind known (map of_site (local_routes sc own.id)) (flat_map (known_from (place_of w n) own.vrf) (maps.entries control.peers)) (among_flat_map (known_from (place_of w n) own.vrf) (f, table) known (maps.entries control.peers) (among_peers control f (far_up w f n (rule scenario core world k) calm)) here), refl)
+      (known, among_behind known (map of_site (local_routes sc own.id)) (flat_map (known_from (place_of w n) own.vrf) (maps.entries control.peers)) (among_flat_map (known_from (place_of w n) own.vrf) (f, table) known (maps.entries control.peers) (among_peers control f (far_up w f n (rule scenario cores world k) calm)) here), refl)
 
   pub all_known : (n : NodeId) → is_edge sc n ≡ true → (own : OwnVrf) → Among own (own_vrfs (place_of w n)) → (route : Route) → Among route (routes sc own.id) → (known : KnownRoute) × Among known (known_routes (place_of w n) (w.node n) own) × (known.prefix ≡ route.prefix)
   all_known n h own a route b =
@@ -281,12 +282,12 @@ module _ (scenario : Scenario) (core : Core) (world : World) (k : Known scenario
     IsNear : (site : SiteId) → up ≡ Some (Site site) → home sc own.id source ≡ Some site → is_attached_at sc own.id site ≡ true → UpstreamIs n own source up
     IsFar : (site : SiteId) (known : KnownRoute) (from : FromPeer n own known site) → up ≡ Some (Remote from.peer from.rd from.import from.source_as) → home sc own.id source ≡ Some site → is_attached_at sc own.id site ≡ false → UpstreamIs n own source up
 
-  abbrev cost_at : NodeId → OwnVrf → NodeId → ℕ
-  cost_at n own = cost_by own.vrf.rule (w.core.cost n)
+  abbrev cost_at : NodeId → OwnVrf → Addr → Addr → NodeId → ℕ
+  cost_at n own source group = costs_of (place_of w n) own (known_routes (place_of w n) (w.node n) own) source group
 
-  by_best : (n : NodeId) → is_edge sc n ≡ true → (own : OwnVrf) → Among own (own_vrfs (place_of w n)) → (source : Addr) (known : KnownRoute) → Best (cost_at n own) (known_routes (place_of w n) (w.node n) own) source known
+  by_best : (n : NodeId) → is_edge sc n ≡ true → (own : OwnVrf) → Among own (own_vrfs (place_of w n)) → (source group : Addr) (known : KnownRoute) → Best (cost_at n own source group) (known_routes (place_of w n) (w.node n) own) source known
       → UpstreamIs n own source (upstream_by (place_of w n) (w.node n) known)
-  by_best n h own a source known b =
+  by_best n h own a source group known b =
       let place : EdgePlace = place_of w n in
       let control : Control = w.node n in
       let all = known_routes place control own in
@@ -294,7 +295,7 @@ module _ (scenario : Scenario) (core : Core) (world : World) (k : Known scenario
       let covering : covers is.route.prefix source ≡ true = ap (λ (p : Prefix). covers p source) (sym is.prefix) ∙ b.covering in
       let longest : (other : Route) → Among other (routes sc own.id) → covers other.prefix source ≡ true → other.prefix.bits ≤ is.route.prefix.bits = λ other c covers_it.
       let q = all_known n h own a other c in
-      let le = longer (cost_at n own) q.0 known (b.best q.0 (choice_among q.0 all q.1) (ap (λ (p : Prefix). covers p source) q.2 ∙ covers_it)) in
+      let le = longer (cost_at n own source group) q.0 known (b.best q.0 (choice_among q.0 all q.1) (ap (λ (p : Prefix). covers p source) q.2 ∙ covers_it)) in
       let bits : q.0.prefix.bits ≡ other.prefix.bits = ap (λ (p : Prefix). p.bits) q.2 in
       let own_bits : known.prefix.bits ≡ is.route.prefix.bits = ap (λ (p : Prefix). p.bits) is.prefix in
       omega (arith, le, bits, own_bits) in
@@ -305,13 +306,13 @@ module _ (scenario : Scenario) (core : Core) (world : World) (k : Known scenario
             let local : Among is.route (local_routes sc own.id) = other_test (is_attached sc own.id) (is_attached_at sc own.id) sc.sites is.route is.among t in
             let here : Among (of_site is.route) all = among_front (of_site is.route) (map of_site (local_routes sc own.id)) (flat_map (known_from place own.vrf) (maps.entries control.peers)) (among_map of_site is.route (local_routes sc own.id) local) in
             let no_better = b.best (of_site is.route) (choice_among (of_site is.route) all here) covering in
-            let better = nearer (cost_at n own) (of_site is.route) known is.route.site far.peer (addr_of sc far.peer) far.rd (ap (λ (p : Prefix). p.bits) (sym is.prefix)) refl far.is in
+            let better = nearer (cost_at n own source group) (of_site is.route) known is.route.site far.peer (addr_of sc far.peer) far.rd (ap (λ (p : Prefix). p.bits) (sym is.prefix)) refl far.is in
             true≢false (sym better ∙ no_better)))
       ]
 
-  pub upstream_is : (n : NodeId) → is_edge sc n ≡ true → (own : OwnVrf) → Among own (own_vrfs (place_of w n)) → (source : Addr) → UpstreamIs n own source (upstream_for (place_of w n) (w.node n) own source)
-  upstream_is n h own a source = by (best_route (cost_at n own) (known_routes (place_of w n) (w.node n) own) source) (best (cost_at n own) (known_routes (place_of w n) (w.node n) own) source)
+  pub upstream_is : (n : NodeId) → is_edge sc n ≡ true → (own : OwnVrf) → Among own (own_vrfs (place_of w n)) → (source group : Addr) → UpstreamIs n own source (upstream_for (place_of w n) (w.node n) own source group)
+  upstream_is n h own a source group = by (best_route (cost_at n own source group) (known_routes (place_of w n) (w.node n) own) source) (best (cost_at n own source group) (known_routes (place_of w n) (w.node n) own) source)
     where
-      by : (o : Option KnownRoute) → BestIs (cost_at n own) (known_routes (place_of w n) (w.node n) own) source o → UpstreamIs n own source (o >>? upstream_by (place_of w n) (w.node n))
-      by (Some known) b = by_best n h own a source known b
+      by : (o : Option KnownRoute) → BestIs (cost_at n own source group) (known_routes (place_of w n) (w.node n) own) source o → UpstreamIs n own source (o >>? upstream_by (place_of w n) (w.node n))
+      by (Some known) b = by_best n h own a source group known b
       by None b = IsNone refl (no_home sc k.rules k.octets own.id source (λ route c. (let q = all_known n h own a route c in ap (λ (p : Prefix). covers p source) (sym q.2) ∙ b q.0 (choice_among q.0 (known_routes (place_of w n) (w.node n) own) q.1))))

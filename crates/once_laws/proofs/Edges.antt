@@ -24,7 +24,7 @@ use Rattle.edge_defs.specs.Due as dues
 use Rattle.edge_defs.specs.Due.{is_selection_due}
 use Rattle.edge_defs.specs.Edge.{VrfPattern, pattern_cmp, Selected, EdgeData}
 use Rattle.edge_defs.specs.Flows.{flows_at}
-use Rattle.edge_defs.specs.Place.{Core, label_place}
+use Rattle.world_defs.specs.Costs.{Cores}
 use Rattle.edge_defs.proofs.KeyLemmas.{pattern_exact}
 use Rattle.edge_laws.specs.Network.{EdgeNetwork}
 use Rattle.edge_laws.specs.Rule.{Rule}
@@ -34,7 +34,7 @@ use Rattle.calm_laws.proofs.Flows.{fresh_stands}
 use Rattle.calm_laws.proofs.Lists.{among_map}
 use Rattle.calm_laws.proofs.Maps.{get_entry}
 use Rattle.world_defs.specs.Counts.{direction, node_ids, node_due}
-use Rattle.world_defs.specs.Nodes.{NodeState, Edge, CoreNode, is_edge, place_of}
+use Rattle.world_defs.specs.Nodes.{NodeState, Edge, CoreNode, is_edge, place_of, label_place_of}
 use Rattle.world_defs.specs.Refusals.{control_of}
 use Rattle.world_defs.specs.World.{World, scenario_of}
 use Rattle.rule_laws.specs.Edges.{as_message, edge_network}
@@ -112,7 +112,7 @@ pub record CalmEdge (world : World) (n : NodeId) : Type 0 where
   pub alive : (at : IfaceEntry) (expiry : Expiry) → maps.get edge.control.entries at ≡ Some expiry → is_after expiry world.network.state.clock ≡ true
   pub run : (key : VrfPattern) (selected : Selected) → maps.get edge.control.selections key ≡ Some selected → IsDue (scenario_of world).delay world.network.state.clock selected.since → selected.run ≡ true
 
-module _ (scenario : Scenario) (core : Core) (world : World) (k : Known scenario core world) where
+module _ (scenario : Scenario) (cores : Cores) (world : World) (k : Known scenario cores world) where
   abbrev pub net : EdgeNetwork
   net = edge_network (seen world.network k.step.0) k.step.2.edges.0
 
@@ -177,12 +177,12 @@ module _ (scenario : Scenario) (core : Core) (world : World) (k : Known scenario
       (each_id (λ (m : NodeId). node_due world.network.state m ≡ 0) 0 (length (scenario_of world).nodes) k.zeros.due n (omega arith) (let e = edge_of (scenario_of world) n h in let less = slice_get_within (scenario_of world).nodes n.0 e.node e.at in omega (arith, less)))
     where
       by : (state : NodeState) → world.network.state.node n ≡ state → IsEdgeNode state → NodeFact (place_of world.network.state n) world.network.state.clock state
-          → elim state as (λ _. ℕ) [ Edge edge ↦ dues.due (place_of world.network.state n) world.network.state.clock edge | CoreNode part ↦ labels.due (label_place (scenario_of world) world.network.state.core n) world.network.state.clock part ] ≡ 0 → CalmEdge world n
+          → elim state as (λ _. ℕ) [ Edge edge ↦ dues.due (place_of world.network.state n) world.network.state.clock edge | CoreNode part ↦ labels.due (label_place_of world.network.state n) world.network.state.clock part ] ≡ 0 → CalmEdge world n
       by (CoreNode part) e kind fact due = absurd kind
       by (Edge edge) e kind fact due =
           let now : ℕ = world.network.state.clock in
           let delay : ℕ = (scenario_of world).delay in
-          let a : ℕ = labels.due (label_place (scenario_of world) world.network.state.core n) now edge.part in
+          let a : ℕ = labels.due (label_place_of world.network.state n) now edge.part in
           let b : ℕ = entries.due edge.control.entries now in
           let c : ℕ = count_by (is_selection_due delay now) (maps.values edge.control.selections) in
           let d : ℕ = sum_by (dues.due_from (place_of world.network.state n) now) (maps.entries edge.control.peers) in

@@ -1,6 +1,6 @@
 -- What holds of the nodes of every run.
 use Rattle.std.specs.Prelude.{⊤}
-use Rattle.std.proofs.Common.{◌≡◌, ◌≢◌, ◌⊎◌, inl, inr, cond, map, length, slice_get, is_some, length-append, ℕ, ◌+◌, ◌≤◌, ◌++◌, Bool, true, false, ◌==◌, List, [], ◌∷◌, Option, Some, None, refl, sym, ap, subst, ◌∙◌, arith}
+use Rattle.std.proofs.Common.{◌≡◌, ◌≢◌, ◌⊎◌, inl, inr, cond, map, length, slice_get, is_some, length-append, ℕ, ◌+◌, ◌≤◌, ◌++◌, Bool, true, false, ◌==◌, List, [], ◌∷◌, Option, Some, None, le_refl, refl, sym, ap, subst, ◌∙◌, arith}
 use Rattle.std.specs.List.{AllByRecursion, fold}
 use Rattle.std.specs.FinMap as maps
 use Rattle.std.specs.FinMap.{find}
@@ -33,22 +33,23 @@ use Rattle.session_defs.specs.declared.direction.Direction.{Direction}
 use Rattle.edge_defs.specs.Edge as edges
 use Rattle.edge_defs.specs.Edge.{Note, note_cmp, Taken, Control, EdgeData}
 use Rattle.edge_defs.specs.Flows.{flows_at}
-use Rattle.edge_defs.specs.Place.{Core, EdgePlace, label_place}
+use Rattle.edge_defs.specs.Place.{EdgePlace}
+use Rattle.world_defs.specs.Costs.{Cores}
 use Rattle.edge_defs.specs.Steps as steps
 use Rattle.edge_defs.specs.Steps.{EdgeStepped, LabelStep, edge_step, own_label_call, changed_leaves, one_call, control_step, label_row, part_after}
 use Rattle.bgp_update.specs.Table.{changes_of}
 use Rattle.edge_defs.specs.Tunnels.{leaves}
 use Rattle.edge_defs.proofs.LeafSteps.{fresh_leaves, leaves_follow}
-use Rattle.calm_laws.proofs.Flows.{fresh_stands, later_stands, step_stands}
-use Rattle.world_defs.specs.Nodes.{NodeState, Edge, CoreNode, Nodes, is_edge, fresh_node, with_node, place_of}
+use Rattle.calm_laws.proofs.Flows.{Stands, fresh_stands, later_stands, step_stands}
+use Rattle.world_defs.specs.Nodes.{NodeState, Edge, CoreNode, Nodes, is_edge, start_nodes, fresh_node, with_node, following, label_place_of, place_of}
 use Rattle.world_defs.specs.Run.{Traced, Runs}
-use Rattle.world_defs.specs.System.{NodeCall, Own, Elapse, Reset, node_called, core_called, nodes_called}
+use Rattle.world_defs.specs.System.{NodeCall, Own, Elapse, Reset, Price, Follow, node_called, core_called, nodes_called}
 use Rattle.world_defs.specs.World.{World, start}
 use Rattle.mv_base.specs.declared.core_link.Link.{Link}
 use Rattle.mvpn_model.specs.Sessions.{sessions, edges_from, bgp_session, bgp_sessions, ldp_session}
 use Rattle.scenario_defs.specs.declared.scenario.Node.{Node}
 use Rattle.label_defs.specs.Keys.{node_cmp}
-use Rattle.label_defs.proofs.KeyLemmas.{node_cmp_total, node_cmp_exact, node_equal}
+use Rattle.label_defs.proofs.KeyLemmas.{node_cmp_total, node_cmp_exact, node_equal, node_itself}
 use Rattle.ready_laws.proofs.Ends.{Holds}
 use Rattle.once_laws.specs.Facts.{EdgeFact, NodeFact, NodesFact, FitEnd}
 use Rattle.world_laws.proofs.Lists.{each_map, each_weaker, each_append}
@@ -127,18 +128,20 @@ step_peers place now old (steps.Active iface source group) w h = h
 step_peers place now old (steps.Idle iface source group) w h = h
 step_peers place now old (steps.Select vrf pattern) w h = h
 step_peers place now old (steps.Unselect vrf pattern) w h = h
+step_peers place now old steps.Rerouted w h = h
 
 -- ---- an edge
 
-edge_fact : (nodes : Nodes) (n : NodeId) (edge : EdgeData) (call : steps.Call) → MayBe nodes.scenario (Own n call) → EdgeFact (place_of nodes n) nodes.clock edge → Holds (λ (new : EdgeStepped). EdgeFact (place_of nodes n) nodes.clock new.edge) (edge_step (place_of nodes n) nodes.clock edge call)
-edge_fact nodes n edge call w h =
+edge_fact : (nodes : Nodes) (n : NodeId) (edge : EdgeData) (call : steps.Call) → MayBe nodes.scenario (Own n call) → edge.part.leaves ≡ leaves (place_of nodes n) edge.control → PeersFit (place_of nodes n) edge.control
+    → Stands (place_of nodes n) nodes.clock (control_step (place_of nodes n) nodes.clock edge.control call) → Holds (λ (new : EdgeStepped). EdgeFact (place_of nodes n) nodes.clock new.edge) (edge_step (place_of nodes n) nodes.clock edge call)
+edge_fact nodes n edge call w same fits stands =
     let place : EdgePlace = place_of nodes n in
     let control : Control = control_step place nodes.clock edge.control call in
     let IsNew : EdgeStepped → Type 0 = λ new. new.edge.control ≡ control in
     let Leafs : EdgeStepped → Type 0 = λ new. new.edge.part.leaves ≡ leaves place new.edge.control in
     let row = label_row place nodes.clock edge.part (one_call (own_label_call call) ++ changed_leaves (leaves place edge.control) (leaves place control)) in
     let controls : Holds IsNew (edge_step place nodes.clock edge call) = holds_then (λ (r : List LabelStep). ⊤) IsNew row (λ r. Some (record { edge = record { control = control; part = part_after edge.part r }; row = r })) (holds_from (λ (r : List LabelStep). ⊤) row (λ r e. tt)) (λ r t. refl) in
-    let leafs : Holds Leafs (edge_step place nodes.clock edge call) = holds_from Leafs (edge_step place nodes.clock edge call) (λ new e. leaves_follow place nodes.clock edge call new h.leaves e) in
+    let leafs : Holds Leafs (edge_step place nodes.clock edge call) = holds_from Leafs (edge_step place nodes.clock edge call) (λ new e. leaves_follow place nodes.clock edge call new same e) in
     by (edge_step place nodes.clock edge call) (holds_both IsNew Leafs (edge_step place nodes.clock edge call) controls leafs)
   where
     by : (o : Option EdgeStepped) → Holds (λ (new : EdgeStepped). (new.edge.control ≡ control_step (place_of nodes n) nodes.clock edge.control call) × (new.edge.part.leaves ≡ leaves (place_of nodes n) new.edge.control)) o
@@ -146,8 +149,8 @@ edge_fact nodes n edge call w h =
     by None f = tt
     by (Some new) f = record {
       leaves = f.1;
-      flows = subst (λ (c : Control). (moment : ℕ) × (moment ≤ nodes.clock) × (c.flows ≡ flows_at (place_of nodes n) moment c)) (sym f.0) (step_stands (place_of nodes n) nodes.clock edge.control call h.flows);
-      peers = subst (PeersFit (place_of nodes n)) (sym f.0) (step_peers (place_of nodes n) nodes.clock edge.control call w h.peers);
+      flows = subst (λ (c : Control). (moment : ℕ) × (moment ≤ nodes.clock) × (c.flows ≡ flows_at (place_of nodes n) moment c)) (sym f.0) stands;
+      peers = subst (PeersFit (place_of nodes n)) (sym f.0) (step_peers (place_of nodes n) nodes.clock edge.control call w fits);
     }
 
 -- ---- a core node
@@ -168,43 +171,69 @@ taken_leaves place now part from (messages.Withdraw fec label) = refl
 taken_leaves place now part from (messages.Release fec label) = released_leaves part from fec label (now + place.life + 1)
 taken_leaves place now part from (messages.Ignored kind) = refl
 
-one_fact : (nodes : Nodes) (n : NodeId) (part : LabelData) (own : label_steps.Call) → (effect (label_place nodes.scenario nodes.core n) nodes.clock part own).0.part.leaves ≡ part.leaves → NoLeaves part → Holds (λ (new : settling.Stepped). NoLeaves new.part) (label_step (label_place nodes.scenario nodes.core n) nodes.clock part own)
+one_fact : (nodes : Nodes) (n : NodeId) (part : LabelData) (own : label_steps.Call) → (effect (label_place_of nodes n) nodes.clock part own).0.part.leaves ≡ part.leaves → NoLeaves part → Holds (λ (new : settling.Stepped). NoLeaves new.part) (label_step (label_place_of nodes n) nodes.clock part own)
 one_fact nodes n part own e h =
-    holds_from (λ (new : settling.Stepped). NoLeaves new.part) (label_step (label_place nodes.scenario nodes.core n) nodes.clock part own)
-    (λ new is fec. ap (λ (s : sets.FinSet fec_cmp). sets.contains s fec) (same_leaves (label_place nodes.scenario nodes.core n) nodes.clock part own new is ∙ e) ∙ h fec)
+    holds_from (λ (new : settling.Stepped). NoLeaves new.part) (label_step (label_place_of nodes n) nodes.clock part own)
+    (λ new is fec. ap (λ (s : sets.FinSet fec_cmp). sets.contains s fec) (same_leaves (label_place_of nodes n) nodes.clock part own new is ∙ e) ∙ h fec)
 
 -- ---- all nodes
 
-one_node : (scenario : Scenario) (core : Core) (nodes : Nodes) (n : NodeId) (new : NodeState) → NodesFact scenario core nodes → NodeFact (place_of nodes n) nodes.clock new → NodesFact scenario core (with_node nodes n new)
-one_node scenario core nodes n new f h = record {
+one_node : (scenario : Scenario) (nodes : Nodes) (n : NodeId) (new : NodeState) → NodesFact scenario nodes → NodeFact (place_of nodes n) nodes.clock new → NodesFact scenario (with_node nodes n new)
+one_node scenario nodes n new f h = record {
   same = f.same;
-  same_core = f.same_core;
   node = λ m. cond_both (m.0 == n.0) new (nodes.node m) (λ (state : NodeState). NodeFact (place_of nodes m) nodes.clock state) (λ t. subst (λ (x : NodeId). NodeFact (place_of nodes x) nodes.clock new) (sym (node_equal m n t)) h) (λ e. f.node m);
 }
 
-core_step : (scenario : Scenario) (core : Core) (nodes : Nodes) (n : NodeId) (part : LabelData) (own : label_steps.Call) → NodesFact scenario core nodes → (effect (label_place nodes.scenario nodes.core n) nodes.clock part own).0.part.leaves ≡ part.leaves → NoLeaves part
-    → Holds (λ (new : Stepped Nodes). NodesFact scenario core new.state) (core_called nodes n part (Some own))
-core_step scenario core nodes n part own f e h =
-    holds_then (λ (new : settling.Stepped). NoLeaves new.part) (λ (new : Stepped Nodes). NodesFact scenario core new.state) (label_step (label_place nodes.scenario nodes.core n) nodes.clock part own) _
-    (one_fact nodes n part own e h) (λ new p. one_node scenario core nodes n (CoreNode new.part) f p)
+core_step : (scenario : Scenario) (nodes : Nodes) (n : NodeId) (part : LabelData) (own : label_steps.Call) → NodesFact scenario nodes → (effect (label_place_of nodes n) nodes.clock part own).0.part.leaves ≡ part.leaves → NoLeaves part
+    → Holds (λ (new : Stepped Nodes). NodesFact scenario new.state) (core_called nodes n part (Some own))
+core_step scenario nodes n part own f e h =
+    holds_then (λ (new : settling.Stepped). NoLeaves new.part) (λ (new : Stepped Nodes). NodesFact scenario new.state) (label_step (label_place_of nodes n) nodes.clock part own) _
+    (one_fact nodes n part own e h) (λ new p. one_node scenario nodes n (CoreNode new.part) f p)
 
-core_fact : (scenario : Scenario) (core : Core) (nodes : Nodes) (n : NodeId) (part : LabelData) (call : steps.Call) → NodesFact scenario core nodes → NoLeaves part → Holds (λ (new : Stepped Nodes). NodesFact scenario core new.state) (core_called nodes n part (own_label_call call))
-core_fact scenario core nodes n part (steps.Label from message) f h = core_step scenario core nodes n part (label_steps.Taken from message) f (taken_leaves (label_place nodes.scenario nodes.core n) nodes.clock part from message) h
-core_fact scenario core nodes n part (steps.Raised kinds.Ldp peer) f h = core_step scenario core nodes n part (label_steps.Raised peer) f refl h
-core_fact scenario core nodes n part (steps.Raised kinds.Bgp peer) f h = f
-core_fact scenario core nodes n part (steps.Noticed kinds.Ldp peer) f h = core_step scenario core nodes n part (label_steps.Noticed peer) f refl h
-core_fact scenario core nodes n part (steps.Noticed kinds.Bgp peer) f h = f
-core_fact scenario core nodes n part steps.Timers f h = core_step scenario core nodes n part label_steps.Timers f refl h
-core_fact scenario core nodes n part other f h = f
+core_fact : (scenario : Scenario) (nodes : Nodes) (n : NodeId) (part : LabelData) (call : steps.Call) → NodesFact scenario nodes → NoLeaves part → Holds (λ (new : Stepped Nodes). NodesFact scenario new.state) (core_called nodes n part (own_label_call call))
+core_fact scenario nodes n part (steps.Label from message) f h = core_step scenario nodes n part (label_steps.Taken from message) f (taken_leaves (label_place_of nodes n) nodes.clock part from message) h
+core_fact scenario nodes n part (steps.Raised kinds.Ldp peer) f h = core_step scenario nodes n part (label_steps.Raised peer) f refl h
+core_fact scenario nodes n part (steps.Raised kinds.Bgp peer) f h = f
+core_fact scenario nodes n part (steps.Noticed kinds.Ldp peer) f h = core_step scenario nodes n part (label_steps.Noticed peer) f refl h
+core_fact scenario nodes n part (steps.Noticed kinds.Bgp peer) f h = f
+core_fact scenario nodes n part steps.Timers f h = core_step scenario nodes n part label_steps.Timers f refl h
+core_fact scenario nodes n part steps.Rerouted f h = core_step scenario nodes n part label_steps.Rerouted f refl h
+core_fact scenario nodes n part other f h = f
 
-called_fact : (scenario : Scenario) (core : Core) (nodes : Nodes) (n : NodeId) (call : steps.Call) → MayBe nodes.scenario (Own n call) → NodesFact scenario core nodes → Holds (λ (new : Stepped Nodes). NodesFact scenario core new.state) (node_called nodes n (nodes.node n) call)
-called_fact scenario core nodes n call w f = by (nodes.node n) (f.node n)
+called_fact : (scenario : Scenario) (nodes : Nodes) (n : NodeId) (call : steps.Call) → MayBe nodes.scenario (Own n call) → NodesFact scenario nodes → Holds (λ (new : Stepped Nodes). NodesFact scenario new.state) (node_called nodes n (nodes.node n) call)
+called_fact scenario nodes n call w f = by (nodes.node n) (f.node n)
   where
-    by : (state : NodeState) → NodeFact (place_of nodes n) nodes.clock state → Holds (λ (new : Stepped Nodes). NodesFact scenario core new.state) (node_called nodes n state call)
+    by : (state : NodeState) → NodeFact (place_of nodes n) nodes.clock state → Holds (λ (new : Stepped Nodes). NodesFact scenario new.state) (node_called nodes n state call)
     by (Edge edge) h =
-        holds_then (λ (new : EdgeStepped). EdgeFact (place_of nodes n) nodes.clock new.edge) (λ (new : Stepped Nodes). NodesFact scenario core new.state) (edge_step (place_of nodes n) nodes.clock edge call) _
-        (edge_fact nodes n edge call w h) (λ new p. one_node scenario core nodes n (Edge new.edge) f p)
-    by (CoreNode part) h = core_fact scenario core nodes n part call f h
+        holds_then (λ (new : EdgeStepped). EdgeFact (place_of nodes n) nodes.clock new.edge) (λ (new : Stepped Nodes). NodesFact scenario new.state) (edge_step (place_of nodes n) nodes.clock edge call) _
+        (edge_fact nodes n edge call w h.leaves h.peers (step_stands (place_of nodes n) nodes.clock edge.control call h.flows)) (λ new p. one_node scenario nodes n (Edge new.edge) f p)
+    by (CoreNode part) h = core_fact scenario nodes n part call f h
+
+-- a node that takes over the present costs: its place has another core, and all others have theirs
+followed : (scenario : Scenario) (nodes : Nodes) (n : NodeId) (new : NodeState) → NodesFact scenario nodes → NodeFact (place_of (following nodes n) n) nodes.clock new → NodesFact scenario (with_node (following nodes n) n new)
+followed scenario nodes n new f h = record { same = f.same; node = λ m. one m (cases_Bool (m.0 == n.0)) }
+  where
+    there : NodeId → NodeState
+    there m = cond (m.0 == n.0) new (nodes.node m)
+
+    here : NodeFact (place_of (following nodes n) n) nodes.clock (cond (n.0 == n.0) new (nodes.node n))
+    here = subst (λ (b : Bool). NodeFact (place_of (following nodes n) n) nodes.clock (cond b new (nodes.node n))) (sym (node_itself n n refl)) h
+
+    one : (m : NodeId) → ((m.0 == n.0) ≡ true) ⊎ ((m.0 == n.0) ≡ false) → NodeFact (place_of (following nodes n) m) nodes.clock (cond (m.0 == n.0) new (nodes.node m))
+    one m (inl t) = subst (λ (x : NodeId). NodeFact (place_of (following nodes n) x) nodes.clock (cond (x.0 == n.0) new (nodes.node x))) (sym (node_equal m n t)) here
+    one m (inr e) =
+        subst (λ (b : Bool). NodeFact (record { scenario = nodes.scenario; core = nodes.cores (cond b nodes.links (nodes.known m)); me = m }) nodes.clock (cond b new (nodes.node m))) (sym e) (f.node m)
+
+follow_fact : (scenario : Scenario) (nodes : Nodes) (n : NodeId) → NodesFact scenario nodes → Holds (λ (new : Stepped Nodes). NodesFact scenario new.state) (node_called (following nodes n) n (nodes.node n) steps.Rerouted)
+follow_fact scenario nodes n f = by (nodes.node n) (f.node n)
+  where
+    by : (state : NodeState) → NodeFact (place_of nodes n) nodes.clock state → Holds (λ (new : Stepped Nodes). NodesFact scenario new.state) (node_called (following nodes n) n state steps.Rerouted)
+    by (Edge edge) h =
+        holds_then (λ (new : EdgeStepped). EdgeFact (place_of (following nodes n) n) nodes.clock new.edge) (λ (new : Stepped Nodes). NodesFact scenario new.state) (edge_step (place_of (following nodes n) n) nodes.clock edge steps.Rerouted) _
+        (edge_fact (following nodes n) n edge steps.Rerouted tt h.leaves h.peers (nodes.clock, le_refl nodes.clock, refl)) (λ new p. followed scenario nodes n (Edge new.edge) f p)
+    by (CoreNode part) h =
+        holds_then (λ (new : settling.Stepped). NoLeaves new.part) (λ (new : Stepped Nodes). NodesFact scenario new.state) (label_step (label_place_of (following nodes n) n) nodes.clock part label_steps.Rerouted) _
+        (one_fact (following nodes n) n part label_steps.Rerouted refl h) (λ new p. followed scenario nodes n (CoreNode new.part) f p)
 
 later_fact : (place : EdgePlace) (now later : ℕ) (state : NodeState) → now ≤ later → NodeFact place now state → NodeFact place later state
 later_fact place now later (Edge edge) le h = record { leaves = h.leaves; flows = later_stands place now later edge.control le h.flows; peers = h.peers }
@@ -215,10 +244,12 @@ fresh_fact place now scenario n = cond_both (is_edge scenario n) (Edge (edges.fr
     (λ t. record { leaves = fresh_leaves place scenario.labels; flows = fresh_stands place now; peers = λ peer up. absurd (true≢false (sym (ap (λ (o : Option Taken). is_some o) (sym (maps.get-empty node_cmp peer)) ∙ up))) })
     (λ t fec. sets.contains-empty fec_cmp fec)
 
-step : (scenario : Scenario) (core : Core) (nodes : Nodes) (call : NodeCall) → MayBe scenario call → NodesFact scenario core nodes → Holds (λ (new : Stepped Nodes). NodesFact scenario core new.state) (nodes_called call nodes)
-step scenario core nodes (Own n call) w f = called_fact scenario core nodes n call (subst (λ (s : Scenario). MayBe s (Own n call)) (sym f.same) w) f
-step scenario core nodes (Elapse ticks) w f = record { same = f.same; same_core = f.same_core; node = λ n. later_fact (place_of nodes n) nodes.clock (nodes.clock + ticks) (nodes.node n) (omega arith) (f.node n) }
-step scenario core nodes (Reset n) w f = one_node scenario core nodes n (fresh_node nodes.scenario n) f (fresh_fact (place_of nodes n) nodes.clock nodes.scenario n)
+step : (scenario : Scenario) (nodes : Nodes) (call : NodeCall) → MayBe scenario call → NodesFact scenario nodes → Holds (λ (new : Stepped Nodes). NodesFact scenario new.state) (nodes_called call nodes)
+step scenario nodes (Own n call) w f = called_fact scenario nodes n call (subst (λ (s : Scenario). MayBe s (Own n call)) (sym f.same) w) f
+step scenario nodes (Elapse ticks) w f = record { same = f.same; node = λ n. later_fact (place_of nodes n) nodes.clock (nodes.clock + ticks) (nodes.node n) (omega arith) (f.node n) }
+step scenario nodes (Price a b cost) w f = record { same = f.same; node = f.node }
+step scenario nodes (Follow n) w f = follow_fact scenario nodes n f
+step scenario nodes (Reset n) w f = one_node scenario nodes n (fresh_node nodes.scenario n) f (fresh_fact (place_of nodes n) nodes.clock nodes.scenario n)
 
 -- ---- sessions
 
@@ -268,35 +299,36 @@ ldp_fit scenario (link ∷ more) = ((tt, tt), ldp_fit scenario more)
 sessions_fit : (scenario : Scenario) → AllByRecursion (AreFit (FitEnd scenario)) (sessions scenario)
 sessions_fit scenario = each_append (AreFit (FitEnd scenario)) (bgp_sessions (edges_from 0 scenario.nodes)) (map ldp_session scenario.links) (apart_from scenario 0 [] scenario.nodes refl refl) (ldp_fit scenario scenario.links)
 
-fit : (scenario : Scenario) (core : Core) (nodes : Nodes) → NodesFact scenario core nodes → AllByRecursion (AreFit (FitEnd scenario)) (sessions nodes.scenario)
-fit scenario core nodes f = subst (λ (s : Scenario). AllByRecursion (AreFit (FitEnd scenario)) (sessions s)) (sym f.same) (sessions_fit scenario)
+fit : (scenario : Scenario) (nodes : Nodes) → NodesFact scenario nodes → AllByRecursion (AreFit (FitEnd scenario)) (sessions nodes.scenario)
+fit scenario nodes f = subst (λ (s : Scenario). AllByRecursion (AreFit (FitEnd scenario)) (sessions s)) (sym f.same) (sessions_fit scenario)
 
 -- ---- runs
 
-abbrev Facts : Scenario → Core → Nodes → Type 0
-Facts scenario core = NodesFact scenario core
+abbrev Facts : Scenario → Nodes → Type 0
+Facts scenario = NodesFact scenario
 
-event_may : (scenario : Scenario) (core : Core) (event : Event) → EventMay (Facts scenario core) (FitEnd scenario) (fit scenario core) (MayBe scenario) (free scenario) (step scenario core) event
-event_may scenario core (events.Tick count) = tt
-event_may scenario core (events.Timers node) = tt
-event_may scenario core events.Settle = λ n. tt
-event_may scenario core (events.Restart node) = tt
-event_may scenario core (events.Join iface entry) = λ n at message. tt
-event_may scenario core (events.Prune iface entry) = λ n at message. tt
-event_may scenario core (events.Pim iface bytes) = λ n at message. tt
-event_may scenario core (events.Active iface source group) = λ n. tt
-event_may scenario core (events.Idle iface source group) = λ n. tt
-event_may scenario core (events.Select vrf pattern) = λ n. tt
-event_may scenario core (events.Unselect vrf pattern) = λ n. tt
-event_may scenario core other = tt
+event_may : (scenario : Scenario) (event : Event) → EventMay (Facts scenario) (FitEnd scenario) (fit scenario) (MayBe scenario) (free scenario) (step scenario) event
+event_may scenario (events.Tick count) = tt
+event_may scenario (events.Timers node) = tt
+event_may scenario events.Settle = λ n. tt
+event_may scenario (events.Restart node) = tt
+event_may scenario (events.Join iface entry) = λ n at message. tt
+event_may scenario (events.Prune iface entry) = λ n at message. tt
+event_may scenario (events.Pim iface bytes) = λ n at message. tt
+event_may scenario (events.Active iface source group) = λ n. tt
+event_may scenario (events.Idle iface source group) = λ n. tt
+event_may scenario (events.Select vrf pattern) = λ n. tt
+event_may scenario (events.Unselect vrf pattern) = λ n. tt
+event_may scenario (events.Cost a b cost) = (tt, λ n. tt)
+event_may scenario other = tt
 
-events_may : (scenario : Scenario) (core : Core) (all : List Timed) → AllByRecursion (λ (timed : Timed). EventMay (Facts scenario core) (FitEnd scenario) (fit scenario core) (MayBe scenario) (free scenario) (step scenario core) timed.event) all
-events_may scenario core [] = tt
-events_may scenario core (timed ∷ more) = (event_may scenario core timed.event, events_may scenario core more)
+events_may : (scenario : Scenario) (all : List Timed) → AllByRecursion (λ (timed : Timed). EventMay (Facts scenario) (FitEnd scenario) (fit scenario) (MayBe scenario) (free scenario) (step scenario) timed.event) all
+events_may scenario [] = tt
+events_may scenario (timed ∷ more) = (event_may scenario timed.event, events_may scenario more)
 
-pub run_facts : (scenario : Scenario) (core : Core) (all : List Timed) (trace : List Traced) (new : World) → Runs (start scenario core) 0 all trace new
-    → NodesFact scenario core new.network.state × ((over : Direction) → Rests over.kind (new.network.stream over))
-run_facts scenario core all trace new run =
-    let c = runs_hold (Facts scenario core) (FitEnd scenario) (fit scenario core) (MayBe scenario) (free scenario) (step scenario core) all (events_may scenario core all) (start scenario core) 0 trace new
-    (record { nodes = record { same = refl; same_core = refl; node = λ n. fresh_fact (record { scenario = scenario; core = core; me = n }) 0 scenario n }; rests = λ over. unfed_rests over.kind }) run in
+pub run_facts : (scenario : Scenario) (cores : Cores) (all : List Timed) (trace : List Traced) (new : World) → Runs (start scenario cores) 0 all trace new
+    → NodesFact scenario new.network.state × ((over : Direction) → Rests over.kind (new.network.stream over))
+run_facts scenario cores all trace new run =
+    let c = runs_hold (Facts scenario) (FitEnd scenario) (fit scenario) (MayBe scenario) (free scenario) (step scenario) all (events_may scenario all) (start scenario cores) 0 trace new
+    (record { nodes = record { same = refl; node = λ n. fresh_fact (place_of (start_nodes scenario cores) n) 0 scenario n }; rests = λ over. unfed_rests over.kind }) run in
     (c.nodes, c.rests)

@@ -15,7 +15,7 @@ use Rattle.scenario_defs.specs.declared.scenario.Scenario.{Scenario}
 use Rattle.mvpn_model.specs.Once.{Once}
 use Rattle.mvpn_model.specs.Report.{Entry, datagrams, lines_of, refused_line, refused_lines}
 use Rattle.mvpn_model.specs.Safe.{IsSafeOut, IsSafeLine, IsSafeEntry, Safe}
-use Rattle.edge_defs.specs.Place.{Core}
+use Rattle.world_defs.specs.Costs.{Cores}
 use Rattle.world_defs.specs.Events.{Happened}
 use Rattle.world_defs.specs.Run.{Traced, traced, report_of}
 use Rattle.world_laws.proofs.Lists.{each_append, each_weaker}
@@ -94,7 +94,7 @@ quiet_refuses number (happened ∷ more) q = flat_map-append refused_line happen
 
 -- ---- runs that halt
 
-module _ (core : Core) (script : Script) (report : List Entry) (node : NodeId) (s : SoundHalt core script report node) (rises : Rises 0 script.events) where
+module _ (cores : Cores) (script : Script) (report : List Entry) (node : NodeId) (s : SoundHalt cores script report node) (rises : Rises 0 script.events) where
   abbrev late : List Timed
   late = s.halt.timed ∷ s.halt.after
 
@@ -114,22 +114,22 @@ module _ (core : Core) (script : Script) (report : List Entry) (node : NodeId) (
   refused_is : refused_lines report ≡ refused_lines begun
   refused_is =
       ap refused_lines report_is ∙ refused_both (begun ++ ending) halted ∙ append-nil (refused_lines (begun ++ ending)) ∙ refused_both begun ending
-      ∙ ap (λ (l : List ℕ). refused_lines begun ++ l) (quiet_refuses (length s.halt.before) s.halt.acts (acts_quiet core script report node s)) ∙ append-nil (refused_lines begun)
+      ∙ ap (λ (l : List ℕ). refused_lines begun ++ l) (quiet_refuses (length s.halt.before) s.halt.acts (acts_quiet cores script report node s)) ∙ append-nil (refused_lines begun)
 
   rises_before : Rises 0 s.halt.before
   rises_before = rises_first s.halt.before late 0 (subst (Rises 0) s.halt.events rises)
 
   pub halt_delivers_once : Once script.scenario s.halt.before (refused_lines begun) begun
-  halt_delivers_once = deliver_once core script s.halt.before s.halt.trace s.halt.world (run_before core script report node s) rises_before
+  halt_delivers_once = deliver_once cores script s.halt.before s.halt.trace s.halt.world (run_before cores script report node s) rises_before
 
   pub halt_is_safe : Safe script.scenario script.events (refused_lines report) report
   halt_is_safe =
       let refused : List ℕ = refused_lines report in
       let early : Safe script.scenario s.halt.before refused begun =
-      subst (λ (l : List ℕ). Safe script.scenario s.halt.before l begun) (sym refused_is) (safe core script s.halt.before s.halt.trace s.halt.world (run_before core script report node s) rises_before) in
+      subst (λ (l : List ℕ). Safe script.scenario s.halt.before l begun) (sym refused_is) (safe cores script s.halt.before s.halt.trace s.halt.world (run_before cores script report node s) rises_before) in
       let first : Safe script.scenario script.events refused begun =
       subst (λ (l : List Timed). Safe script.scenario l refused begun) (sym s.halt.events)
       (each_weaker (IsSafeEntry script.scenario s.halt.before refused) (IsSafeEntry script.scenario (s.halt.before ++ late) refused) (entry_more script.scenario refused s.halt.before late) begun early) in
-      let quiet : Safe script.scenario script.events refused ending = quiet_safe script.scenario refused script.events (length s.halt.before) s.halt.acts (acts_quiet core script report node s) in
+      let quiet : Safe script.scenario script.events refused ending = quiet_safe script.scenario refused script.events (length s.halt.before) s.halt.acts (acts_quiet cores script report node s) in
       let Entries : Entry → Type 0 = IsSafeEntry script.scenario script.events refused in
       subst (Safe script.scenario script.events refused) (sym report_is) (each_append Entries (begun ++ ending) halted (each_append Entries begun ending first quiet) ((tt, tt), tt))

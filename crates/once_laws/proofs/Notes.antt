@@ -35,16 +35,17 @@ use Rattle.label_defs.proofs.KeyLemmas.{node_equal, ties}
 use Rattle.session_defs.specs.System.{Stepped}
 use Rattle.edge_defs.specs.Edge as edges
 use Rattle.edge_defs.specs.Edge.{Note, note_cmp, Taken, Control, EdgeData}
-use Rattle.edge_defs.specs.Place.{Core, EdgePlace, label_place}
+use Rattle.edge_defs.specs.Place.{EdgePlace}
+use Rattle.world_defs.specs.Costs.{Cores}
 use Rattle.edge_defs.specs.Steps as steps
 use Rattle.edge_defs.specs.Steps.{EdgeStepped, edge_step, own_label_call, control_step}
 use Rattle.edge_defs.proofs.KeyLemmas.{note_total, note_exact}
 use Rattle.world_defs.specs.Acts.{At}
 use Rattle.world_defs.specs.Events.{Happened, Done, row, one_act, at_edge, done}
-use Rattle.world_defs.specs.Nodes.{NodeState, Edge, CoreNode, Nodes, is_edge, fresh_node, with_node, place_of}
+use Rattle.world_defs.specs.Nodes.{NodeState, Edge, CoreNode, Nodes, is_edge, fresh_node, with_node, place_of, label_place_of, following}
 use Rattle.world_defs.specs.Refusals.{control_of, refusal}
 use Rattle.world_defs.specs.Run.{Traced, Runs, outcome, report_of}
-use Rattle.world_defs.specs.System.{NodeCall, Own, Elapse, Reset, node_called, core_called, nodes_called}
+use Rattle.world_defs.specs.System.{NodeCall, Own, Elapse, Reset, Price, Follow, node_called, core_called, nodes_called}
 use Rattle.world_defs.specs.World.{World, start, scenario_of}
 use Rattle.delivery_laws.proofs.Accepted.{TellsAccepted, accepts, tells_accepted}
 use Rattle.delivery_laws.proofs.Outcomes.{Leads, then_leads, one_leads, leads_as}
@@ -79,6 +80,8 @@ MayStand (Own n (steps.Idle iface source group)) = ⊥
 MayStand (Own n call) = ⊤
 MayStand (Elapse ticks) = ⊤
 MayStand (Reset n) = ⊥
+MayStand (Price a b cost) = ⊤
+MayStand (Follow n) = ⊤
 
 update_notes : (now : ℕ) (peer : NodeId) (message : Message) (old : Control) → (steps.with_update now peer message old).notes ≡ old.notes
 update_notes now peer message old = by (maps.get old.peers peer)
@@ -100,6 +103,7 @@ step_notes place now n old (steps.Raised kinds.Ldp peer) w = refl
 step_notes place now n old (steps.Noticed kinds.Bgp peer) w = refl
 step_notes place now n old (steps.Noticed kinds.Ldp peer) w = refl
 step_notes place now n old steps.Timers w = refl
+step_notes place now n old steps.Rerouted w = refl
 
 -- one node becomes another, which has the notes that are told
 one_stands : (scenario : Scenario) (old noted : Noted) (nodes : Nodes) (at : NodeId) (new : NodeState) → NotesStand scenario old nodes → (IsEdgeNode (nodes.node at) → IsEdgeNode new)
@@ -124,8 +128,8 @@ called_stands scenario noted nodes n call w s = by (nodes.node n) refl
     core : (part : LabelData) → nodes.node n ≡ CoreNode part → (o : Option label_steps.Call) → Holds (λ (new : Stepped Nodes). NotesStand scenario noted new.state) (core_called nodes n part o)
     core part e None = s
     core part e (Some own) =
-        holds_then (λ (new : settling.Stepped). ⊤) (λ (new : Stepped Nodes). NotesStand scenario noted new.state) (label_step (label_place nodes.scenario nodes.core n) nodes.clock part own) _
-        (holds_from (λ (new : settling.Stepped). ⊤) (label_step (label_place nodes.scenario nodes.core n) nodes.clock part own) (λ new is. tt))
+        holds_then (λ (new : settling.Stepped). ⊤) (λ (new : Stepped Nodes). NotesStand scenario noted new.state) (label_step (label_place_of nodes n) nodes.clock part own) _
+        (holds_from (λ (new : settling.Stepped). ⊤) (label_step (label_place_of nodes n) nodes.clock part own) (λ new is. tt))
         (λ new p. same_notes scenario noted nodes n (CoreNode new.part) s (λ kind. subst IsEdgeNode e kind) (ap (λ (state : NodeState). (control_of state).notes) (sym e)))
 
     by : (state : NodeState) → nodes.node n ≡ state → Holds (λ (new : Stepped Nodes). NotesStand scenario noted new.state) (node_called nodes n state call)
@@ -140,6 +144,8 @@ step : (scenario : Scenario) (noted : Noted) (nodes : Nodes) (call : NodeCall) �
 step scenario noted nodes (Own n call) w s = called_stands scenario noted nodes n call w s
 step scenario noted nodes (Elapse ticks) w s = record { same = s.same; kinds = s.kinds; notes = s.notes }
 step scenario noted nodes (Reset n) w s = absurd w
+step scenario noted nodes (Price a b cost) w s = record { same = s.same; kinds = s.kinds; notes = s.notes }
+step scenario noted nodes (Follow n) w s = called_stands scenario noted (following nodes n) n steps.Rerouted tt (record { same = s.same; kinds = s.kinds; notes = s.notes })
 
 may_free : (n : NodeId) (call : steps.Call) → IsOfSession Free n call → MayStand (Own n call)
 may_free n (steps.Active iface source group) h = absurd h
@@ -290,6 +296,7 @@ event_stands scenario rules noted world s r (events.Join iface entry) = other_ev
 event_stands scenario rules noted world s r (events.Prune iface entry) = other_event scenario noted world (events.Prune iface entry) (λ n at message. tt) s r
 event_stands scenario rules noted world s r (events.Pim iface bytes) = other_event scenario noted world (events.Pim iface bytes) (λ n at message. tt) s r
 event_stands scenario rules noted world s r (events.Select vrf pattern) = other_event scenario noted world (events.Select vrf pattern) (λ n. tt) s r
+event_stands scenario rules noted world s r (events.Cost a b cost) = other_event scenario noted world (events.Cost a b cost) (tt, λ n. tt) s r
 event_stands scenario rules noted world s r (events.Unselect vrf pattern) = other_event scenario noted world (events.Unselect vrf pattern) (λ n. tt) s r
 event_stands scenario rules noted world s r other = other_event scenario noted world other tt s r
 
@@ -333,8 +340,8 @@ runs_note scenario rules refused [] noted old number trace new a t run = subst (
 runs_note scenario rules refused (timed ∷ more) noted old number trace new a t run =
     runs_note scenario rules refused more (one_after scenario refused timed noted) run.1 (number + 1) run.2 new (a.1 run.0 run.1 run.3) (one_note scenario rules refused noted old timed run.0 run.1 a.0 t run.3) run.5
 
-start_notes : (scenario : Scenario) (core : Core) → Notes scenario (λ note. false) (start scenario core)
-start_notes scenario core = record {
+start_notes : (scenario : Scenario) (core : Cores) → Notes scenario (λ note. false) (start scenario core)
+start_notes scenario cores = record {
   stands = record {
     same = refl;
     kinds = λ n h. subst (λ (b : Bool). IsEdgeNode (cond b (Edge (edges.fresh scenario.labels)) (CoreNode (labels.fresh scenario.labels)))) (sym h) tt;
@@ -346,9 +353,9 @@ start_notes scenario core = record {
 }
 
 -- Behind every run the sources that are noted at an interface are those that its edge has noted.
-pub notes_told : (core : Core) (scenario : Scenario) (all : List Timed) (trace : List Traced) (world : World) → Rules scenario → Rises 0 all → Runs (start scenario core) 0 all trace world → NotesAreTold (record { scenario = scenario; events = all; refused = refused_lines (report_of trace) }) world
-notes_told core scenario all trace world rules rises run iface n source group at =
+pub notes_told : (core : Cores) (scenario : Scenario) (all : List Timed) (trace : List Traced) (world : World) → Rules scenario → Rises 0 all → Runs (start scenario core) 0 all trace world → NotesAreTold (record { scenario = scenario; events = all; refused = refused_lines (report_of trace) }) world
+notes_told cores scenario all trace world rules rises run iface n source group at =
     let refused = refused_lines (report_of trace) in
-    let accepted = tells_accepted all (start scenario core) 0 trace world 0 [] refused rises (λ line less. refl) refl run in
-    let t = runs_note scenario rules refused all (λ note. false) (start scenario core) 0 trace world accepted (start_notes scenario core) run in
+    let accepted = tells_accepted all (start scenario cores) 0 trace world 0 [] refused rises (λ line less. refl) refl run in
+    let t = runs_note scenario rules refused all (λ note. false) (start scenario cores) 0 trace world accepted (start_notes scenario cores) run in
     t.stands.notes (record { iface = iface; source = source; group = group }) n (ap (λ (x : Scenario). edge_of x iface) (sym t.stands.same) ∙ at)

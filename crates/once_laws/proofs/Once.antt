@@ -21,7 +21,7 @@ use Rattle.scenario_defs.specs.declared.scenario.Iface.{Iface}
 use Rattle.scenario_defs.specs.declared.scenario.Scenario.{Scenario}
 use Rattle.scenario_defs.specs.declared.scenario.Vrf.{Vrf}
 use Rattle.selective_defs.specs.Selective.{Among}
-use Rattle.edge_defs.specs.Place.{Core}
+use Rattle.world_defs.specs.Costs.{Cores}
 use Rattle.calm_laws.proofs.Lists.{any_from, any_among}
 use Rattle.delivery_laws.specs.Choice.{serves_by, serves_from, is_served, CalmChoice}
 use Rattle.delivery_laws.specs.Once.{receives_by, past_of}
@@ -42,7 +42,7 @@ use Rattle.once_laws.proofs.Notes.{notes_told}
 use Rattle.once_laws.proofs.StandRuns.{asks_told}
 use Rattle.once_laws.proofs.Serves.{Here, here_of, served_by, one_serves}
 
-module _ (scenario : Scenario) (core : Core) (world : World) (k : Known scenario core world) (datagram : Datagram) (past : Past) (of_past : past.scenario ≡ scenario_of world) (told : AsksAreTold past world × NotesAreTold past world) (iface : IfaceId) where
+module _ (scenario : Scenario) (cores : Cores) (world : World) (k : Known scenario cores world) (datagram : Datagram) (past : Past) (of_past : past.scenario ≡ scenario_of world) (told : AsksAreTold past world × NotesAreTold past world) (iface : IfaceId) where
   abbrev sc : Scenario
   sc = scenario_of world
 
@@ -79,7 +79,7 @@ module _ (scenario : Scenario) (core : Core) (world : World) (k : Known scenario
   -- ---- an interface of the scenario
 
   module _ (here : Here sc iface) where
-    to_receive : receives_by past datagram.site datagram.source datagram.group iface ≡ true → Receives scenario core world k datagram iface past of_past told here
+    to_receive : receives_by past datagram.site datagram.source datagram.group iface ≡ true → Receives scenario cores world k datagram iface past of_past told here
     to_receive h =
         let l = listed (vrf_of_site sc datagram.site) refl (sym received ∙ h) in
         let u : VrfId = l.0 in
@@ -97,21 +97,21 @@ module _ (scenario : Scenario) (core : Core) (world : World) (k : Known scenario
           is_home = sym (home_vpn sc u here.found.vrf datagram.source vpn) ∙ at.1;
           same_site = at.2;
           outside = ap (λ (f : Iface). not (is_of_site datagram.site f)) (sym one) ∙ q.1;
-          asking = sym (receivers.asks_told scenario core world k datagram iface past of_past told here) ∙ p.1;
+          asking = sym (receivers.asks_told scenario cores world k datagram iface past of_past told here) ∙ p.1;
         }
       where
         at_home : (u : VrfId) (o : Option SiteId) → home sc u datagram.source ≡ o → elim o as (λ _. Bool) [ None ↦ false | Some found ↦ found.0 == datagram.site.0 ] ≡ true → (site : SiteId) × (home sc u datagram.source ≡ Some site) × (site.0 ≡ datagram.site.0)
         at_home u None e t = absurd (true≢false (sym t))
         at_home u (Some site) e t = (site, e, eqb-true site.0 datagram.site.0 t)
 
-    of_receive : Receives scenario core world k datagram iface past of_past told here → receives_by past datagram.site datagram.source datagram.group iface ≡ true
+    of_receive : Receives scenario cores world k datagram iface past of_past told here → receives_by past datagram.site datagram.source datagram.group iface ≡ true
     of_receive r =
         let u : VrfId = r.u in
         let number : IfaceId = record { 0 = 0 + iface.0 } in
         let own : number ≡ iface = λ i. record { 0 = plain iface.0 i } in
         let home_u : home sc u datagram.source ≡ Some r.site = home_vpn sc u here.found.vrf datagram.source r.vpn ∙ r.is_home in
         let at_home : is_home sc u datagram.source datagram.site ≡ true = ap (λ (o : Option SiteId). elim o as (λ _. Bool) [ None ↦ false | Some found ↦ found.0 == datagram.site.0 ]) home_u ∙ eq-eqb r.site.0 datagram.site.0 r.same_site in
-        let passes : test sc u iface here.found ≡ true = and_from (same_vpn sc u here.found.vrf && not (is_of_site datagram.site here.found)) (pasts.asks past iface datagram.source datagram.group) (and_from (same_vpn sc u here.found.vrf) (not (is_of_site datagram.site here.found)) r.vpn r.outside) (receivers.asks_told scenario core world k datagram iface past of_past told here ∙ r.asking) in
+        let passes : test sc u iface here.found ≡ true = and_from (same_vpn sc u here.found.vrf && not (is_of_site datagram.site here.found)) (pasts.asks past iface datagram.source datagram.group) (and_from (same_vpn sc u here.found.vrf) (not (is_of_site datagram.site here.found)) r.vpn r.outside) (receivers.asks_told scenario cores world k datagram iface past of_past told here ∙ r.asking) in
         let among : Among number (ifaces_where (test sc u) 0 sc.ifaces) = among_where (test sc u) 0 iface.0 sc.ifaces here.found here.at (ap (λ (i : IfaceId). test sc u i here.found) own ∙ passes) in
         received
         ∙ ap (λ (o : Option VrfId). list_any is_it (by_vrf sc o)) r.of_site
@@ -124,10 +124,10 @@ module _ (scenario : Scenario) (core : Core) (world : World) (k : Known scenario
     once_here : count_by (is_served world.network datagram iface) (entered sc datagram.site) ≡ cond (receives_by past datagram.site datagram.source datagram.group iface) 1 0
     once_here =
         count_one sc datagram.site (is_served world.network datagram iface)
-        (λ x y a b. one_serves scenario core world k datagram iface here x y (served_by scenario core world k datagram iface here x a) (served_by scenario core world k datagram iface here y b)) 0 sc.vrfs
+        (λ x y a b. one_serves scenario cores world k datagram iface here x y (served_by scenario cores world k datagram iface here x a) (served_by scenario cores world k datagram iface here y b)) 0 sc.vrfs
         ∙ ap (λ (b : Bool). cond {A = ℕ} b 1 0) (both_ways (list_any (is_served world.network datagram iface) (entered sc datagram.site)) (receives_by past datagram.site datagram.source datagram.group iface)
-        (λ t. (let x = any_among (is_served world.network datagram iface) (entered sc datagram.site) t in of_receive (served_receives scenario core world k datagram iface past of_past told here x.0 (served_by scenario core world k datagram iface here x.0 x.2))))
-        (λ t. receives_served scenario core world k datagram iface past of_past told here (to_receive t)))
+        (λ t. (let x = any_among (is_served world.network datagram iface) (entered sc datagram.site) t in of_receive (served_receives scenario cores world k datagram iface past of_past told here x.0 (served_by scenario cores world k datagram iface here x.0 x.2))))
+        (λ t. receives_served scenario cores world k datagram iface past of_past told here (to_receive t)))
 
   -- ---- any interface
 
@@ -151,13 +151,13 @@ module _ (scenario : Scenario) (core : Core) (world : World) (k : Known scenario
           ∙ ap (λ (b : Bool). cond {A = ℕ} b 1 0) (sym (false_from_ne_true (receives_by past datagram.site datagram.source datagram.group iface) (λ t. (let l = listed (vrf_of_site sc datagram.site) refl (sym received ∙ t) in none-some l.3.0 (sym e ∙ l.3.1)))))
 
 -- Behind such a run choices are calm, where what interfaces ask for is what the events tell.
-pub choice_calm : (core : Core) (script : Script) (events : List Timed) (trace : List Traced) (world : World) → CalmRun core script events trace world → (past : Past) → past.scenario ≡ script.scenario → AsksAreTold past world × NotesAreTold past world
+pub choice_calm : (cores : Cores) (script : Script) (events : List Timed) (trace : List Traced) (world : World) → CalmRun cores script events trace world → (past : Past) → past.scenario ≡ script.scenario → AsksAreTold past world × NotesAreTold past world
     → (datagram : Datagram) → CalmChoice world.network (receives_by past datagram.site datagram.source datagram.group) datagram
-choice_calm core script events trace world c past of_past told datagram =
-    let k = known_of core script events trace world c in
+choice_calm cores script events trace world c past of_past told datagram =
+    let k = known_of cores script events trace world c in
     record {
-      once = λ iface. once script.scenario core world k datagram past (of_past ∙ sym k.facts.same) told iface;
-      trees = λ id vrf fec known sends. trees_calm core script events trace world c datagram id vrf fec known sends;
+      once = λ iface. once script.scenario cores world k datagram past (of_past ∙ sym k.facts.same) told iface;
+      trees = λ id vrf fec known sends. trees_calm cores script events trace world c datagram id vrf fec known sends;
     }
 
 -- ---- scripts
@@ -168,24 +168,24 @@ rises_taken number (suc count) [] h = tt
 rises_taken number (suc count) (timed ∷ more) h = (h.0, rises_taken timed.line count more h.1)
 
 -- the first events of a run are sound, as all of them are
-first_events : (core : Core) (script : Script) (events : List Timed) (trace : List Traced) (new : World) → SoundRun core script events trace new
-    → (count : ℕ) (early : List Traced) (world : World) → Run core script (take count events) early world → SoundRun core script (take count events) early world
-first_events core script events trace new s count early world run = record {
+first_events : (cores : Cores) (script : Script) (events : List Timed) (trace : List Traced) (new : World) → SoundRun cores script events trace new
+    → (count : ℕ) (early : List Traced) (world : World) → Run cores script (take count events) early world → SoundRun cores script (take count events) early world
+first_events cores script events trace new s count early world run = record {
   scenario = s.scenario;
   of_scenario = s.of_scenario;
   sound_events = all_take (λ (timed : Timed). IsSoundEvent script.scenario timed.event) count events s.sound_events;
   run = run;
 }
 
-pub choices_calm : (core : Core) (script : Script) (events : List Timed) (trace : List Traced) (world : World) → CalmRun core script events trace world
+pub choices_calm : (cores : Cores) (script : Script) (events : List Timed) (trace : List Traced) (world : World) → CalmRun cores script events trace world
     → (datagram : Datagram) → CalmChoice world.network (receives_by (past_of script.scenario events trace) datagram.site datagram.source datagram.group) datagram
-choices_calm core script events trace world c =
+choices_calm cores script events trace world c =
     let rules = c.sound.scenario.rules in
-    choice_calm core script events trace world c (past_of script.scenario events trace) refl
-    (asks_told core script.scenario events trace world rules c.rises c.sound.run, notes_told core script.scenario events trace world rules c.rises c.sound.run)
+    choice_calm cores script events trace world c (past_of script.scenario events trace) refl
+    (asks_told cores script.scenario events trace world rules c.rises c.sound.run, notes_told cores script.scenario events trace world rules c.rises c.sound.run)
 
-pub deliver_once : (core : Core) (script : Script) (events : List Timed) (trace : List Traced) (new : World) → SoundRun core script events trace new → Rises 0 events → Once script.scenario events (refused_lines (report_of trace)) (report_of trace)
-deliver_once core script events trace new s rises =
-    calm_choices_once core script events trace new s.scenario.rules rises
-    (λ count early world run zeros. choices_calm core script (take count events) early world (record { sound = first_events core script events trace new s count early world run; rises = rises_taken 0 count events rises; zeros = zeros }))
+pub deliver_once : (cores : Cores) (script : Script) (events : List Timed) (trace : List Traced) (new : World) → SoundRun cores script events trace new → Rises 0 events → Once script.scenario events (refused_lines (report_of trace)) (report_of trace)
+deliver_once cores script events trace new s rises =
+    calm_choices_once cores script events trace new s.scenario.rules rises
+    (λ count early world run zeros. choices_calm cores script (take count events) early world (record { sound = first_events cores script events trace new s count early world run; rises = rises_taken 0 count events rises; zeros = zeros }))
     s.run

@@ -91,9 +91,9 @@ by_ends world link u n (inl e) p = subst (λ (x : NodeId). Pair world x n) (λ i
 by_ends world link u n (inr e) p = turned world n u (subst (λ (x : NodeId). Pair world x u) (λ i. record { 0 = e.0 i }) (subst (λ (x : NodeId). Pair world link.a x) (λ i. record { 0 = e.1 i }) p))
 
 -- linked nodes have a calm session
-pub linked_pair : (world : World) → AllByRecursion (λ (link : Link). Pair world link.a link.b) (scenario_of world).links → (u n : NodeId) (cost : ℕ) → IsLinked (scenario_of world).links u.0 n.0 cost → Pair world u n
-linked_pair world pairs u n cost is =
-    by_ends world is.link u n is.ends (All-contains (λ (link : Link). Pair world link.a link.b) (scenario_of world).links is.link (All-from_recursion (λ (link : Link). Pair world link.a link.b) (scenario_of world).links pairs) is.listed)
+pub linked_pair : (world : World) (links : List Link) → AllByRecursion (λ (link : Link). Pair world link.a link.b) links → (u n : NodeId) (cost : ℕ) → IsLinked links u.0 n.0 cost → Pair world u n
+linked_pair world links pairs u n cost is =
+    by_ends world is.link u n is.ends (All-contains (λ (link : Link). Pair world link.a link.b) links is.link (All-from_recursion (λ (link : Link). Pair world link.a link.b) links pairs) is.listed)
 
 -- and so have those between which a link leads
 pub way_pair : (world : World) (u n : NodeId) (links : List Link) → AllByRecursion (λ (link : Link). Pair world link.a link.b) links → 0 < count_by (is_way u n) (flat_map (λ (link : Link). (link.a, link.b) ∷ (link.b, link.a) ∷ []) links) → Pair world u n

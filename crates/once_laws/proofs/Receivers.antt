@@ -31,7 +31,8 @@ use Rattle.selective_defs.specs.Selective.{Among}
 use Rattle.label_defs.proofs.KeyLemmas.{node_itself, node_apart}
 use Rattle.edge_defs.specs.Datagrams.{is_from_site, is_from_edge, is_outside, is_imported_from}
 use Rattle.edge_defs.specs.Edge.{VrfFlow, Upstream, Site, Remote, Taken}
-use Rattle.edge_defs.specs.Place.{Core, OwnVrf, own_vrfs, addr_of}
+use Rattle.edge_defs.specs.Place.{OwnVrf, own_vrfs, addr_of}
+use Rattle.world_defs.specs.Costs.{Cores}
 use Rattle.edge_defs.specs.Tunnels.{transmit_tunnel, is_joined_in, leaves}
 use Rattle.edge_defs.specs.Flows.{is_asking}
 use Rattle.edge_defs.specs.Upstream.{upstream_for}
@@ -171,12 +172,12 @@ count_one scenario site p one number (own ∷ more) = by (is_attached_at scenari
 
 -- ---- receivers
 
-module _ (scenario : Scenario) (core : Core) (world : World) (k : Known scenario core world) (datagram : Datagram) (iface : IfaceId) (past : Past) (of_past : past.scenario ≡ scenario_of world) (told : AsksAreTold past world × NotesAreTold past world) where
+module _ (scenario : Scenario) (cores : Cores) (world : World) (k : Known scenario cores world) (datagram : Datagram) (iface : IfaceId) (past : Past) (of_past : past.scenario ≡ scenario_of world) (told : AsksAreTold past world × NotesAreTold past world) where
   abbrev sc : Scenario
   sc = scenario_of world
 
   abbrev w : EdgeNetwork
-  w = net scenario core world k
+  w = net scenario cores world k
 
   module _ (here : Here sc iface) where
     abbrev own : OwnVrf
@@ -204,7 +205,7 @@ module _ (scenario : Scenario) (core : Core) (world : World) (k : Known scenario
         let kept : JoinEntry → Option Expiry = λ entry. kept_at_edge world n iface entry in
         told.0 iface n datagram.source datagram.group here.of_edge
         ∙ ap (λ (b : Bool). asks_by w.clock b (kept (join_entries.Source datagram.source datagram.group)) (kept (join_entries.Star datagram.group)) (kept (join_entries.Rpt datagram.source datagram.group)))
-        (active_at_told scenario core world k past of_past told.1 iface here datagram.source datagram.group)
+        (active_at_told scenario cores world k past of_past told.1 iface here datagram.source datagram.group)
 
     outside_is : is_outside sc datagram.site iface ≡ not (is_of_site datagram.site here.found)
     outside_is = ap (λ (o : Option Iface). elim o as (λ _. Bool) [ None ↦ false | Some found ↦ not (is_of_site datagram.site found) ]) here.at
@@ -214,14 +215,14 @@ module _ (scenario : Scenario) (core : Core) (world : World) (k : Known scenario
     attached_site : (id : VrfId) (site : SiteId) → site.0 ≡ datagram.site.0 → is_attached_at sc id site ≡ true → is_attached_at sc id datagram.site ≡ true
     attached_site id site e h = ap (is_attached_at sc id) (sym (is_the site datagram.site e)) ∙ h
 
-    record AtHome (m : NodeId) (other : OwnVrf) (s : FromSite datagram.site (upstream_for (place_of w m) (w.node m) other datagram.source)) : Type 0 where
+    record AtHome (m : NodeId) (other : OwnVrf) (s : FromSite datagram.site (upstream_for (place_of w m) (w.node m) other datagram.source datagram.group)) : Type 0 where
       is_home : home sc other.id datagram.source ≡ Some s.own
       attached : is_attached_at sc other.id datagram.site ≡ true
 
-    at_home : (m : NodeId) → is_edge sc m ≡ true → (other : OwnVrf) → Among other (own_vrfs (place_of w m)) → (s : FromSite datagram.site (upstream_for (place_of w m) (w.node m) other datagram.source)) → AtHome m other s
-    at_home m h other a s = by (upstream_is scenario core world k m h other a datagram.source)
+    at_home : (m : NodeId) → is_edge sc m ≡ true → (other : OwnVrf) → Among other (own_vrfs (place_of w m)) → (s : FromSite datagram.site (upstream_for (place_of w m) (w.node m) other datagram.source datagram.group)) → AtHome m other s
+    at_home m h other a s = by (upstream_is scenario cores world k m h other a datagram.source datagram.group)
       where
-        by : UpstreamIs scenario core world k m other datagram.source (upstream_for (place_of w m) (w.node m) other datagram.source) → AtHome m other s
+        by : UpstreamIs scenario cores world k m other datagram.source (upstream_for (place_of w m) (w.node m) other datagram.source datagram.group) → AtHome m other s
         by (IsNone e none) = absurd (none-some (Site s.own) (sym e ∙ s.is))
         by (IsNear site e is att) =
             let both : Some (Site site) ≡ Some (Site s.own) = sym e ∙ s.is in
@@ -232,16 +233,16 @@ module _ (scenario : Scenario) (core : Core) (world : World) (k : Known scenario
             clash : ◌≡◌ {A = Option Upstream} (Some (Remote from.peer from.rd from.import from.source_as)) (Some (Site s.own)) → ⊥
             clash x = absurd cc
 
-    pub served_receives : (id : VrfId) → ServedBy scenario core world k datagram iface here id → Receives
+    pub served_receives : (id : VrfId) → ServedBy scenario cores world k datagram iface here id → Receives
     served_receives id (ByNear e s asks_here out) =
-        let h = at_home n here.edge own (own_in scenario core world k datagram iface here) s in
+        let h = at_home n here.edge own (own_in scenario cores world k datagram iface here) s in
         let u = site_vrf sc k.rules own.id datagram.site h.attached in
         record { u = u.0; of_site = u.1; vpn = u.2; site = s.own; is_home = h.is_home; same_site = s.same; outside = sym outside_is ∙ out; asking = asks_here }
     served_receives id (ByFar vrf known from apart vpn s asks_here) =
         let other : OwnVrf = record { id = id; vrf = vrf } in
         let other_in = own_among (place_of w vrf.edge) id vrf known refl in
         let h = at_home vrf.edge (vrf_edge sc k.rules id.0 vrf known) other other_in s in
-        let ids : same_vpn sc id own.id ≡ true = vpn_ids scenario core world k (place_of w vrf.edge) (place_of w n) other own refl refl other_in (own_in scenario core world k datagram iface here) vpn in
+        let ids : same_vpn sc id own.id ≡ true = vpn_ids scenario cores world k (place_of w vrf.edge) (place_of w n) other own refl refl other_in (own_in scenario cores world k datagram iface here) vpn in
         let homes : home sc own.id datagram.source ≡ Some s.own = sym (home_vpn sc id own.id datagram.source ids) ∙ h.is_home in
         let u = site_vrf sc k.rules id datagram.site h.attached in
         record {
@@ -251,7 +252,7 @@ module _ (scenario : Scenario) (core : Core) (world : World) (k : Known scenario
           site = s.own;
           is_home = homes;
           same_site = s.same;
-          outside = not_true (is_of_site datagram.site here.found) (λ t. by (upstream_is scenario core world k n here.edge own (own_in scenario core world k datagram iface here) datagram.source) homes t);
+          outside = not_true (is_of_site datagram.site here.found) (λ t. by (upstream_is scenario cores world k n here.edge own (own_in scenario cores world k datagram iface here) datagram.source datagram.group) homes t);
           asking = asks_here;
         }
       where
@@ -259,7 +260,7 @@ module _ (scenario : Scenario) (core : Core) (world : World) (k : Known scenario
         not_true true h = absurd (h refl)
         not_true false h = refl
 
-        by : UpstreamIs scenario core world k n own datagram.source (upstream_for (place_of w n) (w.node n) own datagram.source) → home sc own.id datagram.source ≡ Some s.own → is_of_site datagram.site here.found ≡ true → ⊥
+        by : UpstreamIs scenario cores world k n own datagram.source (upstream_for (place_of w n) (w.node n) own datagram.source datagram.group) → home sc own.id datagram.source ≡ Some s.own → is_of_site datagram.site here.found ≡ true → ⊥
         by (IsNone e none) homes t = none-some (Remote vrf.edge from.rd from.import from.source_as) (sym e ∙ from.is)
         by (IsNear site e is att) homes t = clash (sym e ∙ from.is)
           where
@@ -276,58 +277,58 @@ module _ (scenario : Scenario) (core : Core) (world : World) (k : Known scenario
     served_is : (id : VrfId) (vrf : Vrf) → slice_get sc.vrfs id.0 ≡ Some vrf → is_served world.network datagram iface id ≡ serves_by world.network datagram iface (record { id = id; vrf = vrf }) (Some n)
     served_is id vrf known = ap (serves_from world.network datagram iface id) known ∙ ap (serves_by world.network datagram iface (record { id = id; vrf = vrf })) here.of_edge
 
-    served_near : (site : SiteId) → site.0 ≡ datagram.site.0 → upstream_for (place_of w n) (w.node n) own datagram.source ≡ Some (Site site) → not (is_of_site datagram.site here.found) ≡ true → asks ≡ true → is_served world.network datagram iface own.id ≡ true
+    served_near : (site : SiteId) → site.0 ≡ datagram.site.0 → upstream_for (place_of w n) (w.node n) own datagram.source datagram.group ≡ Some (Site site) → not (is_of_site datagram.site here.found) ≡ true → asks ≡ true → is_served world.network datagram iface own.id ≡ true
     served_near site e up out asking =
         served_is own.id here.vrf here.known
         ∙ ap (λ (b : Bool). cond b (serves_near world.network datagram iface own (world.network.state.node n)) (elim (sends_on world.network datagram own (world.network.state.node n)) as (λ _. Bool) [ None ↦ false | Some fec ↦ serves_far world.network datagram iface fec n (world.network.state.node n) ])) (node_itself n n refl)
-        ∙ near_is scenario core world k datagram iface own here.edge
-        ∙ and_from (is_from_site datagram.site (upstream_for (place_of w n) (w.node n) own datagram.source)) (asks_at (place_of w n) w.clock (w.node n) datagram.source datagram.group iface own && is_outside sc datagram.site iface)
+        ∙ near_is scenario cores world k datagram iface own here.edge
+        ∙ and_from (is_from_site datagram.site (upstream_for (place_of w n) (w.node n) own datagram.source datagram.group)) (asks_at (place_of w n) w.clock (w.node n) datagram.source datagram.group iface own && is_outside sc datagram.site iface)
         (ap (is_from_site datagram.site) up ∙ eq-eqb site.0 datagram.site.0 e)
         (and_from (asks_at (place_of w n) w.clock (w.node n) datagram.source datagram.group iface own) (is_outside sc datagram.site iface)
-        (and_from (is_iface_of_vrf sc iface own.id) asks (own_iface scenario core world k datagram iface here) asking) (outside_is ∙ out))
+        (and_from (is_iface_of_vrf sc iface own.id) asks (own_iface scenario cores world k datagram iface here) asking) (outside_is ∙ out))
 
     -- the VRF of the edge that is chosen
-    served_far : (site : SiteId) → site.0 ≡ datagram.site.0 → home sc own.id datagram.source ≡ Some site → (known : KnownRoute) (from : FromPeer scenario core world k n own known site)
-        → upstream_for (place_of w n) (w.node n) own datagram.source ≡ Some (Remote from.peer from.rd from.import from.source_as) → asks ≡ true → is_served world.network datagram iface from.root.id ≡ true
+    served_far : (site : SiteId) → site.0 ≡ datagram.site.0 → home sc own.id datagram.source ≡ Some site → (known : KnownRoute) (from : FromPeer scenario cores world k n own known site)
+        → upstream_for (place_of w n) (w.node n) own datagram.source datagram.group ≡ Some (Remote from.peer from.rd from.import from.source_as) → asks ≡ true → is_served world.network datagram iface from.root.id ≡ true
     served_far site e is_home known from up asking =
-        let mine : Among own (own_vrfs (place_of w n)) = own_in scenario core world k datagram iface here in
+        let mine : Among own (own_vrfs (place_of w n)) = own_in scenario cores world k datagram iface here in
         let f : NodeId = from.peer in
         let root : OwnVrf = from.root in
         let flow : VrfFlow = record { vrf = own.id; source = datagram.source; group = datagram.group } in
-        let stands = asked_flow scenario core world k n here.edge own mine datagram.source datagram.group iface (own_iface scenario core world k datagram iface here) asking ∙ ap (λ (u : Option Upstream). Some u) up in
-        let session = calm_session scenario core world k f n from.edge here.edge from.two in
-        let calm = calm_flow w f n own flow from.rd from.import from.source_as (rule scenario core world k) (flows_stand scenario core world k) session (none_due scenario core world k f from.edge) mine refl stands in
+        let stands = asked_flow scenario cores world k n here.edge own mine datagram.source datagram.group iface (own_iface scenario cores world k datagram iface here) asking ∙ ap (λ (u : Option Upstream). Some u) up in
+        let session = calm_session scenario cores world k f n from.edge here.edge from.two in
+        let calm = calm_flow w f n own flow from.rd from.import from.source_as (rule scenario cores world k) (flows_stand scenario cores world k) session (none_due scenario cores world k f from.edge) mine refl stands in
         let one : calm.root_vrf ≡ root = one_rd (place_of w f) calm.root_vrf root k.rules calm.of_root from.of_root (sym calm.distinguisher ∙ from.named) in
         let fec : Fec = transmit_tunnel (place_of w f) (w.node f) root datagram.source datagram.group in
         let at_f : root.vrf.edge ≡ f = λ i. record { 0 = own_edge (place_of w f) root from.of_root i } in
-        let ids : same_vpn sc root.id own.id ≡ true = vpn_ids scenario core world k (place_of w f) (place_of w n) root own refl refl from.of_root mine from.vpn in
+        let ids : same_vpn sc root.id own.id ≡ true = vpn_ids scenario cores world k (place_of w f) (place_of w n) root own refl refl from.of_root mine from.vpn in
         let root_home : home sc root.id datagram.source ≡ Some site = home_vpn sc root.id own.id datagram.source ids ∙ is_home in
-        let near : upstream_for (place_of w f) (w.node f) root datagram.source ≡ Some (Site site) = to_site (upstream_is scenario core world k f from.edge root from.of_root datagram.source) root_home in
-        let sends_from : is_from_site datagram.site (upstream_for (place_of w f) (w.node f) root datagram.source) ≡ true = ap (is_from_site datagram.site) near ∙ eq-eqb site.0 datagram.site.0 e in
+        let near : upstream_for (place_of w f) (w.node f) root datagram.source datagram.group ≡ Some (Site site) = to_site (upstream_is scenario cores world k f from.edge root from.of_root datagram.source datagram.group) root_home in
+        let sends_from : is_from_site datagram.site (upstream_for (place_of w f) (w.node f) root datagram.source datagram.group) ≡ true = ap (is_from_site datagram.site) near ∙ eq-eqb site.0 datagram.site.0 e in
         let joined : is_joined_in (place_of w f) (w.node f) root datagram.source datagram.group ≡ true = ap (λ (o : OwnVrf). is_joined_in (place_of w f) (w.node f) o datagram.source datagram.group) (sym one) ∙ calm.is_joined in
         let sends : sends_on world.network datagram root (world.network.state.node root.vrf.edge) ≡ Some fec =
-        sends_is scenario core world k datagram iface root (ap (is_edge sc) at_f ∙ from.edge)
-        ∙ ap (λ (m : NodeId). cond (is_from_site datagram.site (upstream_for (place_of w m) (w.node m) root datagram.source) && is_joined_in (place_of w m) (w.node m) root datagram.source datagram.group) (Some (transmit_tunnel (place_of w m) (w.node m) root datagram.source datagram.group)) None) at_f
-        ∙ ap (λ (b : Bool). cond b (Some fec) None) (and_from (is_from_site datagram.site (upstream_for (place_of w f) (w.node f) root datagram.source)) (is_joined_in (place_of w f) (w.node f) root datagram.source datagram.group) sends_from joined) in
-        let leaf : sets.contains (part_of (world.network.state.node n)).leaves fec ≡ true = ap (λ s. sets.contains s fec) (leaves_are scenario core world k datagram iface n here.edge) ∙ ap (λ (o : OwnVrf). sets.contains (leaves (place_of w n) (w.node n)) (transmit_tunnel (place_of w f) (w.node f) o datagram.source datagram.group)) (sym one) ∙ calm.leaf in
-        let want = wanted_from (place_of w n) (w.node n) own fec (imported scenario core world k datagram iface here f from.edge from.two from.rd from.import from.source_as root from.of_root from.vpn stands) in
+        sends_is scenario cores world k datagram iface root (ap (is_edge sc) at_f ∙ from.edge)
+        ∙ ap (λ (m : NodeId). cond (is_from_site datagram.site (upstream_for (place_of w m) (w.node m) root datagram.source datagram.group) && is_joined_in (place_of w m) (w.node m) root datagram.source datagram.group) (Some (transmit_tunnel (place_of w m) (w.node m) root datagram.source datagram.group)) None) at_f
+        ∙ ap (λ (b : Bool). cond b (Some fec) None) (and_from (is_from_site datagram.site (upstream_for (place_of w f) (w.node f) root datagram.source datagram.group)) (is_joined_in (place_of w f) (w.node f) root datagram.source datagram.group) sends_from joined) in
+        let leaf : sets.contains (part_of (world.network.state.node n)).leaves fec ≡ true = ap (λ s. sets.contains s fec) (leaves_are scenario cores world k datagram iface n here.edge) ∙ ap (λ (o : OwnVrf). sets.contains (leaves (place_of w n) (w.node n)) (transmit_tunnel (place_of w f) (w.node f) o datagram.source datagram.group)) (sym one) ∙ calm.leaf in
+        let want = wanted_from (place_of w n) (w.node n) own fec (imported scenario cores world k datagram iface here f from.edge from.two from.rd from.import from.source_as root from.of_root from.vpn stands) in
         let got = entry_get node_cmp_total (w.node n).peers want.peer want.table want.listed in
-        let is_peer = peer_is scenario core world k n here.edge want.peer (ap (λ (o : Option Taken). is_some o) got) in
+        let is_peer = peer_is scenario cores world k n here.edge want.peer (ap (λ (o : Option Taken). is_some o) got) in
         let peers : f ≡ want.peer = one_edge f want.peer from.edge is_peer.0 want.root in
-        let chosen : is_from_edge want.peer (upstream_for (place_of w n) (w.node n) own datagram.source) ≡ true = ap (is_from_edge want.peer) up ∙ node_itself f want.peer peers in
-        let takes : takes_from (place_of w n) (w.node n) fec datagram.source own ≡ true = any_from (λ (peer : NodeId × Taken). is_imported_from (place_of w n) own fec peer && is_from_edge peer.0 (upstream_for (place_of w n) (w.node n) own datagram.source)) (want.peer, want.table) (maps.entries (w.node n).peers) want.listed
-        (and_from (is_imported_from (place_of w n) own fec (want.peer, want.table)) (is_from_edge want.peer (upstream_for (place_of w n) (w.node n) own datagram.source)) want.imported chosen) in
+        let chosen : is_from_edge want.peer (upstream_for (place_of w n) (w.node n) own datagram.source datagram.group) ≡ true = ap (is_from_edge want.peer) up ∙ node_itself f want.peer peers in
+        let takes : takes_from (place_of w n) (w.node n) fec datagram.source datagram.group own ≡ true = any_from (λ (peer : NodeId × Taken). is_imported_from (place_of w n) own fec peer && is_from_edge peer.0 (upstream_for (place_of w n) (w.node n) own datagram.source datagram.group)) (want.peer, want.table) (maps.entries (w.node n).peers) want.listed
+        (and_from (is_imported_from (place_of w n) own fec (want.peer, want.table)) (is_from_edge want.peer (upstream_for (place_of w n) (w.node n) own datagram.source datagram.group)) want.imported chosen) in
         let far : serves_far world.network datagram iface fec n (world.network.state.node n) ≡ true =
-        far_is scenario core world k datagram iface fec n here.edge
-        ∙ and_from (sets.contains (part_of (world.network.state.node n)).leaves fec) (list_any (λ own. asks_at (place_of w n) w.clock (w.node n) datagram.source datagram.group iface own && takes_from (place_of w n) (w.node n) fec datagram.source own) (own_vrfs (place_of w n))) leaf
-        (any_from (λ own. asks_at (place_of w n) w.clock (w.node n) datagram.source datagram.group iface own && takes_from (place_of w n) (w.node n) fec datagram.source own) own (own_vrfs (place_of w n)) mine
-        (and_from (asks_at (place_of w n) w.clock (w.node n) datagram.source datagram.group iface own) (takes_from (place_of w n) (w.node n) fec datagram.source own) (and_from (is_iface_of_vrf sc iface own.id) asks (own_iface scenario core world k datagram iface here) asking) takes)) in
+        far_is scenario cores world k datagram iface fec n here.edge
+        ∙ and_from (sets.contains (part_of (world.network.state.node n)).leaves fec) (list_any (λ own. asks_at (place_of w n) w.clock (w.node n) datagram.source datagram.group iface own && takes_from (place_of w n) (w.node n) fec datagram.source datagram.group own) (own_vrfs (place_of w n))) leaf
+        (any_from (λ own. asks_at (place_of w n) w.clock (w.node n) datagram.source datagram.group iface own && takes_from (place_of w n) (w.node n) fec datagram.source datagram.group own) own (own_vrfs (place_of w n)) mine
+        (and_from (asks_at (place_of w n) w.clock (w.node n) datagram.source datagram.group iface own) (takes_from (place_of w n) (w.node n) fec datagram.source datagram.group own) (and_from (is_iface_of_vrf sc iface own.id) asks (own_iface scenario cores world k datagram iface here) asking) takes)) in
         served_is root.id root.vrf (own_at (place_of w f) root from.of_root)
         ∙ ap (λ (b : Bool). cond b (serves_near world.network datagram iface root (world.network.state.node root.vrf.edge)) (elim (sends_on world.network datagram root (world.network.state.node root.vrf.edge)) as (λ _. Bool) [ None ↦ false | Some fec ↦ serves_far world.network datagram iface fec n (world.network.state.node n) ])) (node_apart n root.vrf.edge (λ same. from.two (sym at_f ∙ sym same)))
         ∙ ap (λ (o : Option Fec). elim o as (λ _. Bool) [ None ↦ false | Some fec ↦ serves_far world.network datagram iface fec n (world.network.state.node n) ]) sends
         ∙ far
       where
-        to_site : UpstreamIs scenario core world k from.peer from.root datagram.source (upstream_for (place_of w from.peer) (w.node from.peer) from.root datagram.source) → home sc from.root.id datagram.source ≡ Some site → upstream_for (place_of w from.peer) (w.node from.peer) from.root datagram.source ≡ Some (Site site)
+        to_site : UpstreamIs scenario cores world k from.peer from.root datagram.source (upstream_for (place_of w from.peer) (w.node from.peer) from.root datagram.source datagram.group) → home sc from.root.id datagram.source ≡ Some site → upstream_for (place_of w from.peer) (w.node from.peer) from.root datagram.source datagram.group ≡ Some (Site site)
         to_site (IsNone u none) h = absurd (none-some site (sym none ∙ h))
         to_site (IsNear own_site u is att) h = u ∙ ap (λ (x : SiteId). Some (Site x)) (same_Some own_site site (sym is ∙ h))
         to_site (IsFar own_site other_known peer u is not_here) h = (let same : own_site ≡ site = same_Some own_site site (sym is ∙ h) in absurd (true≢false (sym from.attached ∙ ap (is_attached_at sc from.root.id) (sym same) ∙ not_here)))
@@ -340,12 +341,12 @@ module _ (scenario : Scenario) (core : Core) (world : World) (k : Known scenario
             λ i. record { 0 = number i }
 
     pub receives_served : Receives → list_any (is_served world.network datagram iface) (entered sc datagram.site) ≡ true
-    receives_served r = by (upstream_is scenario core world k n here.edge own (own_in scenario core world k datagram iface here) datagram.source)
+    receives_served r = by (upstream_is scenario cores world k n here.edge own (own_in scenario cores world k datagram iface here) datagram.source datagram.group)
       where
         enters : (id : VrfId) (vrf : Vrf) → slice_get sc.vrfs id.0 ≡ Some vrf → is_attached_at sc id datagram.site ≡ true → Among id (entered sc datagram.site)
         enters id vrf known att = subst (λ (m : ℕ). Among (record { 0 = m }) (entered sc datagram.site)) (omega arith) (entered_in sc datagram.site 0 id.0 sc.vrfs vrf known (subst (λ (m : ℕ). is_attached_at sc (record { 0 = m }) datagram.site ≡ true) (omega arith) att))
 
-        by : UpstreamIs scenario core world k n own datagram.source (upstream_for (place_of w n) (w.node n) own datagram.source) → list_any (is_served world.network datagram iface) (entered sc datagram.site) ≡ true
+        by : UpstreamIs scenario cores world k n own datagram.source (upstream_for (place_of w n) (w.node n) own datagram.source datagram.group) → list_any (is_served world.network datagram iface) (entered sc datagram.site) ≡ true
         by (IsNone e none) = absurd (none-some r.site (sym none ∙ r.is_home))
         by (IsNear site e is att) =
             let one : site ≡ r.site = same_Some site r.site (sym is ∙ r.is_home) in

@@ -13,7 +13,7 @@ use Rattle.scenario_defs.specs.declared.report.ReportLine.TheVariants as lines
 use Rattle.scenario_defs.specs.declared.scenario.Scenario.{Scenario}
 use Rattle.mvpn_model.specs.Report.{Datagram as Accepted, datagrams, refused_lines}
 use Rattle.mvpn_model.specs.Safe.{IsAdmitted, IsSafeOut, IsSafeLine, Safe}
-use Rattle.edge_defs.specs.Place.{Core}
+use Rattle.world_defs.specs.Costs.{Cores}
 use Rattle.world_defs.specs.Events.{Happened}
 use Rattle.world_defs.specs.Run.{Traced, traced, report_of, Runs, Run}
 use Rattle.world_defs.specs.World.{World, Datagram, start}
@@ -76,15 +76,15 @@ module _ (scenario : Scenario) (refused : List ℕ) where
 
 -- ---- runs
 
-module _ (core : Core) (script : Script) (sound : SoundScenario script.scenario) (refused : List ℕ) where
+module _ (cores : Cores) (script : Script) (sound : SoundScenario script.scenario) (refused : List ℕ) where
   abbrev begin : World
-  begin = start script.scenario core
+  begin = start script.scenario cores
 
   abbrev AreSoundEvents : List Timed → Type 0
   AreSoundEvents events = AllByRecursion (λ (timed : Timed). IsSoundEvent script.scenario timed.event) events
 
   -- the lines of later events, behind a run of the first ones
-  runs_safe : (more before : List Timed) → AreSoundEvents (before ++ more) → TellsAccepted refused begin (before ++ more) → (early : List Traced) (old : World) → Run core script before early old
+  runs_safe : (more before : List Timed) → AreSoundEvents (before ++ more) → TellsAccepted refused begin (before ++ more) → (early : List Traced) (old : World) → Run cores script before early old
       → (number : ℕ) → number ≡ length before → (trace : List Traced) (new : World) → Runs old number more trace new → Safe script.scenario (before ++ more) refused (report_of trace)
   runs_safe [] before events_sound tells early old first number e trace new run = subst (λ (t : List Traced). Safe script.scenario (before ++ []) refused (report_of t)) (sym run.0) tt
   runs_safe (timed ∷ more) before events_sound tells early old first number e trace new run =
@@ -94,14 +94,14 @@ module _ (core : Core) (script : Script) (sound : SoundScenario script.scenario)
       let so_far : List Traced = early ++ (own ++ []) in
       let grouped : upto ++ more ≡ events = append_assoc before (timed ∷ []) more in
       let count : length upto ≡ number + 1 = (let long = length-append before (timed ∷ []) in omega (arith, long, e)) in
-      let joined : Run core script upto so_far run.1 = runs_one_more before timed begin old run.1 0 early run.0 first run.3 number (omega (arith, e)) in
+      let joined : Run cores script upto so_far run.1 = runs_one_more before timed begin old run.1 0 early run.0 first run.3 number (omega (arith, e)) in
       let sound_then : AreSoundEvents (upto ++ more) = subst AreSoundEvents (sym grouped) events_sound in
       let tells_then : TellsAccepted refused begin (upto ++ more) = subst (TellsAccepted refused begin) (sym grouped) tells in
       let sound_upto : AreSoundEvents upto = each_front (λ (timed : Timed). IsSoundEvent script.scenario timed.event) upto more sound_then in
       let sent : run.1.datagrams ≡ in_networks (datagrams refused 0 upto) = runs_send refused upto begin 0 so_far run.1 (tells_first refused upto more begin tells_then) joined in
       let taken : take (number + 1) events ≡ upto = ap (λ (l : List Timed). take (number + 1) l) (sym grouped) ∙ take_at upto more (number + 1) count in
       let Says : List Datagram → List Traced → Type 0 = λ list steps. AllByRecursion (λ (step : Traced). AllByRecursion (IsAdmittedLine script.scenario list) step.happened.lines) steps in
-      let all : Says run.1.datagrams so_far = run_says script.scenario core upto so_far run.1 sound sound_upto joined in
+      let all : Says run.1.datagrams so_far = run_says script.scenario cores upto so_far run.1 sound sound_upto joined in
       let here : Says run.1.datagrams own = each_front (λ (step : Traced). AllByRecursion (IsAdmittedLine script.scenario run.1.datagrams) step.happened.lines) own [] (each_behind (λ (step : Traced). AllByRecursion (IsAdmittedLine script.scenario run.1.datagrams) step.happened.lines) early (own ++ []) all) in
       let own_safe : Safe script.scenario events refused (report_of own) = acts_safe script.scenario refused events number run.0
       (subst (λ (list : List Datagram). Says list own) (sent ∙ ap (λ (l : List Timed). in_networks (datagrams refused 0 l)) (sym taken)) here) in
@@ -109,7 +109,7 @@ module _ (core : Core) (script : Script) (sound : SoundScenario script.scenario)
       (runs_safe more upto sound_then tells_then so_far run.1 joined (number + 1) (sym count) run.2 new run.5) in
       subst (λ (t : List Traced). Safe script.scenario events refused (report_of t)) (sym run.4) (both_safe script.scenario refused events own run.2 own_safe later)
 
-pub safe : (core : Core) (script : Script) (events : List Timed) (trace : List Traced) (new : World) → SoundRun core script events trace new → Rises 0 events → Safe script.scenario events (refused_lines (report_of trace)) (report_of trace)
-safe core script events trace new s rises =
+pub safe : (cores : Cores) (script : Script) (events : List Timed) (trace : List Traced) (new : World) → SoundRun cores script events trace new → Rises 0 events → Safe script.scenario events (refused_lines (report_of trace)) (report_of trace)
+safe cores script events trace new s rises =
     let refused : List ℕ = refused_lines (report_of trace) in
-    runs_safe core script s.scenario refused events [] s.sound_events (tells_accepted events (start script.scenario core) 0 trace new 0 [] refused rises (λ line less. refl) refl s.run) [] (start script.scenario core) (refl, refl) 0 refl trace new s.run
+    runs_safe cores script s.scenario refused events [] s.sound_events (tells_accepted events (start script.scenario cores) 0 trace new 0 [] refused rises (λ line less. refl) refl s.run) [] (start script.scenario cores) (refl, refl) 0 refl trace new s.run

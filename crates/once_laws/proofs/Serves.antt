@@ -24,7 +24,8 @@ use Rattle.selective_defs.specs.declared.selection.Selection.{Selection}
 use Rattle.edge_defs.specs.Datagrams.{is_from_site, is_from_edge, is_outside, is_imported_from}
 use Rattle.edge_defs.specs.Edge.{Import, Upstream, Site, Remote, Taken}
 use Rattle.edge_defs.specs.Flows.{is_asking}
-use Rattle.edge_defs.specs.Place.{Core, OwnVrf, own_vrfs, own_addr, addr_of, lsp, tunnel_number}
+use Rattle.edge_defs.specs.Place.{OwnVrf, own_vrfs, own_addr, addr_of, lsp, tunnel_number}
+use Rattle.world_defs.specs.Costs.{Cores}
 use Rattle.edge_defs.specs.Tunnels.{transmit_tunnel, is_joined_in, leaves, selections_of, number_by, tunnels_of}
 use Rattle.edge_defs.specs.Upstream.{upstream_for}
 use Rattle.edge_laws.specs.Network.{EdgeNetwork, place_of}
@@ -95,12 +96,12 @@ here_of scenario rules iface found at =
       of_edge = ap (λ (o : Option Iface). elim o as (λ _. Option NodeId) [ None ↦ None | Some f ↦ option_map (λ (v : Vrf). v.edge) (slice_get scenario.vrfs f.vrf.0) ]) at ∙ ap (option_map (λ (v : Vrf). v.edge)) vrf.1;
     }
 
-module _ (scenario : Scenario) (core : Core) (world : World) (k : Known scenario core world) (datagram : Datagram) (iface : IfaceId) where
+module _ (scenario : Scenario) (cores : Cores) (world : World) (k : Known scenario cores world) (datagram : Datagram) (iface : IfaceId) where
   abbrev sc : Scenario
   sc = scenario_of world
 
   abbrev w : EdgeNetwork
-  w = net scenario core world k
+  w = net scenario cores world k
 
   abbrev S : Addr
   S = datagram.source
@@ -109,7 +110,7 @@ module _ (scenario : Scenario) (core : Core) (world : World) (k : Known scenario
   G = datagram.group
 
   abbrev up_at : NodeId → OwnVrf → Option Upstream
-  up_at n own = upstream_for (place_of w n) (w.node n) own S
+  up_at n own = upstream_for (place_of w n) (w.node n) own S G
 
   -- whether the interface asks, at its edge
   abbrev asks_here : NodeId → OwnVrf → Bool
@@ -119,21 +120,21 @@ module _ (scenario : Scenario) (core : Core) (world : World) (k : Known scenario
 
   pub near_is : (own : OwnVrf) → is_edge sc own.vrf.edge ≡ true
       → serves_near world.network datagram iface own (world.network.state.node own.vrf.edge) ≡ (is_from_site datagram.site (up_at own.vrf.edge own) && (asks_at (place_of w own.vrf.edge) w.clock (w.node own.vrf.edge) S G iface own && is_outside sc datagram.site iface))
-  near_is own h = subst (λ (state : NodeState). serves_near world.network datagram iface own state ≡ (is_from_site datagram.site (upstream_for (place_of w own.vrf.edge) (control_of state) own S) && (asks_at (place_of w own.vrf.edge) w.clock (control_of state) S G iface own && is_outside sc datagram.site iface)))
-      (sym (calm_edge scenario core world k own.vrf.edge h).at) refl
+  near_is own h = subst (λ (state : NodeState). serves_near world.network datagram iface own state ≡ (is_from_site datagram.site (upstream_for (place_of w own.vrf.edge) (control_of state) own S G) && (asks_at (place_of w own.vrf.edge) w.clock (control_of state) S G iface own && is_outside sc datagram.site iface)))
+      (sym (calm_edge scenario cores world k own.vrf.edge h).at) refl
 
   pub sends_is : (own : OwnVrf) → is_edge sc own.vrf.edge ≡ true
       → sends_on world.network datagram own (world.network.state.node own.vrf.edge) ≡ cond (is_from_site datagram.site (up_at own.vrf.edge own) && is_joined_in (place_of w own.vrf.edge) (w.node own.vrf.edge) own S G) (Some (transmit_tunnel (place_of w own.vrf.edge) (w.node own.vrf.edge) own S G)) None
-  sends_is own h = subst (λ (state : NodeState). sends_on world.network datagram own state ≡ cond (is_from_site datagram.site (upstream_for (place_of w own.vrf.edge) (control_of state) own S) && is_joined_in (place_of w own.vrf.edge) (control_of state) own S G) (Some (transmit_tunnel (place_of w own.vrf.edge) (control_of state) own S G)) None)
-      (sym (calm_edge scenario core world k own.vrf.edge h).at) refl
+  sends_is own h = subst (λ (state : NodeState). sends_on world.network datagram own state ≡ cond (is_from_site datagram.site (upstream_for (place_of w own.vrf.edge) (control_of state) own S G) && is_joined_in (place_of w own.vrf.edge) (control_of state) own S G) (Some (transmit_tunnel (place_of w own.vrf.edge) (control_of state) own S G)) None)
+      (sym (calm_edge scenario cores world k own.vrf.edge h).at) refl
 
   pub far_is : (fec : Fec) (n : NodeId) → is_edge sc n ≡ true
-      → serves_far world.network datagram iface fec n (world.network.state.node n) ≡ (sets.contains (part_of (world.network.state.node n)).leaves fec && list_any (λ own. asks_at (place_of w n) w.clock (w.node n) S G iface own && takes_from (place_of w n) (w.node n) fec S own) (own_vrfs (place_of w n)))
-  far_is fec n h = subst (λ (state : NodeState). serves_far world.network datagram iface fec n state ≡ (sets.contains (part_of state).leaves fec && list_any (λ own. asks_at (place_of w n) w.clock (control_of state) S G iface own && takes_from (place_of w n) (control_of state) fec S own) (own_vrfs (place_of w n))))
-      (sym (calm_edge scenario core world k n h).at) refl
+      → serves_far world.network datagram iface fec n (world.network.state.node n) ≡ (sets.contains (part_of (world.network.state.node n)).leaves fec && list_any (λ own. asks_at (place_of w n) w.clock (w.node n) S G iface own && takes_from (place_of w n) (w.node n) fec S G own) (own_vrfs (place_of w n)))
+  far_is fec n h = subst (λ (state : NodeState). serves_far world.network datagram iface fec n state ≡ (sets.contains (part_of state).leaves fec && list_any (λ own. asks_at (place_of w n) w.clock (control_of state) S G iface own && takes_from (place_of w n) (control_of state) fec S G own) (own_vrfs (place_of w n))))
+      (sym (calm_edge scenario cores world k n h).at) refl
 
   pub leaves_are : (n : NodeId) → is_edge sc n ≡ true → (part_of (world.network.state.node n)).leaves ≡ leaves (place_of w n) (w.node n)
-  leaves_are n h = (let e = calm_edge scenario core world k n h in subst (λ (state : NodeState). (part_of state).leaves ≡ leaves (place_of w n) (control_of state)) (sym e.at) e.fact.leaves)
+  leaves_are n h = (let e = calm_edge scenario cores world k n h in subst (λ (state : NodeState). (part_of state).leaves ≡ leaves (place_of w n) (control_of state)) (sym e.at) e.fact.leaves)
 
   module _ (here : Here sc iface) where
     abbrev own : OwnVrf
@@ -177,21 +178,21 @@ module _ (scenario : Scenario) (core : Core) (world : World) (k : Known scenario
         let e = vrf.edge in
         let e_edge = vrf_edge sc k.rules id.0 vrf known in
         let sent = sent_by (is_from_site datagram.site (up_at e other)) (is_joined_in (place_of w e) (w.node e) other S G) (sym (sends_is other e_edge) ∙ sends) in
-        let p = and_parts (sets.contains (part_of (world.network.state.node n)).leaves fec) (list_any (λ own. asks_at (place_of w n) w.clock (w.node n) S G iface own && takes_from (place_of w n) (w.node n) fec S own) (own_vrfs (place_of w n))) (sym (far_is fec n here.edge) ∙ h) in
-        let x = any_among (λ own. asks_at (place_of w n) w.clock (w.node n) S G iface own && takes_from (place_of w n) (w.node n) fec S own) (own_vrfs (place_of w n)) p.1 in
-        let q = and_parts (asks_at (place_of w n) w.clock (w.node n) S G iface x.0) (takes_from (place_of w n) (w.node n) fec S x.0) x.2 in
+        let p = and_parts (sets.contains (part_of (world.network.state.node n)).leaves fec) (list_any (λ own. asks_at (place_of w n) w.clock (w.node n) S G iface own && takes_from (place_of w n) (w.node n) fec S G own) (own_vrfs (place_of w n))) (sym (far_is fec n here.edge) ∙ h) in
+        let x = any_among (λ own. asks_at (place_of w n) w.clock (w.node n) S G iface own && takes_from (place_of w n) (w.node n) fec S G own) (own_vrfs (place_of w n)) p.1 in
+        let q = and_parts (asks_at (place_of w n) w.clock (w.node n) S G iface x.0) (takes_from (place_of w n) (w.node n) fec S G x.0) x.2 in
         let r = and_parts (is_iface_of_vrf sc iface x.0.id) (is_asking (place_of w n) w.clock (w.node n) x.0 S G iface) q.0 in
         let mine : x.0 ≡ own = one_number (place_of w n) x.0 own x.1 own_in (its_vrf x.0.id r.0) in
-        let takes : takes_from (place_of w n) (w.node n) fec S own ≡ true = ap (takes_from (place_of w n) (w.node n) fec S) (sym mine) ∙ q.1 in
+        let takes : takes_from (place_of w n) (w.node n) fec S G own ≡ true = ap (takes_from (place_of w n) (w.node n) fec S G) (sym mine) ∙ q.1 in
         let peer = any_among (λ (peer : NodeId × Taken). is_imported_from (place_of w n) own fec peer && is_from_edge peer.0 (up_at n own)) (maps.entries (w.node n).peers) takes in
         let z = and_parts (is_imported_from (place_of w n) own fec peer.0) (is_from_edge peer.0.0 (up_at n own)) peer.2 in
         let i = import_of (place_of w n) own fec peer.0 z.0 in
         let got = entry_get node_cmp_total (w.node n).peers peer.0.0 peer.0.1 peer.1 in
-        let is_peer = peer_is scenario core world k n here.edge peer.0.0 (ap (λ (o : Option Taken). is_some o) got) in
+        let is_peer = peer_is scenario cores world k n here.edge peer.0.0 (ap (λ (o : Option Taken). is_some o) got) in
         let roots : addr_of sc e ≡ addr_of sc peer.0.0 = ap (λ (f : Fec). f.root) sent.1 ∙ i.imports.root in
         let at_peer : e ≡ peer.0.0 = one_edge e peer.0.0 e_edge is_peer.0 roots in
         let tunnel : is_imported_from (place_of w n) own (transmit_tunnel (place_of w peer.0.0) (w.node peer.0.0) other S G) (peer.0.0, peer.0.1) ≡ true = ap (λ (m : NodeId). is_imported_from (place_of w n) own (transmit_tunnel (place_of w m) (w.node m) other S G) peer.0) (sym at_peer) ∙ ap (λ (f : Fec). is_imported_from (place_of w n) own f peer.0) sent.1 ∙ z.0 in
-        let vpn = transmits_in_vpn scenario core world k n own own_in peer.0.0 peer.0.1 peer.1 other known at_peer S G tunnel in
+        let vpn = transmits_in_vpn scenario cores world k n own own_in peer.0.0 peer.0.1 peer.1 other known at_peer S G tunnel in
         ByFar vrf known (from_edge e (up_at n own) (ap (λ (m : NodeId). is_from_edge m (up_at n own)) at_peer ∙ z.1)) apart vpn (from_site datagram.site (up_at e other) sent.0) (ap (asks_here n) (sym mine) ∙ r.1)
       where
         sent_by : (a b : Bool) → cond (a && b) (Some (transmit_tunnel (place_of w vrf.edge) (w.node vrf.edge) (record { id = id; vrf = vrf }) S G)) None ≡ Some fec → (a ≡ true) × (transmit_tunnel (place_of w vrf.edge) (w.node vrf.edge) (record { id = id; vrf = vrf }) S G ≡ fec)
@@ -249,6 +250,6 @@ module _ (scenario : Scenario) (core : Core) (world : World) (k : Known scenario
     imported f hf ne rd import source_as root a vpn flow = by (transmitted (selections_of (w.node f) root.id) S G) refl
       where
         by : (o : Option Selection) → transmitted (selections_of (w.node f) root.id) S G ≡ o → Among (lsp (own_addr (place_of w f)) (tunnel_number root.vrf (number_by o))) (tunnels_of (place_of w n) (w.node n) own)
-        by None e = wants_inclusive w f n root own (rule scenario core world k) (calm_session scenario core world k f n hf here.edge ne) a vpn
+        by None e = wants_inclusive w f n root own (rule scenario cores world k) (calm_session scenario cores world k f n hf here.edge ne) a vpn
         by (Some selection) e =
-            wants_selective w f n root own (record { vrf = own.id; source = S; group = G }) rd import source_as selection (rule scenario core world k) (calm_session scenario core world k f n hf here.edge ne) (none_due scenario core world k f hf) a own_in vpn refl flow e
+            wants_selective w f n root own (record { vrf = own.id; source = S; group = G }) rd import source_as selection (rule scenario cores world k) (calm_session scenario cores world k f n hf here.edge ne) (none_due scenario cores world k f hf) a own_in vpn refl flow e

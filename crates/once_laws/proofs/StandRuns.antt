@@ -43,7 +43,7 @@ use Rattle.session_defs.specs.System.{Stepped, with_earlier}
 use Rattle.session_defs.specs.declared.direction.Direction.{Direction}
 use Rattle.edge_defs.specs.Edge as edges
 use Rattle.edge_defs.specs.Edge.{Control}
-use Rattle.edge_defs.specs.Place.{Core}
+use Rattle.world_defs.specs.Costs.{Cores}
 use Rattle.edge_defs.specs.Steps as steps
 use Rattle.edge_defs.specs.Steps.{EdgeStepped, edge_step, control_step}
 use Rattle.world_defs.specs.Acts.{At, with_network}
@@ -107,6 +107,7 @@ any_may (events.Active iface source group) = λ n. tt
 any_may (events.Idle iface source group) = λ n. tt
 any_may (events.Select vrf pattern) = λ n. tt
 any_may (events.Unselect vrf pattern) = λ n. tt
+any_may (events.Cost a b cost) = (tt, λ n. tt)
 any_may other = tt
 
 pub rests_hold : (world : World) (event : Event) → AllRest world.network → Leads Any (λ new. AllRest new.network) (done world event)
@@ -282,6 +283,8 @@ event_stands scenario rules c told world s r events.Settle = no_ticks scenario c
 event_stands scenario rules c told world s r (events.Active iface source group) = no_ticks scenario c told told world (events.Active iface source group) (λ i a. refl) (quiet_event scenario c told world (events.Active iface source group) (λ n. tt) s r)
 event_stands scenario rules c told world s r (events.Idle iface source group) = no_ticks scenario c told told world (events.Idle iface source group) (λ i a. refl) (quiet_event scenario c told world (events.Idle iface source group) (λ n. tt) s r)
 event_stands scenario rules c told world s r (events.Select vrf pattern) = no_ticks scenario c told told world (events.Select vrf pattern) (λ i a. refl) (quiet_event scenario c told world (events.Select vrf pattern) (λ n. tt) s r)
+event_stands scenario rules c told world s r (events.Cost a b cost) =
+    no_ticks scenario c told told world (events.Cost a b cost) (λ i a. refl) (quiet_event scenario c told world (events.Cost a b cost) (tt, λ n. tt) s r)
 event_stands scenario rules c told world s r (events.Unselect vrf pattern) = no_ticks scenario c told told world (events.Unselect vrf pattern) (λ i a. refl) (quiet_event scenario c told world (events.Unselect vrf pattern) (λ n. tt) s r)
 event_stands scenario rules c told world s r (events.Move kind from to count) = no_ticks scenario c told told world (events.Move kind from to count) (λ i a. refl) (quiet_event scenario c told world (events.Move kind from to count) tt s r)
 event_stands scenario rules c told world s r (events.Lose kind a b) = no_ticks scenario c told told world (events.Lose kind a b) (λ i x. refl) (quiet_event scenario c told world (events.Lose kind a b) tt s r)
@@ -349,8 +352,8 @@ runs_tell scenario rules refused [] st old number trace new a t run = subst (Tel
 runs_tell scenario rules refused (timed ∷ more) st old number trace new a t run =
     runs_tell scenario rules refused more (one_after scenario refused timed st) run.1 (number + 1) run.2 new (a.1 run.0 run.1 run.3) (one_tells scenario rules refused st old timed run.0 run.1 a.0 t run.3) run.5
 
-start_tells : (scenario : Scenario) (core : Core) → Tells scenario (λ iface entry. record { clock = 0; expiry = None }) (start scenario core)
-start_tells scenario core = record {
+start_tells : (scenario : Scenario) (cores : Cores) → Tells scenario (λ iface entry. record { clock = 0; expiry = None }) (start scenario cores)
+start_tells scenario cores = record {
   clock = 0;
   stands = record {
     same = refl;
@@ -365,13 +368,13 @@ start_tells scenario core = record {
 }
 
 -- Behind every run the entries that count are those of the events.
-pub entries_told : (core : Core) (scenario : Scenario) (all : List Timed) (trace : List Traced) (world : World) → Rules scenario → Rises 0 all → Runs (start scenario core) 0 all trace world → EntriesAreTold (record { scenario = scenario; events = all; refused = refused_lines (report_of trace) }) world
-entries_told core scenario all trace world rules rises run =
+pub entries_told : (cores : Cores) (scenario : Scenario) (all : List Timed) (trace : List Traced) (world : World) → Rules scenario → Rises 0 all → Runs (start scenario cores) 0 all trace world → EntriesAreTold (record { scenario = scenario; events = all; refused = refused_lines (report_of trace) }) world
+entries_told cores scenario all trace world rules rises run =
     let refused = refused_lines (report_of trace) in
     let past : Past = record { scenario = scenario; events = all; refused = refused } in
     let now : ℕ = world.network.state.clock in
-    let accepted = tells_accepted all (start scenario core) 0 trace world 0 [] refused rises (λ line less. refl) refl run in
-    let t = runs_tell scenario rules refused all (λ iface entry. record { clock = 0; expiry = None }) (start scenario core) 0 trace world accepted (start_tells scenario core) run in
+    let accepted = tells_accepted all (start scenario cores) 0 trace world 0 [] refused rises (λ line less. refl) refl run in
+    let t = runs_tell scenario rules refused all (λ iface entry. record { clock = 0; expiry = None }) (start scenario cores) 0 trace world accepted (start_tells scenario cores) run in
     record {
       clock = λ iface entry. t.clocks iface entry ∙ sym t.stands.now;
       counted = λ iface n entry at.
@@ -387,10 +390,10 @@ asks_by_counts : (c : ℕ) (active : Bool) (x y z u v w : Option Expiry) → cou
 asks_by_counts c active x y z u v w p q r = λ i. p i || (q i && not (r i) && active)
 
 -- Behind every run interfaces ask by the entries of their edges, given which sources the events note.
-pub asks_told : (core : Core) (scenario : Scenario) (all : List Timed) (trace : List Traced) (world : World) → Rules scenario → Rises 0 all → Runs (start scenario core) 0 all trace world → AsksAreTold (record { scenario = scenario; events = all; refused = refused_lines (report_of trace) }) world
-asks_told core scenario all trace world rules rises run =
+pub asks_told : (cores : Cores) (scenario : Scenario) (all : List Timed) (trace : List Traced) (world : World) → Rules scenario → Rises 0 all → Runs (start scenario cores) 0 all trace world → AsksAreTold (record { scenario = scenario; events = all; refused = refused_lines (report_of trace) }) world
+asks_told cores scenario all trace world rules rises run =
     let past : Past = record { scenario = scenario; events = all; refused = refused_lines (report_of trace) } in
-    let e = entries_told core scenario all trace world rules rises run in
+    let e = entries_told cores scenario all trace world rules rises run in
     let now : ℕ = clock_of world in
     λ iface n source group at.
     let active : Bool = is_active_at past iface source group in

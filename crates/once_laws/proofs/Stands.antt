@@ -27,13 +27,13 @@ use Rattle.label_defs.specs.Steps.{label_step}
 use Rattle.label_defs.proofs.KeyLemmas.{node_equal}
 use Rattle.session_defs.specs.System.{Stepped}
 use Rattle.edge_defs.specs.Edge.{Taken, Control, EdgeData}
-use Rattle.edge_defs.specs.Place.{EdgePlace, label_place}
+use Rattle.edge_defs.specs.Place.{EdgePlace}
 use Rattle.edge_defs.specs.Steps as steps
 use Rattle.edge_defs.specs.Steps.{EdgeStepped, LabelStep, edge_step, own_label_call, changed_leaves, one_call, control_step, label_row, part_after}
 use Rattle.edge_defs.specs.Tunnels.{leaves}
-use Rattle.world_defs.specs.Nodes.{NodeState, Edge, CoreNode, Nodes, is_edge, with_node, place_of}
+use Rattle.world_defs.specs.Nodes.{NodeState, Edge, CoreNode, Nodes, is_edge, with_node, place_of, label_place_of, following}
 use Rattle.world_defs.specs.Refusals.{control_of}
-use Rattle.world_defs.specs.System.{NodeCall, Own, Elapse, Reset, node_called, core_called, nodes_called}
+use Rattle.world_defs.specs.System.{NodeCall, Own, Elapse, Reset, Price, Follow, node_called, core_called, nodes_called}
 use Rattle.ready_laws.proofs.Ends.{Holds}
 use Rattle.rule_laws.proofs.Rows.{IsEdgeNode}
 use Rattle.ready_laws.proofs.Ends.{holds_from, holds_then}
@@ -147,6 +147,8 @@ MayStand (Own n (steps.Pim iface message)) = ⊥
 MayStand (Own n call) = ⊤
 MayStand (Elapse ticks) = ⊥
 MayStand (Reset n) = ⊥
+MayStand (Price a b cost) = ⊤
+MayStand (Follow n) = ⊤
 
 update_entries : (now : ℕ) (peer : NodeId) (message : Message) (old : Control) → (steps.with_update now peer message old).entries ≡ old.entries
 update_entries now peer message old = by (maps.get old.peers peer)
@@ -167,6 +169,7 @@ step_kept place now n old (steps.Raised kinds.Bgp peer) w iface entry = refl
 step_kept place now n old (steps.Raised kinds.Ldp peer) w iface entry = refl
 step_kept place now n old (steps.Noticed kinds.Bgp peer) w iface entry = refl
 step_kept place now n old (steps.Noticed kinds.Ldp peer) w iface entry = refl
+step_kept place now n old steps.Rerouted w iface entry = refl
 step_kept place now n old steps.Timers w iface entry = ap (remaining now) (get-kept old.entries now (record { iface = iface; entry = entry })) ∙ remaining_twice now (kept_of old iface entry)
 
 -- what an edge keeps behind a step
@@ -201,8 +204,8 @@ called_stands scenario clock told nodes n call w s = by (nodes.node n) refl
     core : (part : LabelData) → nodes.node n ≡ CoreNode part → (o : Option label_steps.Call) → Holds (λ (new : Stepped Nodes). Stands scenario clock told new.state) (core_called nodes n part o)
     core part e None = s
     core part e (Some own) =
-        holds_then (λ (new : settling.Stepped). ⊤) (λ (new : Stepped Nodes). Stands scenario clock told new.state) (label_step (label_place nodes.scenario nodes.core n) nodes.clock part own) _
-        (holds_from (λ (new : settling.Stepped). ⊤) (label_step (label_place nodes.scenario nodes.core n) nodes.clock part own) (λ new is. tt))
+        holds_then (λ (new : settling.Stepped). ⊤) (λ (new : Stepped Nodes). Stands scenario clock told new.state) (label_step (label_place_of nodes n) nodes.clock part own) _
+        (holds_from (λ (new : settling.Stepped). ⊤) (label_step (label_place_of nodes n) nodes.clock part own) (λ new is. tt))
         (λ new p. same_kept scenario clock told nodes n (CoreNode new.part) s (λ kind. subst IsEdgeNode e kind) (λ iface entry. ap (λ (state : NodeState). remaining clock (kept_of (control_of state) iface entry)) (sym e)))
 
     by : (state : NodeState) → nodes.node n ≡ state → Holds (λ (new : Stepped Nodes). Stands scenario clock told new.state) (node_called nodes n state call)
@@ -219,3 +222,6 @@ pub step : (scenario : Scenario) (clock : ℕ) (told : Told) (nodes : Nodes) (ca
 step scenario clock told nodes (Own n call) w s = called_stands scenario clock told nodes n call w s
 step scenario clock told nodes (Elapse ticks) w s = absurd w
 step scenario clock told nodes (Reset n) w s = absurd w
+step scenario clock told nodes (Price a b cost) w s = record { same = s.same; now = s.now; kinds = s.kinds; expiry = s.expiry }
+step scenario clock told nodes (Follow n) w s =
+    called_stands scenario clock told (following nodes n) n steps.Rerouted tt (record { same = s.same; now = s.now; kinds = s.kinds; expiry = s.expiry })

@@ -22,7 +22,8 @@ use Rattle.edge_defs.specs.Edge.{VrfFlow, Upstream, Site, Remote, TakenRoute, Ta
 use Rattle.edge_defs.specs.Imported.{ImportedSelective, is_admitted, lsp_of, tunnel_by, inclusive_of, selective_of, imported_inclusive, imported_selective, taken_from}
 use Rattle.edge_defs.specs.Keys.{Value, key_cmp}
 use Rattle.edge_defs.specs.Originated.{target_comms}
-use Rattle.edge_defs.specs.Place.{Core, EdgePlace, OwnVrf, own_vrfs, addr_of, lsp, tunnel_number}
+use Rattle.edge_defs.specs.Place.{EdgePlace, OwnVrf, own_vrfs, addr_of, lsp, tunnel_number}
+use Rattle.world_defs.specs.Costs.{Cores}
 use Rattle.edge_defs.specs.Tunnels.{inclusive_tunnels, flow_tunnels, flows_of, tunnels_of, learned_route, learned_routes, transmit_tunnel, selections_of, number_by}
 use Rattle.edge_defs.proofs.KeyLemmas.{key_total}
 use Rattle.edge_laws.specs.Network.{EdgeNetwork, place_of}
@@ -176,12 +177,12 @@ wanted_from place control own fec a = elim (among_either fec (flat_map (inclusiv
 
 -- ---- whose tunnel it is
 
-module _ (scenario : Scenario) (core : Core) (world : World) (k : Known scenario core world) where
+module _ (scenario : Scenario) (cores : Cores) (world : World) (k : Known scenario cores world) where
   abbrev sc : Scenario
   sc = scenario_of world
 
   abbrev w : EdgeNetwork
-  w = net scenario core world k
+  w = net scenario cores world k
 
   -- A tunnel that a VRF imports from an edge, and on which a VRF of that edge transmits, is one of its VPN.
   pub transmits_in_vpn : (n : NodeId) (own : OwnVrf) → Among own (own_vrfs (place_of w n)) → (p : NodeId) (table : Taken) → Among (p, table) (maps.entries (w.node n).peers) → (sender : OwnVrf) → slice_get sc.vrfs sender.id.0 ≡ Some sender.vrf → sender.vrf.edge ≡ p

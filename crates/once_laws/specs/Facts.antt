@@ -9,7 +9,7 @@ use Rattle.scenario_defs.specs.declared.event.Kind.TheVariants as kinds
 use Rattle.scenario_defs.specs.declared.scenario.Scenario.{Scenario}
 use Rattle.edge_defs.specs.Edge.{EdgeData}
 use Rattle.edge_defs.specs.Flows.{flows_at}
-use Rattle.edge_defs.specs.Place.{Core, EdgePlace}
+use Rattle.edge_defs.specs.Place.{EdgePlace}
 use Rattle.edge_defs.specs.Tunnels.{leaves}
 use Rattle.world_defs.specs.Nodes.{NodeState, Edge, CoreNode, Nodes, is_edge, place_of}
 
@@ -30,7 +30,6 @@ abbrev pub FitEnd : Scenario → Kind → NodeId → NodeId → Type 0
 FitEnd scenario kinds.Bgp n peer = (is_edge scenario peer ≡ true) × (n ≢ peer)
 FitEnd scenario kinds.Ldp n peer = Unit {0}
 
-pub record NodesFact (scenario : Scenario) (core : Core) (nodes : Nodes) : Type 0 where
+pub record NodesFact (scenario : Scenario) (nodes : Nodes) : Type 0 where
   pub same : nodes.scenario ≡ scenario
-  pub same_core : nodes.core ≡ core
   pub node : (n : NodeId) → NodeFact (place_of nodes n) nodes.clock (nodes.node n)

@@ -1,5 +1,5 @@
 //! The entries of an edge's interfaces.
-ghost use Rattle.std.specs.Prelude.{◌≡◌, ◌<◌, ◌≤◌, ◌^◌, ◌&&◌, not, true, false, not, count_by, Err, IfOk, OnOk, OnErr};
+ghost use Rattle.std.specs.Prelude.{◌≡◌, ◌<◌, ◌≤◌, ◌^◌, ◌&&◌, not, true, false, not, count_by, is_some, Err, IfOk, OnOk, OnErr};
 ghost use Rattle.std.specs.FinMap.{empty, len};
 ghost use Rattle.pim_defs.specs.Expiry.{is_after};
 ghost use Rattle.scenario_defs.specs.declared.event.JoinEntry.TheVariants as entries;
@@ -54,6 +54,7 @@ pub struct Downstream {
 }
 
 impl Model for Downstream {
+    ghost use Rattle.std.specs.Prelude.{length, ◌≤◌};
     ghost use Rattle.std.specs.FinMap.{from_entries};
     ghost use Rattle.indexmap.specs.IndexMap.{IsUnique};
     ghost use Rattle.pim_defs.specs.Entries.{Entries};
@@ -66,7 +67,7 @@ impl Model for Downstream {
 
     ghost view = { λ d. from_entries d.entries.entries };
 
-    ghost invariant = { λ d. IsUnique is_at d.entries };
+    ghost invariant = { λ d. IsUnique is_at d.entries × (length d.entries.entries ≤ 1024) };
 }
 
 impl Downstream {
@@ -154,6 +155,21 @@ impl Downstream {
         ensures { result ≡ len self.now }
     {
         self.entries.len()
+    }
+
+    /// The same. It takes no memory.
+    pub fn entries(&self) -> u32
+        ensures count { result ≡ len self.now }
+        ensures few { result ≤ 1024 }
+    {
+        self.entries.len() as u32
+    }
+
+    /// Whether the entry of the interface is there.
+    pub fn has(&self, iface: IfaceId, entry: JoinEntry) -> bool
+        ensures { result ≡ is_some (expiry_at self.now iface entry) }
+    {
+        self.expiry_at(iface, entry).is_some()
     }
 
     /// The expiry of an entry of the interface, where it is there.

@@ -29,15 +29,15 @@ use Rattle.edge_defs.specs.Place.{OwnVrf, EdgePlace}
 use Rattle.edge_defs.specs.Steps as steps
 use Rattle.edge_defs.specs.Tunnels.{transmit_tunnel, is_joined_in}
 use Rattle.edge_defs.specs.Upstream.{upstream_for}
-use Rattle.world_defs.specs.Acts.{Act, Tick, Timers, Move, Lose, Notice, RaiseFirst, RaiseSecond, Restart, At, Enter, Land, Drop, Tell, with_network, is_of_session, is_at, leads_to, is_from_peer, with_branches, datagram_at, enters_at, entering, fate_at, landed, without_copy, landing, act}
+use Rattle.world_defs.specs.Acts.{Act, Tick, Timers, Move, Lose, Notice, RaiseFirst, RaiseSecond, Restart, At, Enter, Land, Drop, Tell, SetCost, Reroute, with_network, is_of_session, is_at, leads_to, is_from_peer, with_branches, datagram_at, enters_at, entering, fate_at, landed, without_copy, landing, act}
 use Rattle.world_defs.specs.Counts.{direction}
 use Rattle.world_defs.specs.Nodes.{NodeState, Edge, CoreNode, Nodes, place_of, part_of, fresh_node}
 use Rattle.world_defs.specs.Nodes as nodes
-use Rattle.world_defs.specs.System.{NodeCall, Own, Elapse, Reset, system, unchanged}
+use Rattle.world_defs.specs.System.{NodeCall, Own, Elapse, Reset, Price, Follow, system, unchanged}
 use Rattle.world_defs.specs.World.{World, Datagram, LinkCopy, scenario_of, clock_of}
 use Rattle.world_defs.proofs.Kept.{Gives, branches_keep, branches_datagrams}
 use Rattle.world_laws.specs.Sound.{Sound}
-use Rattle.world_laws.specs.Honest.{IsSoundCall}
+use Rattle.world_laws.specs.Honest.{IsCost, IsSoundCall}
 use Rattle.world_laws.proofs.NodeCalls.{own_is_good}
 use Rattle.world_laws.proofs.RunActs.{SoundAct}
 use Rattle.rule_laws.specs.Labels.{Copies, vpn_of, origin}
@@ -49,6 +49,8 @@ use Rattle.rule_laws.proofs.Octets.{OctetsGood, BehindGood, earlier_good, called
 use Rattle.std.specs.FinMap as maps
 use Rattle.edge_laws.specs.Acts as edge_acts
 use Rattle.rule_laws.proofs.EdgeCalls.{IsEdgeFit}
+use Rattle.core_walks.specs.Costs.{with_cost}
+use Rattle.rule_laws.proofs.Reroutes.{price_good, follow_good}
 use Rattle.rule_laws.proofs.Sessions.{lose_good, restart_good, young_copies, tick_good}
 
 -- What is in transit, in octets, carries messages with which the label rule holds of the world.
@@ -126,6 +128,23 @@ tick_in_step scenario world ticks (pending, are, good) =
     subst (λ (s : Stepped Nodes). Good scenario (with_messages (seen old pending) s) (young_copies (old.state.clock + ticks) old.state.scenario.life world.copies) world.datagrams) same
     (tick_good scenario (seen old pending) world.copies world.datagrams ticks good (subst (λ (s : Stepped Nodes). Sound scenario s.state) (sym same) after))))
 
+-- ---- costs
+
+price_in_step : (scenario : Scenario) (world : World) (a b : NodeId) (cost : ℕ) → IsCost cost → InStep scenario world → Gives (InStep scenario) (act world (SetCost a b cost))
+price_in_step scenario world a b cost is (pending, are, good) =
+    let old : OctetNetwork Nodes = world.network in
+    let next : Nodes = record old.state { links = with_cost a b cost old.state.links } in
+    network_in_step scenario world [] (octet_run system old (octets.Call (Price a b cost) ∷ [])) a
+    (called_good scenario world.copies world.datagrams old pending are good.base.sound (Price a b cost) is (λ new e after.
+    let same : unchanged next ≡ new = same_Some (unchanged next) new e in
+    subst (λ (s : Stepped Nodes). Good scenario (with_messages (seen old pending) s) world.copies world.datagrams) same
+    (price_good scenario (seen old pending) world.copies world.datagrams (with_cost a b cost old.state.links) good (subst (λ (s : Stepped Nodes). Sound scenario s.state) (sym same) after))))
+
+follow_in_step : (scenario : Scenario) (world : World) (n : NodeId) → n.0 < length scenario.nodes → InStep scenario world → Gives (InStep scenario) (act world (Reroute n))
+follow_in_step scenario world n lt (pending, are, good) =
+    network_in_step scenario world [] (octet_run system world.network (octets.Call (Follow n) ∷ [])) n
+    (called_good scenario world.copies world.datagrams world.network pending are good.base.sound (Follow n) lt (λ new e after. follow_good scenario (seen world.network pending) world.copies world.datagrams n good new e after))
+
 -- ---- copies
 
 -- a world in which copies alone are others
@@ -144,7 +163,7 @@ enter_by : (scenario : Scenario) (world : World) (id : VrfId) → IsFitEnter wor
     → InStep scenario (enters_at world (record { id = id; vrf = vrf }) state datagram).world
 enter_by scenario world id fit s vrf known (CoreNode part) at datagram = s
 enter_by scenario world id fit (pending, are, good) vrf known (Edge edge) at datagram =
-    by (is_from_site datagram.site (upstream_for place edge.control own datagram.source)) (is_joined_in place edge.control own datagram.source datagram.group)
+    by (is_from_site datagram.site (upstream_for place edge.control own datagram.source datagram.group)) (is_joined_in place edge.control own datagram.source datagram.group)
   where
     own : OwnVrf
     own = record { id = id; vrf = vrf }
@@ -233,6 +252,7 @@ at_fit scenario world pending n (steps.Unselect vrf pattern) sound fit = (tt, tt
 at_fit scenario world pending n (steps.Raised kind peer) sound fit = absurd fit
 at_fit scenario world pending n (steps.Noticed kind peer) sound fit = absurd fit
 at_fit scenario world pending n steps.Timers sound fit = (tt, tt)
+at_fit scenario world pending n steps.Rerouted sound fit = absurd sound
 
 pub act_in_step : (scenario : Scenario) (one : Act) → SoundAct scenario one → (world : World) → IsFit world one → InStep scenario world → Gives (InStep scenario) (act world one)
 act_in_step scenario (Tick ticks) sound world fit s = tick_in_step scenario world ticks s
@@ -252,3 +272,5 @@ act_in_step scenario (Enter vrf) sound world fit s = enter_in_step scenario worl
 act_in_step scenario (Land from to place) sound world fit s = land_in_step scenario world from to place fit s
 act_in_step scenario (Drop from to place) sound world fit (pending, are, good) = (pending, are, record { base = good.base; kept = drop_kept pending world from to place good.kept; edges = good.edges })
 act_in_step scenario Tell sound world fit s = s
+act_in_step scenario (SetCost a b cost) sound world fit s = price_in_step scenario world a b cost sound s
+act_in_step scenario (Reroute n) sound world fit s = follow_in_step scenario world n sound s

@@ -222,13 +222,13 @@ landing_outs world n now edge number fec source group rules honest t = by (sets.
 
     from_peer : (own : OwnVrf) → Among own (own_vrfs (place_of world.network.state n)) → (peer : NodeId × Taken) → Among peer (maps.entries edge.control.peers)
         → AllByRecursion (λ (iface : IfaceId). IsAdmitted (scenario_of world) iface t.datagram.site) (outs_from (place_of world.network.state n) now edge.control own fec source group peer)
-    from_peer own a peer b = at (is_imported_from (place_of world.network.state n) own fec peer && is_from_edge peer.0 (upstream_for (place_of world.network.state n) edge.control own source)) refl
+    from_peer own a peer b = at (is_imported_from (place_of world.network.state n) own fec peer && is_from_edge peer.0 (upstream_for (place_of world.network.state n) edge.control own source group)) refl
       where
-        at : (c : Bool) → (is_imported_from (place_of world.network.state n) own fec peer && is_from_edge peer.0 (upstream_for (place_of world.network.state n) edge.control own source)) ≡ c
+        at : (c : Bool) → (is_imported_from (place_of world.network.state n) own fec peer && is_from_edge peer.0 (upstream_for (place_of world.network.state n) edge.control own source group)) ≡ c
             → AllByRecursion (λ (iface : IfaceId). IsAdmitted (scenario_of world) iface t.datagram.site) (cond c (asking_ifaces (place_of world.network.state n) now edge.control own source group) [])
         at false e = tt
         at true e =
-            let imported = (and_parts (is_imported_from place own fec peer) (is_from_edge peer.0 (upstream_for place edge.control own source)) e).0 in
+            let imported = (and_parts (is_imported_from place own fec peer) (is_from_edge peer.0 (upstream_for place edge.control own source group)) e).0 in
             let entry = any_among (is_route_of place own peer.0 fec) (maps.entries peer.1) imported in
             let table : taken_from edge.control peer.0 ≡ peer.1 = peer_table edge.control peer.0 peer.1 b in
             let held : maps.get (taken_from edge.control peer.0) entry.0.0 ≡ Some entry.0.1 = ap (λ (m : Taken). maps.get m entry.0.0) table ∙ entry_get key_total peer.1 entry.0.0 entry.0.1 entry.1 in

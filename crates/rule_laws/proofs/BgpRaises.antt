@@ -88,7 +88,6 @@ module _ (scenario : Scenario) (network : MessageNetwork Nodes) (copies : Copies
   base_first : Base scenario first
   base_first = record {
     sound = good.base.sound;
-    ids = good.base.ids;
     apart = λ n. or_false (network.joined (direction kinds.Ldp n n)) ∙ good.base.apart n;
     numbers = good.base.numbers;
     peers = λ u n j. elim (or_cases (network.joined (direction kinds.Bgp u n)) (is_between a b u n) j) [

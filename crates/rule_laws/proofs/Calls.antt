@@ -2,7 +2,7 @@
 use Rattle.std.proofs.Common.{◌≡◌, ◌≢◌, ℕ, ◌+◌, ◌==◌, ◌&&◌, Bool, true, false, cond, List, [], ◌∷◌, ◌++◌, map, is_some, option_map, Option, Some, None, refl, sym, ap, subst, ◌∙◌}
 use Rattle.std.specs.Ordering.{eq_by_cmp}
 use Rattle.std.specs.FinMap as maps
-use Rattle.std.specs.FinSet as sets
+use Rattle.std.specs.FinMap.{FinMap}
 use Rattle.mv_base.specs.declared.ids.NodeId.{NodeId}
 use Rattle.mldp_msgs.specs.declared.message.LabelMessage.{LabelMessage}
 use Rattle.mldp_msgs.specs.declared.message.LabelMessage.TheVariants as messages
@@ -10,14 +10,12 @@ use Rattle.scenario_defs.specs.declared.event.Kind.{Kind}
 use Rattle.scenario_defs.specs.declared.event.Kind.TheVariants as kinds
 use Rattle.scenario_defs.specs.declared.scenario.Scenario.{Scenario}
 use Rattle.label_defs.specs.Keys.{node_cmp}
-use Rattle.label_defs.specs.LabelData.{Place, LabelData, use_of, is_up}
-use Rattle.label_defs.specs.Settling.{with_use}
+use Rattle.label_defs.specs.LabelData.{Place, LabelData, is_up}
 use Rattle.label_defs.specs.Steps as labels
-use Rattle.label_defs.specs.Steps.{branch_to, released, hold_run}
-use Rattle.label_defs.specs.declared.branch.Branch.{Branch}
+use Rattle.label_defs.specs.Steps.{hold_run, raised_end}
 use Rattle.label_defs.specs.declared.end.End.{End}
-use Rattle.label_defs.specs.declared.label_use.LabelUse.{LabelUse}
 use Rattle.label_defs.proofs.KeyLemmas.{node_equal, node_apart, node_cmp_total, node_cmp_exact}
+use Rattle.label_defs.proofs.IdLemmas.{effect_ends}
 use Rattle.label_defs.proofs.SetLemmas.{cut_other}
 use Rattle.label_defs.proofs.TimerLemmas.{timed_end}
 use Rattle.label_laws.specs.Network.{LabelNetwork, behind}
@@ -28,19 +26,18 @@ use Rattle.session_defs.specs.System.{Stepped, MessageNetwork, with_messages}
 use Rattle.session_defs.specs.declared.direction.Direction.{Direction}
 use Rattle.edge_defs.specs.Place.{label_place}
 use Rattle.edge_defs.specs.Steps as steps
-use Rattle.edge_defs.specs.Steps.{own_label_call, part_after}
+use Rattle.edge_defs.specs.Steps.{own_label_call}
 use Rattle.world_defs.specs.Counts.{direction}
-use Rattle.world_defs.specs.Nodes.{NodeState, Edge, CoreNode, Nodes, is_edge, place_of, part_of}
+use Rattle.world_defs.specs.Nodes.{NodeState, Edge, CoreNode, Nodes, is_edge, place_of, part_of, core_at}
 use Rattle.world_defs.specs.Refusals.{control_of}
 use Rattle.world_defs.specs.System.{node_called, call_of}
 use Rattle.world_defs.specs.World.{Datagram}
 use Rattle.world_laws.specs.Sound.{SoundScenario, SoundNode, Sound}
 use Rattle.world_laws.proofs.NodeCalls.{IsGoodCall}
 use Rattle.rule_laws.specs.Labels.{Copies, labels_in, label_network}
-use Rattle.rule_laws.proofs.Ids.{IdsOk}
 use Rattle.rule_laws.proofs.Numbers.{NumbersOk, HasRoom, step_numbers}
 use Rattle.rule_laws.proofs.Leaves.{leaves_are_trees}
-use Rattle.rule_laws.proofs.Rows.{act_gives, FirstKept, row_kept, own_effect, row_ids, CalledRow, TreesBehind, called_row, UpWhereJoined, called_is, control_behind, IsEdgeNode}
+use Rattle.rule_laws.proofs.Rows.{act_gives, FirstKept, row_kept, own_effect, CalledRow, TreesBehind, called_row, UpWhereJoined, called_is, control_behind, IsEdgeNode}
 use Rattle.rule_laws.proofs.EdgeCalls.{EdgesKept, PeersAreEdges, EdgesNext, edges_kept, rule_behind, edge_rule_behind, IsEdgeFit, fit_rule}
 use Rattle.rule_laws.specs.Edges.{InTransit, as_message, edge_network}
 use Rattle.bgp_attributes.specs.declared.key.Key.{Key}
@@ -54,11 +51,9 @@ use Rattle.rule_laws.proofs.Honest.{EdgeRule, act_both}
 
 -- ---- what is kept
 
--- The nodes are sound, each has ids of messages to where its ends are up, no node has a session with itself, and selections have small
--- numbers.
+-- The nodes are sound, no node has a session with itself, and selections have small numbers.
 pub record Base (scenario : Scenario) (network : MessageNetwork Nodes) : Type 0 where
   pub sound : Sound scenario network.state
-  pub ids : (n : NodeId) → IdsOk (part_of (network.state.node n))
   pub apart : (n : NodeId) → network.joined (direction kinds.Ldp n n) ≡ false
   pub numbers : (n : NodeId) → NumbersOk (control_of (network.state.node n))
   pub peers : PeersAreEdges network
@@ -82,10 +77,6 @@ trees_behind scenario nodes s n call good = by (nodes.node n) (s.node n)
     by (Edge edge) own = leaves_are_trees (place_of nodes n) (steps.control_step (place_of nodes n) nodes.clock edge.control call) (good.control (place_of nodes n) nodes.clock edge.control (subst SoundScenario (sym s.same) s.lines) own.0)
     by (CoreNode part) own = tt
 
-pub ids_at : (b : Bool) (x y : NodeState) → IdsOk (part_of x) → IdsOk (part_of y) → IdsOk (part_of (cond b x y))
-ids_at true x y p q = p
-ids_at false x y p q = q
-
 pub numbers_at : (b : Bool) (x y : NodeState) → NumbersOk (control_of x) → NumbersOk (control_of y) → NumbersOk (control_of (cond b x y))
 numbers_at true x y p q = p
 numbers_at false x y p q = q
@@ -105,12 +96,10 @@ pub call_parts : (scenario : Scenario) (network : MessageNetwork Nodes) (copies 
 call_parts scenario network copies datagrams base n call new e good room sound up first =
     let nodes : Nodes = network.state in
     let old : LabelData = part_of (nodes.node n) in
-    let c = called_row nodes n (nodes.node n) call new refl (trees_behind scenario nodes base.sound n call good) e in
-    let after : IdsOk (part_after old c.row) = (row_ids (place_of nodes n) nodes.clock (own_label_call call) c.wants c.are old c.row c.made (base.ids n)).0 in (
+    let c = called_row nodes n (nodes.node n) call new refl (trees_behind scenario nodes base.sound n call good) e in (
       c,
       record {
         sound = sound;
-        ids = λ m. subst (λ (state : Nodes). IdsOk (part_of (state.node m))) (sym c.state) (ids_at (m.0 == n.0) c.node (nodes.node m) (subst IdsOk (sym c.part) after) (base.ids m));
         apart = base.apart;
         numbers = λ m. subst (λ (state : Nodes). NumbersOk (control_of (state.node m))) (sym c.state) (numbers_at (m.0 == n.0) c.node (nodes.node m) (subst NumbersOk (sym c.control) (behind_numbers nodes n (nodes.node n) call room (base.numbers n))) (base.numbers m));
         peers = λ u m joined. (let p = base.peers u m joined in (subst (λ (state : Nodes). is_edge state.scenario m ≡ true) (sym c.state) p.0, p.1));
@@ -119,7 +108,7 @@ call_parts scenario network copies datagrams base n call new e good room sound u
       },
       λ later.
           let all : List Datagram = datagrams ++ later in
-          subst Kept (sym (called_is network copies all n call new c (base.ids n) up)) (row_kept network copies all n (own_label_call call) c.wants c.are (first later) c.row c.made),
+          subst Kept (sym (called_is network copies all n call new c up)) (row_kept network copies all n (own_label_call call) c.wants c.are (first later) c.row c.made),
     )
 
 pub call_good : (scenario : Scenario) (network : MessageNetwork Nodes) (copies : Copies) (datagrams : List Datagram) → Base scenario network → (n : NodeId) (call : steps.Call) (new : Stepped Nodes) → node_called network.state n (network.state.node n) call ≡ Some new
@@ -144,24 +133,14 @@ was_up : (f : End → End) (o : Option End) → is_some o ≡ true → is_some (
 was_up f (Some end) e = refl
 was_up f None e = e
 
-mapping_up : (part : LabelData) (branch : Branch) (t : Bool) (to : NodeId) → is_up part to ≡ true → is_up (cond t (record part { branches = sets.insert part.branches branch }) part) to ≡ true
-mapping_up part branch true to h = h
-mapping_up part branch false to h = h
-
-release_up : (part : LabelData) (label : ℕ) (change : LabelUse → LabelUse) (o : Option LabelUse) (to : NodeId) → is_up part to ≡ true → is_up (elim o [ None ↦ part | Some usage ↦ with_use part label (change usage) ]) to ≡ true
-release_up part label change None to h = h
-release_up part label change (Some usage) to h = h
-
 pub stays_up : (place : Place) (now : ℕ) (part : LabelData) (own : Option labels.Call) (to : NodeId) → IsNoCut to own → is_up part to ≡ true → is_up (own_effect place now part own) to ≡ true
 stays_up place now part None to cut h = h
-stays_up place now part (Some (labels.Taken from (messages.Mapping fec label))) to cut h = mapping_up part (branch_to from fec label) (place.is_tree fec) to h
-stays_up place now part (Some (labels.Taken from (messages.Withdraw fec label))) to cut h = h
-stays_up place now part (Some (labels.Taken from (messages.Release fec label))) to cut h = release_up part label (released from fec (now + place.life + 1)) (use_of part label) to h
-stays_up place now part (Some (labels.Taken from (messages.Ignored kind))) to cut h = h
+stays_up place now part (Some (labels.Taken from message)) to cut h = ap (λ (ends : FinMap node_cmp End). is_some (maps.get ends to)) (effect_ends place now part from message) ∙ h
 stays_up place now part (Some (labels.Want fec)) to cut h = h
 stays_up place now part (Some (labels.Unwant fec)) to cut h = h
-stays_up place now part (Some (labels.Raised peer)) to cut h = ap is_some (maps.get-insert node_cmp_total part.ends peer (record { raised = now; held = false }) to) ∙ put_up (eq_by_cmp node_cmp to peer) (record { raised = now; held = false }) (maps.get part.ends to) h
+stays_up place now part (Some (labels.Raised peer)) to cut h = ap is_some (maps.get-insert node_cmp_total part.ends peer (raised_end now) to) ∙ put_up (eq_by_cmp node_cmp to peer) (raised_end now) (maps.get part.ends to) h
 stays_up place now part (Some (labels.Noticed peer)) to cut h = ap is_some (cut_other node_cmp_total node_cmp_exact part.ends peer to cut) ∙ h
+stays_up place now part (Some labels.Rerouted) to cut h = h
 stays_up place now part (Some labels.Timers) to cut h = ap is_some (timed_end place now part to) ∙ was_up (hold_run place.life now) (maps.get part.ends to) h
 
 -- no session joins a node with itself
@@ -179,7 +158,7 @@ joined_up scenario network copies datagrams good n to joined = ((good.kept []).r
 pub up_there : (scenario : Scenario) (network : MessageNetwork Nodes) (copies : Copies) (datagrams : List Datagram) → Good scenario network copies datagrams → (n : NodeId) (call : steps.Call) → ((to : NodeId) → network.joined (direction kinds.Ldp n to) ≡ true → IsNoCut to (own_label_call call))
     → UpWhereJoined network n (part_of (network.state.node n)) call
 up_there scenario network copies datagrams good n call cut to joined =
-    stays_up (label_place network.state.scenario network.state.core n) network.state.clock (part_of (network.state.node n)) (own_label_call call) to (cut to joined) (joined_up scenario network copies datagrams good n to joined)
+    stays_up (label_place network.state.scenario (core_at network.state n) n) network.state.clock (part_of (network.state.node n)) (own_label_call call) to (cut to joined) (joined_up scenario network copies datagrams good n to joined)
 
 -- ---- calls of a node by itself
 
@@ -189,6 +168,7 @@ abbrev pub IsFitCall : MessageNetwork Nodes → NodeId → steps.Call → Type 0
 IsFitCall network n (steps.Raised kinds.Ldp peer) = ⊥
 IsFitCall network n (steps.Noticed kinds.Ldp peer) = (network.joined (direction kinds.Ldp n peer) ≡ false) × (is_up (part_of (network.state.node n)) peer ≡ true)
 IsFitCall network n (steps.Label neighbour message) = ⊥
+IsFitCall network n steps.Rerouted = ⊥
 IsFitCall network n (steps.Select vrf pattern) = HasRoom (control_of (network.state.node n)) (steps.Select vrf pattern)
 IsFitCall network n other = Unit {0}
 
@@ -205,6 +185,7 @@ fit_cut network n (steps.Idle iface source group) fit to joined = tt
 fit_cut network n (steps.Select vrf pattern) fit to joined = tt
 fit_cut network n (steps.Unselect vrf pattern) fit to joined = tt
 fit_cut network n steps.Timers fit to joined = tt
+fit_cut network n steps.Rerouted fit to joined = tt
 
 fit_first : (network : MessageNetwork Nodes) (copies : Copies) (datagrams : List Datagram) (n : NodeId) (call : steps.Call) → IsFitCall network n call → Kept (label_network network copies datagrams) → FirstKept network copies datagrams n (own_label_call call)
 fit_first network copies datagrams n (steps.Noticed kinds.Ldp peer) fit k = λ first e.
@@ -216,6 +197,7 @@ fit_first network copies datagrams n (steps.Raised kinds.Ldp peer) fit k = absur
 fit_first network copies datagrams n (steps.Raised kinds.Bgp peer) fit k = k
 fit_first network copies datagrams n (steps.Update peer message) fit k = k
 fit_first network copies datagrams n (steps.Label neighbour message) fit k = absurd fit
+fit_first network copies datagrams n steps.Rerouted fit k = absurd fit
 fit_first network copies datagrams n (steps.Pim iface message) fit k = k
 fit_first network copies datagrams n (steps.Active iface source group) fit k = k
 fit_first network copies datagrams n (steps.Idle iface source group) fit k = k
@@ -233,6 +215,7 @@ fit_room network n (steps.Pim iface message) fit = tt
 fit_room network n (steps.Active iface source group) fit = tt
 fit_room network n (steps.Idle iface source group) fit = tt
 fit_room network n steps.Timers fit = tt
+fit_room network n steps.Rerouted fit = tt
 
 pub own_good : (scenario : Scenario) (network : MessageNetwork Nodes) (copies : Copies) (datagrams : List Datagram) → Good scenario network copies datagrams → (n : NodeId) (call : steps.Call) → IsFitCall network n call → IsEdgeFit network n call → IsGoodCall call
     → (new : Stepped Nodes) → node_called network.state n (network.state.node n) call ≡ Some new → Sound scenario new.state → Good scenario (with_messages network new) copies datagrams
@@ -269,7 +252,7 @@ label_first scenario network copies datagrams good a b message rest joined e lat
     (act_gives w (Deliver a b) (behind gone b first) ((λ i. delivered w a b (other i) (up i) (labels_in (e i))) ∙ ap (option_map (behind gone b)) is) (good.kept later))
 
 left_base : (scenario : Scenario) (network : MessageNetwork Nodes) (over : Direction) (rest : List SessionMessage) → Base scenario network → Base scenario (left network over rest)
-left_base scenario network over rest base = record { sound = base.sound; ids = base.ids; apart = base.apart; numbers = base.numbers; peers = base.peers; kinds = base.kinds }
+left_base scenario network over rest base = record { sound = base.sound; apart = base.apart; numbers = base.numbers; peers = base.peers; kinds = base.kinds }
 
 -- a message of the session's protocol
 abbrev pub IsOfKind : Kind → SessionMessage → Type 0

@@ -77,8 +77,8 @@ core_idle : (network : EdgeNetwork) (n : NodeId) → network.node n ≡ no_contr
 core_idle network n e = λ i. record network {
   node = λ m. same_control (m.0 == n.0) no_control (network.node m) (λ t. ap network.node (node_equal m n t) ∙ e) i;
   direction = λ u m. record (network.direction u m) {
-    transit = sym (nothing_more ((u.0 == n.0) && (network.direction u m).joined) (network.direction u m).transit (put_to (record { scenario = network.scenario; core = network.core; me = n }) (network.node n) no_control m)
-        (ap (λ (c : Control). put_to (record { scenario = network.scenario; core = network.core; me = n }) c no_control m) e ∙ core_puts (record { scenario = network.scenario; core = network.core; me = n }) m)) i;
+    transit = sym (nothing_more ((u.0 == n.0) && (network.direction u m).joined) (network.direction u m).transit (put_to (record { scenario = network.scenario; core = network.core n; me = n }) (network.node n) no_control m)
+        (ap (λ (c : Control). put_to (record { scenario = network.scenario; core = network.core n; me = n }) c no_control m) e ∙ core_puts (record { scenario = network.scenario; core = network.core n; me = n }) m)) i;
   };
 }
 
@@ -153,6 +153,7 @@ EdgesNext network n call = (changes : InTransit) × Carries network changes × E
 abbrev pub IsEdgeFit : MessageNetwork Nodes → NodeId → steps.Call → Type 0
 IsEdgeFit network n (steps.Update peer message) = ⊥
 IsEdgeFit network n (steps.Raised kinds.Bgp peer) = ⊥
+IsEdgeFit network n steps.Rerouted = ⊥
 IsEdgeFit network n (steps.Noticed kinds.Bgp peer) = (network.joined (direction kinds.Bgp n peer) ≡ false) × (network.joined (direction kinds.Bgp peer n) ≡ false) × (is_up (control_of (network.state.node n)) peer ≡ true)
 IsEdgeFit network n (steps.Select vrf pattern) =
     (is_some (maps.get (control_of (network.state.node n)).selections (record { vrf = vrf; pattern = pattern })) ≡ false) × HasRoom (control_of (network.state.node n)) (steps.Select vrf pattern)
@@ -171,4 +172,5 @@ fit_rule network changes n (steps.Raised kinds.Bgp peer) fit rule = absurd fit
 fit_rule network changes n (steps.Noticed kinds.Ldp peer) fit rule = act_both (edge_network network changes) (acts.LabelNotice n peer) tt rule
 fit_rule network changes n (steps.Noticed kinds.Bgp peer) fit rule =
     subst EdgeRule (λ i. acts.noticed (edge_network network changes) n peer (fit.0 i || fit.1 i) (fit.2 i)) (act_both (edge_network network changes) (acts.Notice n peer) tt rule)
+fit_rule network changes n steps.Rerouted fit rule = absurd fit
 fit_rule network changes n steps.Timers fit rule = act_both (edge_network network changes) (acts.Timers n) tt rule

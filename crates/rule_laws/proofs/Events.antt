@@ -36,9 +36,9 @@ use Rattle.scenario_defs.specs.Kinds.{same_kind}
 use Rattle.session_defs.specs.declared.direction.Direction.{Direction}
 use Rattle.edge_defs.specs.Datagrams.{entering_fate}
 use Rattle.edge_defs.specs.Steps as steps
-use Rattle.world_defs.specs.Acts.{Act, Tick, Timers, Move, Lose, Notice, Restart, At, Enter, Land, Drop, Tell, Acted, datagram_at, enters_at, entering, act}
+use Rattle.world_defs.specs.Acts.{Act, Tick, Timers, Move, Lose, Notice, Restart, At, Enter, Land, Drop, Tell, SetCost, Reroute, Acted, datagram_at, enters_at, entering, act}
 use Rattle.world_defs.specs.Counts.{all_nodes, directions, link_ways, is_up as is_end}
-use Rattle.world_defs.specs.Events.{Happened, Done, row, each, times, raise_acts, is_session_of, raises, turn, healed, settled, landings, drain_round, sent, at_edge, with_message, done}
+use Rattle.world_defs.specs.Events.{Happened, Done, row, each, times, raise_acts, is_session_of, raises, turn, healed, settled, landings, drain_round, sent, at_edge, with_message, done, cost_acts}
 use Rattle.world_defs.specs.Nodes.{NodeState, Edge, CoreNode, place_of}
 use Rattle.mvpn_model.specs.Packets.{source_in, group_in}
 use Rattle.world_defs.specs.Refusals.{control_at, edge_of_vrf, refused_if, is_session_joined, is_selected, are_sessions_full, selection_limit, selections_at, refusal}
@@ -46,7 +46,7 @@ use Rattle.world_defs.specs.Run.{Traced, outcome, Runs}
 use Rattle.world_defs.specs.World.{World, Datagram, scenario_of, clock_of}
 use Rattle.world_defs.proofs.Kept.{Gives, Comes, then_comes, row_keeps, each_keeps, times_keeps, both_give, comes_as, branches_datagrams}
 use Rattle.world_laws.specs.Sound.{SoundScenario}
-use Rattle.world_laws.specs.Honest.{IsSoundCall, IsSoundEvent}
+use Rattle.world_laws.specs.Honest.{IsSoundCall, IsSoundEvent, IsCost}
 use Rattle.world_laws.proofs.Lists.{each_append, each_of, each_map, each_flat, each_weaker}
 use Rattle.world_laws.proofs.RunActs.{SoundAct}
 use Rattle.world_laws.proofs.RunNodes.{IsNode, IsFoundNode, nodes_within, edge_within, vrf_within}
@@ -274,6 +274,14 @@ settle_in_step world s =
     (each_map (Keep scenario) (λ n. Timers n) (all_nodes scenario) (each_weaker (IsNode scenario) (λ n. Keep scenario (Timers n)) (λ n within. keeps scenario (Timers n) within (λ old. tt)) (all_nodes scenario) (nodes_within 0 (length scenario.nodes) (length scenario.nodes) (omega arith)))) world s)
     (λ next p. times_keeps (InStep scenario) (each turn (directions scenario)) (λ one q. round_in_step scenario (directions scenario) one q) (length scenario.nodes + 3) next p)
 
+cost_in_step : (world : World) (a b : NodeId) (cost : ℕ) → IsCost cost → InStep (scenario_of world) world → Comes (InStep (scenario_of world)) (row (cost_acts (scenario_of world) a b cost) world)
+cost_in_step world a b cost is s =
+    let scenario = scenario_of world in
+    row_in_step scenario (cost_acts scenario a b cost) (
+      keeps scenario (SetCost a b cost) is (λ old. tt),
+      each_map (Keep scenario) (λ n. Reroute n) (all_nodes scenario) (each_weaker (IsNode scenario) (λ n. Keep scenario (Reroute n)) (λ n within. keeps scenario (Reroute n) within (λ old. tt)) (all_nodes scenario) (nodes_within 0 (length scenario.nodes) (length scenario.nodes) (omega arith))),
+    ) world s
+
 message_in_step : (world : World) → SoundScenario (scenario_of world) → (o : Option Given) → IsSoundGiven o → InStep (scenario_of world) world → Comes (InStep (scenario_of world)) (with_message o world)
 message_in_step world sound None is s = s
 message_in_step world sound (Some given) is s =
@@ -303,8 +311,8 @@ done_in_step enters world lines s (events.Notice kind a b) free sound = alone (s
 done_in_step enters world lines s (events.Raise kind a b) free sound =
     let x = or_parts (is_end world kind a b) (is_end world kind b a) (not_refused (is_end world kind a b || is_end world kind b a) refusals.State free) in
     raise_in_step (scenario_of world) kind a b (sessions (scenario_of world)) (sessions_fit (scenario_of world) lines) world x.0 x.1 s
-done_in_step enters world lines s (events.Join iface entry) free sound = message_in_step world lines (message_of (scenario_of world) (events.Join iface entry)) (join_is_sound (scenario_of world) lines iface entry sound.0 sound.1) s
-done_in_step enters world lines s (events.Prune iface entry) free sound = message_in_step world lines (message_of (scenario_of world) (events.Prune iface entry)) (prune_is_sound (scenario_of world) lines iface entry sound.0 sound.1) s
+done_in_step enters world lines s (events.Join iface entry) free sound = message_in_step world lines (message_of (scenario_of world) (events.Join iface entry)) (join_is_sound (scenario_of world) iface entry sound.1) s
+done_in_step enters world lines s (events.Prune iface entry) free sound = message_in_step world lines (message_of (scenario_of world) (events.Prune iface entry)) (prune_is_sound (scenario_of world) iface entry sound.1) s
 done_in_step enters world lines s (events.Pim iface octets) free sound = message_in_step world lines (message_of (scenario_of world) (events.Pim iface octets)) (read_is_sound iface octets sound) s
 done_in_step enters world lines s (events.Active iface source group) free sound =
     edge_in_step (scenario_of world) (edge_of (scenario_of world) iface) (steps.Active iface source group) (edge_within (scenario_of world) lines iface) sound (λ n e old. tt) world s
@@ -326,6 +334,7 @@ done_in_step enters world lines s events.Heal free sound =
     (each_weaker (IsFitSession (scenario_of world)) (λ session. (old : World) → InStep (scenario_of world) old → Comes (InStep (scenario_of world)) (healed session old)) (λ session fit. healed_in_step (scenario_of world) session fit) (sessions (scenario_of world)) (sessions_fit (scenario_of world) lines)) world s
 done_in_step enters world lines s events.Settle free sound = settle_in_step world s
 done_in_step enters world lines s events.Drain free sound = times_keeps (InStep (scenario_of world)) drain_round (drain_in_step (scenario_of world)) 255 world s
+done_in_step enters world lines s (events.Cost a b cost) free sound = cost_in_step world a b cost sound s
 done_in_step enters world lines s events.State free sound = alone (scenario_of world) Tell tt world tt s
 
 event_in_step : Enters → (scenario : Scenario) (world : World) → InStep scenario world → (event : Event) → refusal world event ≡ None → IsSoundEvent scenario event → Comes (InStep scenario) (done world event)

@@ -6,7 +6,7 @@ use Rattle.mv_base.specs.declared.ids.NodeId.{NodeId}
 use Rattle.scenario_defs.specs.declared.event.Script.{Script}
 use Rattle.scenario_defs.specs.declared.event.Timed.{Timed}
 use Rattle.mvpn_model.specs.Report.{Entry}
-use Rattle.edge_defs.specs.Place.{Core}
+use Rattle.world_defs.specs.Costs.{Cores}
 use Rattle.world_laws.specs.Honest.{IsSoundEvent}
 use Rattle.world_laws.specs.SoundRun.{SoundRun}
 use Rattle.world_laws.proofs.Lists.{each_front}
@@ -17,14 +17,14 @@ pub each_behind : {X : Type 0} (P : X → Type 0) (xs ys : List X) → AllByRecu
 each_behind P [] ys h = h
 each_behind P (x ∷ xs) ys h = each_behind P xs ys h.1
 
-module _ (core : Core) (script : Script) (report : List Entry) (node : NodeId) (s : SoundHalt core script report node) where
+module _ (cores : Cores) (script : Script) (report : List Entry) (node : NodeId) (s : SoundHalt cores script report node) where
   abbrev IsSound : Timed → Type 0
   IsSound timed = IsSoundEvent script.scenario timed.event
 
   all_sound : AllByRecursion IsSound (s.halt.before ++ s.halt.timed ∷ s.halt.after)
   all_sound = subst (AllByRecursion IsSound) s.halt.events s.sound_events
 
-  pub run_before : SoundRun core script s.halt.before s.halt.trace s.halt.world
+  pub run_before : SoundRun cores script s.halt.before s.halt.trace s.halt.world
   run_before = record {
     scenario = s.scenario;
     of_scenario = s.halt.of_scenario;

@@ -1,6 +1,5 @@
 pub mod Puts
 pub mod EdgePuts
-pub mod Ids
 pub mod Numbers
 pub mod Honest
 pub mod Rows
@@ -10,6 +9,7 @@ pub mod Calls
 pub mod Deliveries
 pub mod Octets
 pub mod Sessions
+pub mod Reroutes
 pub mod Raises
 pub mod BgpRaises
 pub mod Copies

@@ -65,6 +65,7 @@ effect_numbers place now old (steps.Raised kinds.Bgp peer) room h = h
 effect_numbers place now old (steps.Raised kinds.Ldp peer) room h = h
 effect_numbers place now old (steps.Noticed kinds.Bgp peer) room h = h
 effect_numbers place now old (steps.Noticed kinds.Ldp peer) room h = h
+effect_numbers place now old steps.Rerouted room h = h
 effect_numbers place now old steps.Timers room h = run_numbers place.scenario.delay now old.selections h
 
 stepped_numbers : (place : EdgePlace) (now : ℕ) (own : Control) (vrf : Bool) → NumbersOk own → NumbersOk (cond vrf (refreshed place now own) own)

@@ -133,7 +133,7 @@ enter_says scenario world id attached (pending, are, good) = by (slice_get (scen
         let own : OwnVrf = record { id = id; vrf = vrf } in
         let place : EdgePlace = place_of world.network.state vrf.edge in
         fated_says (scenario_of world) world vrf.edge 255 (length world.datagrams) datagram [] (entering_fate place (clock_of world) edge own datagram.site datagram.source datagram.group) sent tt
-        (entered (is_from_site datagram.site (upstream_for place edge.control own datagram.source)))
+        (entered (is_from_site datagram.site (upstream_for place edge.control own datagram.source datagram.group)))
       where
         entered : (b : Bool) → AllByRecursion (λ (iface : IfaceId). IsAdmitted (scenario_of world) iface datagram.site) (cond {A = Fate} b (record {
           outs = filter (is_outside (scenario_of world) datagram.site) (asking_ifaces (place_of world.network.state vrf.edge) (clock_of world) edge.control (record { id = id; vrf = vrf }) datagram.source datagram.group);

@@ -8,6 +8,7 @@ use Rattle.mv_base.specs.declared.addr.Addr.{Addr}
 use Rattle.mv_base.specs.declared.ids.NodeId.{NodeId}
 use Rattle.mv_base.specs.declared.ids.SiteId.{SiteId}
 use Rattle.mv_base.specs.declared.ids.VrfId.{VrfId}
+use Rattle.scenario_defs.specs.declared.scenario.Scenario.{Scenario}
 use Rattle.scenario_defs.specs.Vpn.{edge_of, entered}
 use Rattle.scenario_defs.specs.declared.event.Event.{Event}
 use Rattle.scenario_defs.specs.declared.event.Event.TheVariants as events
@@ -27,13 +28,13 @@ use Rattle.session_defs.specs.Octets.{OctetNetwork, octet_run}
 use Rattle.session_defs.specs.System.{Behind, Put, octets_over}
 use Rattle.session_defs.specs.declared.direction.Direction.{Direction}
 use Rattle.edge_defs.specs.Steps as steps
-use Rattle.world_defs.specs.Acts.{Act, Tick, Timers, Move, Lose, Notice, RaiseFirst, RaiseSecond, Restart, At, Enter, Land, Drop, Tell, Acted, with_network, at_node, put_line, put_lines, with_aged, is_of_session, is_from_peer, is_at, leads_to, act}
+use Rattle.world_defs.specs.Acts.{Act, Tick, Timers, Move, Lose, Notice, RaiseFirst, RaiseSecond, Restart, At, Enter, Land, Drop, Tell, Acted, with_network, at_node, put_line, put_lines, with_aged, is_of_session, is_from_peer, is_at, leads_to, act, SetCost, Reroute}
 use Rattle.world_defs.specs.Counts.{direction, directions, all_nodes, link_ways, is_joined, is_up as is_end}
-use Rattle.world_defs.specs.Events.{Happened, Outcome, Done, Halted, and_then, one_act, row, each, times, raise_acts, is_session_of, raises, notices, healed, turn, settled, landings, drain_round, sent, at_edge, with_message, done}
+use Rattle.world_defs.specs.Events.{Happened, Outcome, Done, Halted, and_then, one_act, row, each, times, raise_acts, is_session_of, raises, notices, healed, turn, settled, landings, drain_round, sent, at_edge, with_message, done, cost_acts}
 use Rattle.world_defs.specs.Nodes.{Nodes}
 use Rattle.world_defs.specs.Refusals.{edge_of_vrf, refusal}
 use Rattle.world_defs.specs.Run.{outcome}
-use Rattle.world_defs.specs.System.{Own, Elapse, Reset, system}
+use Rattle.world_defs.specs.System.{Own, Elapse, Reset, system, Price, Follow}
 use Rattle.world_defs.specs.World.{World, scenario_of}
 use Rattle.world_laws.proofs.Lists.{each_append, each_flat, each_of, each_map, each_weaker}
 use Rattle.rule_laws.proofs.Outs.{Says}
@@ -224,6 +225,8 @@ act_plain (Enter vrf) plain world = absurd plain
 act_plain (Land from to place) plain world = absurd plain
 act_plain (Drop from to place) plain world = tt
 act_plain Tell plain world = (tt, tt)
+act_plain (SetCost a b cost) plain world = network_plain world [] (octet_run system world.network (octets.Call (Price a b cost) ∷ [])) a tt
+act_plain (Reroute n) plain world = network_plain world [] (octet_run system world.network (octets.Call (Follow n) ∷ [])) n tt
 
 -- ---- an event that lacks a label
 
@@ -242,6 +245,9 @@ plain_quiet one plain world = by (act world one) (act_plain one plain world)
     by : (o : Result Acted NodeId) → Says IsPlainLine o → Does IsQuiet one o
     by (Err node) s = tt
     by (Ok new) s = record { plain = plain; lines = s }
+
+pub costs_plain : (scenario : Scenario) (a b : NodeId) (cost : ℕ) → AllByRecursion IsPlain (cost_acts scenario a b cost)
+costs_plain scenario a b cost = (tt, each_map IsPlain (λ n. Reroute n) (all_nodes scenario) (each_of (λ n. IsPlain (Reroute n)) (λ n. tt) (all_nodes scenario)))
 
 -- where it lacks a label, its acts are quiet
 abbrev HaltsQuiet : Outcome → Type 0
@@ -290,6 +296,7 @@ done_halts world (events.DropCopy from to place) = plain_halts world (Drop from 
 done_halts world events.Heal = as_all (done world events.Heal) (heal_does IsQuiet plain_quiet world)
 done_halts world events.Settle = as_all (settled world) (settle_does IsQuiet plain_quiet world)
 done_halts world events.Drain = as_ends (done world events.Drain) (drain_ends world)
+done_halts world (events.Cost a b cost) = plain_halts world (cost_acts (scenario_of world) a b cost) (costs_plain (scenario_of world) a b cost)
 done_halts world events.State = plain_halts world (Tell ∷ []) (tt, tt)
 
 -- By the acts of an event that lacks a label no copy lands and no datagram enters.

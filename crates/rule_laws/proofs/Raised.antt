@@ -1,6 +1,6 @@
 -- Sessions that are raised, and losses that are noticed before, in the whole network.
 use Rattle.std.specs.Prelude.{Result, Ok, Err}
-use Rattle.std.proofs.Common.{◌≡◌, ◌≢◌, ◌==◌, ◌&&◌, ◌||◌, not, Bool, true, false, cond, List, [], ◌∷◌, ◌++◌, is_some, Option, Some, None, refl, sym, ap, subst, ◌∙◌}
+use Rattle.std.proofs.Common.{◌≡◌, ◌≢◌, ◌==◌, ◌&&◌, ◌||◌, not, Bool, true, false, cond, List, [], ◌∷◌, ◌++◌, is_some, Option, Some, None, refl, sym, ap, subst, ◌∙◌, option_map}
 use Rattle.std.specs.FinMap as maps
 use Rattle.std.proofs.lemmas.Bool.{cond-false}
 use Rattle.mv_base.specs.Number.{◌>>?◌}
@@ -25,7 +25,9 @@ use Rattle.edge_defs.specs.Steps as steps
 use Rattle.mvpn_model.specs.Unready.{SessionsStand}
 use Rattle.ready_laws.proofs.ActsStand as stand
 use Rattle.ready_laws.proofs.ActsStand.{WorldStands, act_stand}
-use Rattle.ready_laws.proofs.Ends.{end_with}
+use Rattle.ready_laws.proofs.Ends.{end_with, up_end}
+use Rattle.ready_laws.proofs.Nodes.{end_of}
+use Rattle.mvpn_model.specs.declared.readiness.UpEnd.{UpEnd}
 use Rattle.world_defs.specs.Acts.{Act, Notice, RaiseFirst, RaiseSecond, Acted, with_network, is_of_session, act}
 use Rattle.world_defs.specs.Counts.{direction, is_joined, is_bgp_up, is_up as is_end}
 use Rattle.world_defs.specs.Events.{Done, one_act, row, raise_acts, notices, healed}
@@ -145,10 +147,18 @@ pub record Noticed (scenario : Scenario) (kind : Kind) (a b : NodeId) (far : Boo
 
 -- where the sessions of a world stand
 abbrev read_off : World → SessionsStand
-read_off world = record { clock = clock_of world; joined = λ kind a b. world.network.joined (direction kind a b); end = λ kind n peer. maps.get (part_of (world.network.state.node n)).ends peer }
+read_off world = record { clock = clock_of world; joined = λ kind a b. world.network.joined (direction kind a b); end = λ kind n peer. end_of world.network.state n peer }
 
 stands_so : (scenario : Scenario) (world : World) → InStep scenario world → WorldStands scenario (read_off world) world
 stands_so scenario world (pending, are, good) = record { nodes = record { place = good.base.sound.same; clock = refl; ends = λ n peer. refl }; joined = λ kind a b. refl }
+
+-- an end is told where it is up
+told_up : (nodes : Nodes) (n peer : NodeId) → is_some (maps.get (part_of (nodes.node n)).ends peer) ≡ is_some (end_of nodes n peer)
+told_up nodes n peer = by (maps.get (part_of (nodes.node n)).ends peer)
+  where
+    by : (o : Option End) → is_some o ≡ is_some (option_map up_end o)
+    by None = refl
+    by (Some end) = refl
 
 -- over LDP
 ldp_noticed : (scenario : Scenario) (world : World) (a b : NodeId) (far : Bool) → IsNode scenario a → a ≢ b → InStep scenario world → world.network.joined (direction kinds.Ldp a b) ≡ false → world.network.joined (direction kinds.Ldp b a) ≡ false
@@ -158,7 +168,7 @@ ldp_noticed scenario world a b far lt ne s off back up is_far =
     (both_give (InStep scenario) (WorldStands scenario (act_stand scenario (Notice kinds.Ldp a b) (read_off world))) (act world (Notice kinds.Ldp a b)) (act_in_step scenario (Notice kinds.Ldp a b) lt world (off, up) s)
     (stand.act_gives scenario (read_off world) world (Notice kinds.Ldp a b) (stands_so scenario world s)))
   where
-    gone : (t q : Bool) (x : Option End) → t ≡ true → q ≡ true → is_some (cond t (cond q None x) x) ≡ false
+    gone : (t q : Bool) (x : Option UpEnd) → t ≡ true → q ≡ true → is_some (cond t (cond q None x) x) ≡ false
     gone true true x e f = refl
     gone true false x e f = absurd cc
     gone false q x e f = absurd cc
@@ -169,9 +179,10 @@ ldp_noticed scenario world a b far lt ne s off back up is_far =
       step = h.0;
       near_joined = h.1.joined kinds.Ldp a b ∙ off;
       far_joined = h.1.joined kinds.Ldp b a ∙ back;
-      near = ap is_some (h.1.nodes.ends a b) ∙ gone (a.0 == a.0) (b.0 == b.0) (maps.get (part_of (world.network.state.node a)).ends b) (node_itself a a refl) (node_itself b b refl);
-      there = ap is_some (h.1.nodes.ends b a)
-          ∙ ap is_some (cond-false (b.0 == a.0) (end_with scenario.life (clock_of world) (Some (labels.Noticed b)) a (maps.get (part_of (world.network.state.node b)).ends a)) (maps.get (part_of (world.network.state.node b)).ends a) (node_apart b a (λ e. ne (sym e))))
+      near = told_up new.world.network.state a b ∙ ap is_some (h.1.nodes.ends a b) ∙ gone (a.0 == a.0) (b.0 == b.0) (end_of world.network.state a b) (node_itself a a refl) (node_itself b b refl);
+      there = told_up new.world.network.state b a ∙ ap is_some (h.1.nodes.ends b a)
+          ∙ ap is_some (cond-false (b.0 == a.0) (end_with scenario.life (clock_of world) (Some (labels.Noticed b)) a (end_of world.network.state b a)) (end_of world.network.state b a) (node_apart b a (λ e. ne (sym e))))
+          ∙ sym (told_up world.network.state b a)
           ∙ is_far;
     }
 

@@ -11,6 +11,7 @@ use Rattle.scenario_defs.specs.declared.scenario.Scenario.{Scenario}
 use Rattle.label_defs.specs.LabelData.{Place, LabelData, is_up}
 use Rattle.label_defs.specs.Settling as settling
 use Rattle.label_defs.specs.Steps as labels
+use Rattle.label_defs.specs.Steps.{raised_end}
 use Rattle.label_defs.specs.declared.end.End.{End}
 use Rattle.label_defs.proofs.KeyLemmas.{node_equal, node_apart, node_cmp_total, node_cmp_exact}
 use Rattle.label_defs.proofs.SetLemmas.{put_here}
@@ -29,7 +30,7 @@ use Rattle.world_defs.specs.Acts.{is_of_session}
 use Rattle.mvpn_model.specs.Sessions.{is_between}
 use Rattle.world_defs.specs.Counts.{direction}
 use Rattle.world_defs.specs.Nodes as nodes
-use Rattle.world_defs.specs.Nodes.{CoreNode, Nodes, is_edge, place_of, part_of}
+use Rattle.world_defs.specs.Nodes.{CoreNode, Nodes, is_edge, place_of, part_of, core_at}
 use Rattle.world_defs.specs.System.{node_called}
 use Rattle.world_defs.specs.World.{Datagram}
 use Rattle.world_laws.specs.Sound.{Sound}
@@ -40,18 +41,17 @@ use Rattle.rule_laws.proofs.Honest.{EdgeRule}
 use Rattle.rule_laws.specs.Edges.{edge_network}
 use Rattle.rule_laws.proofs.EdgeCalls.{EdgesKept, EdgesNext, edges_kept, rule_behind, fit_rule}
 use Rattle.rule_laws.proofs.Rows.{IsEdgeNode}
-use Rattle.rule_laws.proofs.Ids.{IdsOk}
 use Rattle.rule_laws.proofs.Numbers.{NumbersOk}
 use Rattle.world_defs.specs.Refusals.{control_of}
 use Rattle.rule_laws.proofs.Puts.{row_puts}
-use Rattle.rule_laws.proofs.Rows.{act_gives, part_cond, sum, row_of, FirstKept, wants_kept, row_ids, CalledRow, called_row, called_is, UpWhereJoined}
-use Rattle.rule_laws.proofs.Calls.{Base, Good, ids_at, kind_at, numbers_at, behind_numbers, trees_behind, call_good, stays_up, joined_up}
+use Rattle.rule_laws.proofs.Rows.{act_gives, part_cond, sum, row_of, FirstKept, wants_kept, CalledRow, called_row, called_is, UpWhereJoined}
+use Rattle.rule_laws.proofs.Calls.{Base, Good, kind_at, numbers_at, behind_numbers, trees_behind, call_good, stays_up, joined_up}
 
 -- ---- steps of two nodes
 
 -- the part of a node one of whose ends has come up
 abbrev pub risen : LabelData → NodeId → ℕ → LabelData
-risen part peer now = record part { ends = maps.insert part.ends peer (record { raised = now; held = false }); ids = maps.insert part.ids peer 1 }
+risen part peer now = record part { ends = maps.insert part.ends peer (raised_end now) }
 
 abbrev quiet : LabelData → settling.Stepped
 quiet part = record { part = part; puts = [] }
@@ -121,7 +121,7 @@ module _ (scenario : Scenario) (network : MessageNetwork Nodes) (copies : Copies
   part_b = part_of (state.node b)
 
   abbrev own_place : NodeId → Place
-  own_place n = label_place state.scenario state.core n
+  own_place n = label_place state.scenario (core_at state n) n
 
   back : b ≢ a
   back e = ne (sym e)
@@ -139,7 +139,6 @@ module _ (scenario : Scenario) (network : MessageNetwork Nodes) (copies : Copies
   base_first : Base scenario first
   base_first = record {
     sound = good.base.sound;
-    ids = good.base.ids;
     apart = λ n. or_from (network.joined (direction kinds.Ldp n n)) (is_between a b n n) (good.base.apart n) (false_from_ne_true (is_between a b n n) (λ h. between (λ x y. x ≢ y) a b n n ne back h refl));
     numbers = good.base.numbers;
     peers = λ u n j. good.base.peers u n (sym (or_false (network.joined (direction kinds.Bgp u n))) ∙ j);
@@ -165,7 +164,7 @@ module _ (scenario : Scenario) (network : MessageNetwork Nodes) (copies : Copies
     up_a to joined = elim (or_cases (network.joined (direction kinds.Ldp a to)) (is_between a b a to) joined) [
       | inl j ↦ stays_up (own_place a) state.clock part_a (Some (labels.Raised b)) to tt (joined_up scenario network copies datagrams good a to j)
       | inr h ↦
-          let new_end : End = record { raised = state.clock; held = false } in
+          let new_end : End = raised_end state.clock in
           let there : is_up (risen part_a b state.clock) b ≡ true = ap is_some (put_here node_cmp_total node_cmp_exact part_a.ends b new_end) in
           let same : to ≡ b = other_end to h in
           subst (λ (m : NodeId). is_up (risen part_a b state.clock) m ≡ true) (sym same) there
@@ -183,8 +182,6 @@ module _ (scenario : Scenario) (network : MessageNetwork Nodes) (copies : Copies
     base_middle : Base scenario middle
     base_middle = record {
       sound = sound;
-      ids = λ m. subst (λ (s : Nodes). IdsOk (part_of (s.node m))) (sym row_a.state) (ids_at (m.0 == a.0) row_a.node (state.node m)
-          (subst IdsOk (sym row_a.part) (row_ids (place_of state a) state.clock (Some (labels.Raised b)) row_a.wants row_a.are part_a row_a.row row_a.made (good.base.ids a)).0) (good.base.ids m));
       apart = base_first.apart;
       numbers = λ m. subst (λ (s : Nodes). NumbersOk (control_of (s.node m))) (sym row_a.state) (numbers_at (m.0 == a.0) row_a.node (state.node m)
           (subst NumbersOk (sym row_a.control) (behind_numbers state a (state.node a) (steps.Raised kinds.Ldp b) tt (good.base.numbers a))) (good.base.numbers m));
@@ -200,7 +197,7 @@ module _ (scenario : Scenario) (network : MessageNetwork Nodes) (copies : Copies
     next_b = (edges_middle.0, edges_middle.1, rule_behind middle edges_middle.0 b (steps.Raised kinds.Ldp a) edges_middle.2 (fit_rule middle edges_middle.0 b (steps.Raised kinds.Ldp a) tt edges_middle.2))
 
     middle_is : (all : List Datagram) → label_network middle copies all ≡ behind (label_network first copies all) a (sum part_a row_a.row)
-    middle_is all = called_is first copies all a (steps.Raised kinds.Ldp b) new row_a (good.base.ids a) up_a
+    middle_is all = called_is first copies all a (steps.Raised kinds.Ldp b) new row_a up_a
 
     -- what the first end was called with, and the calls for its leaves
     abbrev risen_a : LabelData
@@ -269,7 +266,7 @@ module _ (scenario : Scenario) (network : MessageNetwork Nodes) (copies : Copies
     up_b to joined = ap (λ (d : LabelData). is_up d to) risen_same ∙ (elim (or_cases (network.joined (direction kinds.Ldp b to)) (is_between a b b to) joined) [
       | inl j ↦ stays_up (own_place b) state.clock part_b (Some (labels.Raised a)) to tt (joined_up scenario network copies datagrams good b to j)
       | inr h ↦
-          let new_end : End = record { raised = state.clock; held = false } in
+          let new_end : End = raised_end state.clock in
           let there : is_up (risen part_b a state.clock) a ≡ true = ap is_some (put_here node_cmp_total node_cmp_exact part_b.ends a new_end) in
           let same : to ≡ a = other_end to h in
           subst (λ (m : NodeId). is_up (risen part_b a state.clock) m ≡ true) (sym same) there

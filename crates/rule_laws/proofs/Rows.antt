@@ -1,6 +1,8 @@
 -- The row of label steps that a step of a node makes, as steps of a network of label nodes.
-use Rattle.std.proofs.Common.{◌≡◌, ℕ, ◌==◌, ◌&&◌, Bool, true, false, cond, not, inl, inr, List, [], ◌∷◌, ◌++◌, filter, flat_map, option_map, Option, Some, None, refl, sym, ap, subst, ◌∙◌}
+use Rattle.std.proofs.Common.{◌≡◌, ℕ, ◌==◌, ◌&&◌, Bool, true, false, cond, not, inl, inr, List, [], ◌∷◌, ◌++◌, filter, flat_map, is_some, option_map, Option, Some, None, refl, sym, ap, subst, ◌∙◌}
 use Rattle.std.specs.List.{AllByRecursion}
+use Rattle.std.specs.FinMap as maps
+use Rattle.std.specs.FinMap.{FinMap}
 use Rattle.std.specs.FinSet as sets
 use Rattle.std.specs.FinSet.{FinSet}
 use Rattle.std.proofs.lemmas.Bool.{cases_Bool}
@@ -12,7 +14,9 @@ use Rattle.mldp_fec.specs.declared.fec.Fec.{Fec}
 use Rattle.mldp_msgs.specs.declared.message.LabelMessage.{LabelMessage}
 use Rattle.scenario_defs.specs.declared.event.Kind.TheVariants as kinds
 use Rattle.scenario_defs.specs.declared.scenario.Scenario.{Scenario}
-use Rattle.label_defs.specs.Keys.{fec_cmp}
+use Rattle.label_defs.specs.Keys.{fec_cmp, node_cmp}
+use Rattle.label_defs.specs.declared.end.End.{End}
+use Rattle.label_defs.proofs.IdLemmas.{step_ends, up_after}
 use Rattle.label_defs.specs.LabelData.{Place, LabelData, is_up}
 use Rattle.label_defs.specs.Settling as settling
 use Rattle.label_defs.specs.Steps as labels
@@ -34,16 +38,15 @@ use Rattle.edge_defs.specs.Steps as steps
 use Rattle.edge_defs.specs.Steps.{LabelStep, EdgeStepped, control_step, own_label_call, changed_leaves, one_call, label_row, part_after, edge_step}
 use Rattle.edge_defs.specs.Tunnels.{leaves}
 use Rattle.world_defs.specs.Counts.{direction}
-use Rattle.world_defs.specs.Nodes.{NodeState, Edge, CoreNode, Nodes, with_node, place_of, part_of}
-use Rattle.world_defs.specs.Puts.{bgp_puts, label_puts}
+use Rattle.world_defs.specs.Nodes.{NodeState, Edge, CoreNode, Nodes, with_node, place_of, part_of, core_at}
+use Rattle.node_defs.specs.Puts.{bgp_puts, label_puts}
 use Rattle.world_defs.specs.System.{node_called, core_called, edge_stepped}
 use Rattle.world_defs.specs.Refusals.{control_of}
 use Rattle.world_defs.specs.World.{Datagram}
 use Rattle.world_laws.proofs.Lists.{each_map}
 use Rattle.rule_laws.specs.Labels.{Copies, labels_in, label_network}
-use Rattle.rule_laws.proofs.Ids.{IdsOk, effect_ids_ok, step_ids_ok, step_ups}
 use Rattle.rule_laws.proofs.EdgePuts.{over_bgp, row_none}
-use Rattle.rule_laws.proofs.Puts.{over_both, labels_both, over_ldp, over_ldp_both, bgp_puts_no_labels, row_puts, RowHasId, row_here, row_elsewhere}
+use Rattle.rule_laws.proofs.Puts.{over_both, labels_both, over_ldp, over_ldp_both, bgp_puts_no_labels, row_puts, RowIsUp, row_here, row_elsewhere}
 
 -- ---- acts of a network of label nodes
 
@@ -95,7 +98,7 @@ module _ (network : MessageNetwork Nodes) (copies : Copies) (datagrams : List Da
   w = label_network network copies datagrams
 
   abbrev own_place : Place
-  own_place = label_place network.state.scenario network.state.core n
+  own_place = label_place network.state.scenario (core_at network.state n) n
 
   step_is : (s new : settling.Stepped) (call : labels.Call) → label_step own_place network.state.clock s.part call ≡ Some new → stepped (behind w n s) n call ≡ Some (behind w n (record { part = new.part; puts = s.puts ++ new.puts }))
   step_is s new call e =
@@ -112,6 +115,7 @@ module _ (network : MessageNetwork Nodes) (copies : Copies) (datagrams : List Da
   want_kept s new (labels.Raised peer) is e k = absurd is
   want_kept s new (labels.Noticed peer) is e k = absurd is
   want_kept s new labels.Timers is e k = absurd is
+  want_kept s new labels.Rerouted is e k = absurd is
 
   pub wants_kept : (calls : List labels.Call) → AllByRecursion (IsWant network.state.scenario) calls → (s : settling.Stepped) (row : List LabelStep) → label_row (place_of network.state n) network.state.clock s.part calls ≡ Some row → Kept (behind w n s)
       → Kept (behind w n (record { part = part_after s.part row; puts = s.puts ++ row_puts row }))
@@ -138,20 +142,20 @@ module _ (network : MessageNetwork Nodes) (copies : Copies) (datagrams : List Da
       let P : List LabelStep → Type 0 = λ x. Kept (behind w n (sum (w.node n) x)) in
       subst P (sym r.parts) (wants_kept wants are r.new r.rest r.others (first r.new r.made))
 
--- ---- ids
+-- ---- ends that are up
 
-wants_ids : (place : EdgePlace) (now : ℕ) (to : NodeId) (calls : List labels.Call) → AllByRecursion (IsWant place.scenario) calls → (part : LabelData) (row : List LabelStep) → label_row place now part calls ≡ Some row → IdsOk part
-    → IdsOk (part_after part row) × (is_up part to ≡ true → RowHasId (label_place place.scenario place.core place.me) now to row)
-wants_ids place now to [] are part row e ok =
-    let P : List LabelStep → Type 0 = λ x. IdsOk (part_after part x) × (is_up part to ≡ true → RowHasId (label_place place.scenario place.core place.me) now to x) in
-    subst P (same_Some [] row e) (ok, λ up. tt)
-wants_ids place now to (call ∷ more) are part row e ok =
+-- the ends behind a step are those behind its effect
+step_ups : (place : Place) (now : ℕ) (part : LabelData) (call : labels.Call) (new : settling.Stepped) (to : NodeId) → label_step place now part call ≡ Some new → is_up new.part to ≡ is_up (effect place now part call).0.part to
+step_ups place now part call new to e = ap (λ (ends : FinMap node_cmp End). is_some (maps.get ends to)) (step_ends place now part call new e) ∙ up_after (effect place now part call).0.part.ends new.puts to
+
+wants_up : (place : EdgePlace) (now : ℕ) (to : NodeId) (calls : List labels.Call) → AllByRecursion (IsWant place.scenario) calls → (part : LabelData) (row : List LabelStep) → label_row place now part calls ≡ Some row
+    → is_up part to ≡ true → RowIsUp (label_place place.scenario place.core place.me) now to row
+wants_up place now to [] are part row e up = subst (λ (x : List LabelStep). RowIsUp (label_place place.scenario place.core place.me) now to x) (same_Some [] row e) tt
+wants_up place now to (call ∷ more) are part row e up =
     let own = label_place place.scenario place.core place.me in
     let r = row_of place now part call more row e in
-    let rest = wants_ids place now to more are.1 r.new.part r.rest r.others (step_ids_ok own now part call r.new ok r.made) in
     let same = same_up call are.0 in
-    let P : List LabelStep → Type 0 = λ x. IdsOk (part_after part x) × (is_up part to ≡ true → RowHasId own now to x) in
-    subst P (sym r.parts) (rest.0, λ up. (effect_ids_ok own now part call ok to (same ∙ up), rest.1 (step_ups own now part call r.new to r.made ∙ same ∙ up)))
+    subst (λ (x : List LabelStep). RowIsUp own now to x) (sym r.parts) (same ∙ up, wants_up place now to more are.1 r.new.part r.rest r.others (step_ups own now part call r.new to r.made ∙ same ∙ up))
   where
     same_up : (one : labels.Call) → IsWant place.scenario one → is_up (effect (label_place place.scenario place.core place.me) now part one).0.part to ≡ is_up part to
     same_up (labels.Want fec) is = refl
@@ -160,21 +164,20 @@ wants_ids place now to (call ∷ more) are part row e ok =
     same_up (labels.Raised peer) is = absurd is
     same_up (labels.Noticed peer) is = absurd is
     same_up labels.Timers is = absurd is
+    same_up labels.Rerouted is = absurd is
 
 -- the node behind the effect of the call itself
 abbrev pub own_effect : Place → ℕ → LabelData → Option labels.Call → LabelData
 own_effect place now part None = part
 own_effect place now part (Some call) = (effect place now part call).0.part
 
-pub row_ids : (place : EdgePlace) (now : ℕ) (own : Option labels.Call) (wants : List labels.Call) → AllByRecursion (IsWant place.scenario) wants → (part : LabelData) (row : List LabelStep) → label_row place now part (one_call own ++ wants) ≡ Some row → IdsOk part
-    → IdsOk (part_after part row) × ((to : NodeId) → is_up (own_effect (label_place place.scenario place.core place.me) now part own) to ≡ true → RowHasId (label_place place.scenario place.core place.me) now to row)
-row_ids place now None wants are part row e ok = ((wants_ids place now (record { 0 = 0 }) wants are part row e ok).0, λ to up. (wants_ids place now to wants are part row e ok).1 up)
-row_ids place now (Some call) wants are part row e ok =
+pub row_ups : (place : EdgePlace) (now : ℕ) (own : Option labels.Call) (wants : List labels.Call) → AllByRecursion (IsWant place.scenario) wants → (part : LabelData) (row : List LabelStep) → label_row place now part (one_call own ++ wants) ≡ Some row
+    → (to : NodeId) → is_up (own_effect (label_place place.scenario place.core place.me) now part own) to ≡ true → RowIsUp (label_place place.scenario place.core place.me) now to row
+row_ups place now None wants are part row e to up = wants_up place now to wants are part row e up
+row_ups place now (Some call) wants are part row e to up =
     let own = label_place place.scenario place.core place.me in
     let r = row_of place now part call wants row e in
-    let rest = λ (to : NodeId). wants_ids place now to wants are r.new.part r.rest r.others (step_ids_ok own now part call r.new ok r.made) in
-    let P : List LabelStep → Type 0 = λ x. IdsOk (part_after part x) × ((to : NodeId) → is_up (effect own now part call).0.part to ≡ true → RowHasId own now to x) in
-    subst P (sym r.parts) ((rest (record { 0 = 0 })).0, λ to up. (effect_ids_ok own now part call ok to up, (rest to).1 (step_ups own now part call r.new to r.made ∙ up)))
+    subst (λ (x : List LabelStep). RowIsUp own now to x) (sym r.parts) (up, wants_up place now to wants are r.new.part r.rest r.others (step_ups own now part call r.new to r.made ∙ up))
 
 -- ---- what a step of a node is
 
@@ -205,7 +208,7 @@ pub record CalledRow (nodes : Nodes) (n : NodeId) (old : NodeState) (call : step
   pub control : control_of node ≡ control_behind nodes n old call
   pub kind : IsEdgeNode old → IsEdgeNode node
   pub bgp : (u to : NodeId) → over_bgp u to new.puts ≡ over_bgp u to (bgp_behind nodes n old call)
-  pub over : (u to : NodeId) → over_ldp u to new.puts ≡ over_ldp u to (flat_map (label_puts n (addr_of nodes.scenario n) (label_place nodes.scenario nodes.core n) nodes.clock) row)
+  pub over : (u to : NodeId) → over_ldp u to new.puts ≡ over_ldp u to (flat_map (label_puts n (addr_of nodes.scenario n) (label_place nodes.scenario (core_at nodes n) n) nodes.clock) row)
 
 -- each leaf is one of a tree
 abbrev pub LeavesAreTrees : EdgePlace → Control → Type 0
@@ -230,7 +233,7 @@ edge_row nodes n edge call new trees e =
     let control : Control = control_step place nodes.clock edge.control call in
     let stepped : EdgeStepped → Stepped Nodes = λ made. record {
       state = with_node nodes n (Edge made.edge);
-      puts = bgp_puts place edge.control made.edge.control ++ flat_map (label_puts n (addr_of nodes.scenario n) (label_place nodes.scenario nodes.core n) nodes.clock) made.row;
+      puts = bgp_puts place edge.control made.edge.control ++ flat_map (label_puts n (addr_of nodes.scenario n) (label_place nodes.scenario (core_at nodes n) n) nodes.clock) made.row;
     } in
     let behind_row : List LabelStep → EdgeStepped = λ row. record { edge = record { control = control; part = part_after edge.part row }; row = row } in
     let wants : List labels.Call = changed_leaves (leaves place edge.control) (leaves place control) in
@@ -249,15 +252,15 @@ edge_row nodes n edge call new trees e =
       control = refl;
       kind = λ k. tt;
       bgp = λ u to.
-          let puts = flat_map (label_puts n (addr_of nodes.scenario n) (label_place nodes.scenario nodes.core n) nodes.clock) y.0 in
+          let puts = flat_map (label_puts n (addr_of nodes.scenario n) (label_place nodes.scenario (core_at nodes n) n) nodes.clock) y.0 in
           sym (ap (λ (s : Stepped Nodes). over_bgp u to s.puts) same)
           ∙ over_both (direction kinds.Bgp u to) (bgp_puts place edge.control control) puts
-          ∙ ap (λ (ms : List SessionMessage). over_bgp u to (bgp_puts place edge.control control) ++ ms) (row_none u to n (addr_of nodes.scenario n) (label_place nodes.scenario nodes.core n) nodes.clock y.0)
+          ∙ ap (λ (ms : List SessionMessage). over_bgp u to (bgp_puts place edge.control control) ++ ms) (row_none u to n (addr_of nodes.scenario n) (label_place nodes.scenario (core_at nodes n) n) nodes.clock y.0)
           ∙ append-nil (over_bgp u to (bgp_puts place edge.control control));
       over = λ u to.
           sym (ap (λ (s : Stepped Nodes). over_ldp u to s.puts) same)
-          ∙ over_ldp_both u to (bgp_puts place edge.control control) (flat_map (label_puts n (addr_of nodes.scenario n) (label_place nodes.scenario nodes.core n) nodes.clock) y.0)
-          ∙ ap (λ (ms : List LabelMessage). ms ++ over_ldp u to (flat_map (label_puts n (addr_of nodes.scenario n) (label_place nodes.scenario nodes.core n) nodes.clock) y.0)) (bgp_puts_no_labels place edge.control control u to);
+          ∙ over_ldp_both u to (bgp_puts place edge.control control) (flat_map (label_puts n (addr_of nodes.scenario n) (label_place nodes.scenario (core_at nodes n) n) nodes.clock) y.0)
+          ∙ ap (λ (ms : List LabelMessage). ms ++ over_ldp u to (flat_map (label_puts n (addr_of nodes.scenario n) (label_place nodes.scenario (core_at nodes n) n) nodes.clock) y.0)) (bgp_puts_no_labels place edge.control control u to);
     }
 
 itself : (b : Bool) (x y : NodeState) → (b ≡ true → y ≡ x) → y ≡ cond b x y
@@ -284,11 +287,11 @@ core_row nodes n part call new (Some own) at is e =
     let made : settling.Stepped → LabelStep = λ first. record { old = part; call = own; new = first } in
     let stepped : settling.Stepped → Stepped Nodes = λ first. record {
       state = with_node nodes n (CoreNode first.part);
-      puts = label_puts n (addr_of nodes.scenario n) (label_place nodes.scenario nodes.core n) nodes.clock (made first);
+      puts = label_puts n (addr_of nodes.scenario n) (label_place nodes.scenario (core_at nodes n) n) nodes.clock (made first);
     } in
-    let x = bind_some (label_step (label_place nodes.scenario nodes.core n) nodes.clock part own) (λ first. Some (stepped first)) new e in
+    let x = bind_some (label_step (label_place nodes.scenario (core_at nodes n) n) nodes.clock part own) (λ first. Some (stepped first)) new e in
     let same = same_Some (stepped x.0) new x.2 in
-    let puts = label_puts n (addr_of nodes.scenario n) (label_place nodes.scenario nodes.core n) nodes.clock (made x.0) in
+    let puts = label_puts n (addr_of nodes.scenario n) (label_place nodes.scenario (core_at nodes n) n) nodes.clock (made x.0) in
     record {
       wants = [];
       are = tt;
@@ -302,7 +305,7 @@ core_row nodes n part call new (Some own) at is e =
       kind = λ k. k;
       bgp = λ u to.
           sym (ap (λ (s : Stepped Nodes). over_bgp u to s.puts) same) ∙ ap (over_bgp u to) (sym (append-nil puts))
-          ∙ row_none u to n (addr_of nodes.scenario n) (label_place nodes.scenario nodes.core n) nodes.clock (made x.0 ∷ []);
+          ∙ row_none u to n (addr_of nodes.scenario n) (label_place nodes.scenario (core_at nodes n) n) nodes.clock (made x.0 ∷ []);
       over = λ u to. sym (ap (λ (s : Stepped Nodes). over_ldp u to s.puts) same) ∙ ap (over_ldp u to) (sym (append-nil puts));
     }
 
@@ -336,24 +339,24 @@ turned u n e = elim (cases_Bool (n.0 == u.0)) [
 -- To each neighbour to which a session is joined the end is up behind the effect of the call itself.
 abbrev pub UpWhereJoined : MessageNetwork Nodes → NodeId → LabelData → steps.Call → Type 0
 UpWhereJoined network n part call =
-    (to : NodeId) → network.joined (direction kinds.Ldp n to) ≡ true → is_up (own_effect (label_place network.state.scenario network.state.core n) network.state.clock part (own_label_call call)) to ≡ true
+    (to : NodeId) → network.joined (direction kinds.Ldp n to) ≡ true → is_up (own_effect (label_place network.state.scenario (core_at network.state n) n) network.state.clock part (own_label_call call)) to ≡ true
 
 pub called_is : (network : MessageNetwork Nodes) (copies : Copies) (datagrams : List Datagram) (n : NodeId) (call : steps.Call) (new : Stepped Nodes) (c : CalledRow network.state n (network.state.node n) call new)
-    → IdsOk (part_of (network.state.node n)) → UpWhereJoined network n (part_of (network.state.node n)) call
+    → UpWhereJoined network n (part_of (network.state.node n)) call
     → label_network (with_messages network new) copies datagrams ≡ behind (label_network network copies datagrams) n (sum (part_of (network.state.node n)) c.row)
-called_is network copies datagrams n call new c ok up =
+called_is network copies datagrams n call new c up =
     let nodes : Nodes = network.state in
     let old : LabelData = part_of (nodes.node n) in
     let w : LabelNetwork = label_network network copies datagrams in
-    let place : Place = label_place nodes.scenario nodes.core n in
-    let ids = (row_ids (place_of nodes n) nodes.clock (own_label_call call) c.wants c.are old c.row c.made ok).1 in
+    let place : Place = label_place nodes.scenario (core_at nodes n) n in
+    let ups = row_ups (place_of nodes n) nodes.clock (own_label_call call) c.wants c.are old c.row c.made in
     let net : Nodes → MessageNetwork Nodes = λ state. record (with_messages network new) { state = state } in
     let transit : (u m : NodeId) → labels_in (cond (network.joined (direction kinds.Ldp u m)) (network.transit (direction kinds.Ldp u m) ++ messages_over (direction kinds.Ldp u m) new.puts) (network.transit (direction kinds.Ldp u m))) ≡ sent n (row_puts c.row) w.direction u m = λ u m.
     transit_is (u.0 == n.0) (network.joined (direction kinds.Ldp u m)) (network.transit (direction kinds.Ldp u m)) (messages_over (direction kinds.Ldp u m) new.puts) (messages_to m (row_puts c.row))
     (λ t joined.
     let same : u ≡ n = node_equal u n t in
     c.over u m ∙ ap (λ (x : NodeId). over_ldp x m (flat_map (label_puts n (addr_of nodes.scenario n) place nodes.clock) c.row)) same
-    ∙ row_here n m (addr_of nodes.scenario n) place nodes.clock c.row (ids m (up m (sym (ap (λ (x : NodeId). network.joined (direction kinds.Ldp x m)) same) ∙ joined))))
+    ∙ row_here n m (addr_of nodes.scenario n) place nodes.clock c.row (ups m (up m (sym (ap (λ (x : NodeId). network.joined (direction kinds.Ldp x m)) same) ∙ joined))))
     (λ f. c.over u m ∙ row_elsewhere n u m (addr_of nodes.scenario n) place nodes.clock c.row (turned u n f)) in
     ap (λ (state : Nodes). label_network (net state) copies datagrams) c.state
     ∙ (λ i. record w {

@@ -12,7 +12,6 @@ use Rattle.mv_base.specs.declared.ids.VrfId.{VrfId}
 use Rattle.scenario_defs.specs.Vpn.{edge_of, is_attached_at, entered}
 use Rattle.scenario_defs.specs.declared.event.Event.{Event}
 use Rattle.scenario_defs.specs.declared.event.Event.TheVariants as events
-use Rattle.scenario_defs.specs.declared.event.Kind.{Kind}
 use Rattle.scenario_defs.specs.declared.event.Timed.{Timed}
 use Rattle.scenario_defs.specs.declared.report.Refusal.{Refusal}
 use Rattle.scenario_defs.specs.declared.report.ReportLine.{ReportLine}
@@ -25,17 +24,17 @@ use Rattle.mvpn_model.specs.Sessions.{sessions}
 use Rattle.mvpn_model.specs.declared.session.Session.{Session}
 use Rattle.session_defs.specs.Octets as octets
 use Rattle.session_defs.specs.Octets.{OctetNetwork, octet_run}
-use Rattle.session_defs.specs.System.{Behind, Put, octets_over}
+use Rattle.session_defs.specs.System.{Behind}
 use Rattle.session_defs.specs.declared.direction.Direction.{Direction}
 use Rattle.edge_defs.specs.Steps as steps
-use Rattle.world_defs.specs.Acts.{Act, Tick, Timers, Move, Lose, Notice, RaiseFirst, RaiseSecond, Restart, At, Enter, Land, Drop, Tell, Acted, with_network, at_node, put_line, put_lines, with_aged, is_of_session, is_from_peer, is_at, leads_to, act, datagram_at, landed, landing, without_copy, fate_at, with_ttl}
-use Rattle.world_defs.specs.Counts.{direction, directions, all_nodes, link_ways, is_joined, is_up as is_end}
-use Rattle.world_defs.specs.Events.{Happened, Outcome, Done, Halted, and_then, one_act, row, each, times, raise_acts, is_session_of, raises, notices, healed, turn, settled, landings, drain_round, sent, at_edge, with_message, done}
+use Rattle.world_defs.specs.Acts.{Act, Tick, Timers, Move, Lose, Notice, RaiseFirst, RaiseSecond, Restart, At, Enter, Land, Drop, Tell, Acted, with_network, at_node, with_aged, is_of_session, is_from_peer, is_at, leads_to, act, datagram_at, landed, landing, without_copy, fate_at, with_ttl, SetCost, Reroute}
+use Rattle.world_defs.specs.Counts.{direction, directions, all_nodes, link_ways, is_joined}
+use Rattle.world_defs.specs.Events.{Happened, Outcome, Done, Halted, and_then, one_act, row, each, times, raise_acts, raises, notices, healed, turn, settled, landings, drain_round, sent, at_edge, with_message, done, cost_acts}
 use Rattle.world_defs.specs.Nodes.{Nodes}
 use Rattle.mvpn_model.specs.Packets.{source_in, group_in}
 use Rattle.world_defs.specs.Refusals.{edge_of_vrf, refusal}
 use Rattle.world_defs.specs.Run.{Traced, traced, outcome, Runs}
-use Rattle.world_defs.specs.System.{Own, Elapse, Reset, system}
+use Rattle.world_defs.specs.System.{Own, Elapse, Reset, system, Price, Follow}
 use Rattle.world_defs.specs.World.{World, Datagram, LinkCopy, scenario_of, numbered}
 use Rattle.world_defs.proofs.Kept.{Gives, Comes, then_comes, row_keeps, each_keeps, times_keeps, comes_as, branches_datagrams}
 use Rattle.world_defs.proofs.Numbered.{numbered_more}
@@ -51,7 +50,7 @@ use Rattle.world_laws.specs.Honest.{IsSoundEvent}
 use Rattle.rule_laws.specs.Outs.{IsAdmittedLine}
 use Rattle.rule_laws.proofs.Acts.{InStep}
 use Rattle.rule_laws.proofs.Outs.{Says, land_says, enter_says}
-use Rattle.rule_laws.proofs.Plain.{IsPlain, IsPlainLine, IsQuiet, AllDo, Does, of_plain, plain_quiet, plain_row, raises_plain, heal_does, settle_does, edge_does, message_does}
+use Rattle.rule_laws.proofs.Plain.{IsPlain, IsPlainLine, IsQuiet, AllDo, Does, of_plain, plain_quiet, plain_row, raises_plain, heal_does, settle_does, edge_does, message_does, costs_plain}
 
 -- ---- what is said of the acts of an outcome
 
@@ -136,6 +135,8 @@ act_datagrams (Land from to place) world = by (slice_get (world.copies from to) 
     by (Some copy) = found copy (datagram_at (without_copy world from to place) copy.number)
 act_datagrams (Drop from to place) world = refl
 act_datagrams Tell world = refl
+act_datagrams (SetCost a b cost) world = network_datagrams world [] (octet_run system world.network (octets.Call (Price a b cost) ∷ [])) a
+act_datagrams (Reroute n) world = network_datagrams world [] (octet_run system world.network (octets.Call (Follow n) ∷ [])) n
 
 -- the datagrams are these
 abbrev pub HasThose : List Datagram → World → Type 0
@@ -292,6 +293,7 @@ module _ (scenario : Scenario) where
       (heal_does (Saying scenario world.datagrams) (saying scenario world.datagrams) world)
   done_says world s events.Settle sound = quiet world (settled world) (settle_those world.datagrams world) (settle_does (Saying scenario world.datagrams) (saying scenario world.datagrams) world)
   done_says world s events.Drain sound = drain_event world s
+  done_says world s (events.Cost a b cost) sound = plain_event world (cost_acts (scenario_of world) a b cost) (costs_plain (scenario_of world) a b cost)
   done_says world s events.State sound = plain_event world (Tell ∷ []) (tt, tt)
 
   -- ---- runs

@@ -21,7 +21,7 @@ use Rattle.label_defs.specs.LabelData.{same_fec, use_of}
 use Rattle.label_defs.specs.Steps.{branch_to}
 use Rattle.label_defs.specs.declared.label_use.LabelUse.{LabelUse}
 use Rattle.label_defs.specs.declared.label_use.LabelUse.TheVariants as uses
-use Rattle.label_defs.proofs.CountLemmas.{count-cons}
+use Rattle.label_defs.proofs.MemberLemmas.{count-cons}
 use Rattle.label_defs.proofs.KeyLemmas.{same_fec_equal, same_fec_from, node_equal, node_itself}
 use Rattle.label_laws.specs.Rule as rules
 use Rattle.label_laws.specs.Rule.{is_of_owner, is_release_of, IsOther, PhaseIs}

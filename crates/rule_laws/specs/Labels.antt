@@ -17,7 +17,7 @@ use Rattle.edge_defs.specs.Place.{addr_of, lsp, is_tree, upstream}
 use Rattle.label_laws.specs.Network.{PacketCopy, LabelNetwork}
 use Rattle.label_laws.specs.Network as labels
 use Rattle.world_defs.specs.Counts.{direction}
-use Rattle.world_defs.specs.Nodes.{Nodes, part_of}
+use Rattle.world_defs.specs.Nodes.{Nodes, part_of, core_at}
 use Rattle.world_defs.specs.World.{Datagram, LinkCopy, numbered}
 
 -- ---- VPNs as numbers
@@ -85,8 +85,9 @@ abbrev pub label_network : MessageNetwork Nodes → Copies → List Datagram →
 label_network network copies datagrams = record {
   clock = network.state.clock;
   life = network.state.scenario.life;
+  labels = λ n. network.state.scenario.labels;
   is_tree = is_tree network.state.scenario;
-  upstream = upstream network.state.scenario network.state.core;
+  upstream = λ n. upstream network.state.scenario (core_at network.state n) n;
   vpn_of = vpn_of network.state.scenario;
   origin = origin network.state.scenario datagrams;
   node = λ n. part_of (network.state.node n);

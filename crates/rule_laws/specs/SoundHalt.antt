@@ -5,14 +5,14 @@ use Rattle.mv_base.specs.declared.ids.NodeId.{NodeId}
 use Rattle.scenario_defs.specs.declared.event.Script.{Script}
 use Rattle.scenario_defs.specs.declared.event.Timed.{Timed}
 use Rattle.mvpn_model.specs.Report.{Entry}
-use Rattle.edge_defs.specs.Place.{Core}
+use Rattle.world_defs.specs.Costs.{Cores}
 use Rattle.world_defs.specs.Run.{Halts}
 use Rattle.world_laws.specs.Honest.{IsSoundEvent}
 use Rattle.world_laws.specs.Sound.{SoundScenario}
 
--- The first events run, by the core of the script's scenario, and one lacks a label; the scenario meets its rules, and the events are of
+-- The first events run, by the cores of the script's scenario, and one lacks a label; the scenario meets its rules, and the events are of
 -- sound values.
-pub record SoundHalt (core : Core) (script : Script) (report : List Entry) (node : NodeId) : Type 0 where
+pub record SoundHalt (cores : Cores) (script : Script) (report : List Entry) (node : NodeId) : Type 0 where
   pub scenario : SoundScenario script.scenario
   pub sound_events : AllByRecursion (λ (timed : Timed). IsSoundEvent script.scenario timed.event) script.events
-  pub halt : Halts core script report node
+  pub halt : Halts cores script report node

@@ -1,6 +1,6 @@
 -- Events that a scenario allows are of sound values.
 use Rattle.std.specs.Prelude.{IfSome}
-use Rattle.std.proofs.Common.{ℕ, ◌<◌, List, [], ◌∷◌, ◌++◌, take, drop, length, Option, None, Some, subst}
+use Rattle.std.proofs.Common.{◌≡◌, refl, ℕ, ◌<◌, List, [], ◌∷◌, ◌++◌, take, drop, length, Option, None, Some, subst}
 use Rattle.std.specs.List.{AllByRecursion}
 use Rattle.std.proofs.lemmas.Option.{slice_get_within}
 use Rattle.mv_base.specs.Address.{addr_octets}
@@ -25,15 +25,16 @@ use Rattle.world_defs.specs.Costs.{Cores, AreCoresOf}
 use Rattle.world_defs.specs.Run.{Traced, Run}
 use Rattle.world_defs.specs.World.{World}
 use Rattle.world_laws.specs.Honest.{IsSoundEvent}
-use Rattle.world_laws.specs.Sound.{IsHost, IsGroupAddr, SoundEntry}
+use Rattle.world_laws.specs.Sound.{IsCustomer, IsGroupAddr, IsFlow, AreAlike, SoundEntry}
 use Rattle.world_laws.specs.SoundRun.{SoundRun}
+use Rattle.edge_defs.specs.Originated.{afi_of}
 use Rattle.world_laws.proofs.Lists.{each_front}
 use Rattle.delivery_laws.proofs.Splits.{cut_in_two}
 use Rattle.run_laws.specs.Octets.{entry_octets, word_octets, EventHasOctets, ScriptHasOctets}
 
 -- ---- addresses
 
-host : (addr : Addr) → IsUnicast addr → IsOctets (addr_octets addr) → IsHost addr
+host : (addr : Addr) → IsUnicast addr → IsOctets (addr_octets addr) → IsCustomer addr
 host (V4 octets) unicast is = (unicast.0, is)
 host (V6 octets) unicast is = absurd unicast
 
@@ -41,12 +42,20 @@ group_addr : (addr : Addr) → IsGroup addr → IsOctets (addr_octets addr) → 
 group_addr (V4 octets) (four, low, high, apart) is = ((four, is), (low, high))
 group_addr (V6 octets) group is = absurd group
 
+alike : (source group : Addr) → IsUnicast source → IsGroup group → afi_of source ≡ afi_of group
+alike (V4 s) (V4 g) a b = refl
+alike (V4 s) (V6 g) a b = absurd b
+alike (V6 s) group a b = absurd a
+
+flow_sound : (source group : Addr) → IsUnicast source → IsGroup group → IsOctets (addr_octets source) → IsOctets (addr_octets group) → IsFlow source group
+flow_sound source group a b o p = (host source a o, group_addr group b p, alike source group a b)
+
 entry_sound : (entry : JoinEntry) → IsEntry entry → AllByRecursion IsOctets (entry_octets entry) → SoundEntry entry
 entry_sound (entries.Star group) is octets = group_addr group is octets.0
-entry_sound (entries.Source source group) is octets = (host source is.0 octets.0, group_addr group is.1 octets.1.0)
-entry_sound (entries.Rpt source group) is octets = (host source is.0 octets.0, group_addr group is.1 octets.1.0)
+entry_sound (entries.Source source group) is octets = flow_sound source group is.0 is.1 octets.0 octets.1.0
+entry_sound (entries.Rpt source group) is octets = flow_sound source group is.0 is.1 octets.0 octets.1.0
 
-any_host : (word : Option Addr) → IfSome word IsUnicast → AllByRecursion IsOctets (word_octets word) → IsAnyOr IsHost word
+any_host : (word : Option Addr) → IfSome word IsUnicast → AllByRecursion IsOctets (word_octets word) → IsAnyOr IsCustomer word
 any_host None is octets = tt
 any_host (Some addr) is octets = host addr is octets.0
 
@@ -54,9 +63,10 @@ any_group : (word : Option Addr) → IfSome word IsGroup → AllByRecursion IsOc
 any_group None is octets = tt
 any_group (Some addr) is octets = group_addr addr is octets.0
 
-words_sound : (source group : Option Addr) → IfSome source IsUnicast → IfSome group IsGroup → AllByRecursion IsOctets (word_octets source ++ word_octets group) → IsAnyOr IsHost source × IsAnyOr IsGroupAddr group
-words_sound None group is given octets = (tt, any_group group given octets)
-words_sound (Some addr) group is given octets = (host addr is octets.0, any_group group given octets.1)
+words_sound : (source group : Option Addr) → IfSome source IsUnicast → IfSome group IsGroup → AllByRecursion IsOctets (word_octets source ++ word_octets group) → IsAnyOr IsCustomer source × IsAnyOr IsGroupAddr group × AreAlike source group
+words_sound None group is given octets = (tt, any_group group given octets, tt)
+words_sound (Some addr) None is given octets = (host addr is octets.0, tt, tt)
+words_sound (Some addr) (Some group) is given octets = (host addr is octets.0, group_addr group given octets.1.0, alike addr group is given)
 
 -- ---- events
 
@@ -75,7 +85,7 @@ sound_by scenario topology (events.Raise kind a b) is octets = tt
 sound_by scenario topology (events.Join iface entry) is octets = (is.0, entry_sound entry is.1 octets)
 sound_by scenario topology (events.Prune iface entry) is octets = (is.0, entry_sound entry is.1 octets)
 sound_by scenario topology (events.Pim iface bytes) is octets = octets.0
-sound_by scenario topology (events.Active iface source group) is octets = (host source is.1 octets.0, group_addr group is.2 octets.1.0)
+sound_by scenario topology (events.Active iface source group) is octets = flow_sound source group is.1 is.2 octets.0 octets.1.0
 sound_by scenario topology (events.Idle iface source group) is octets = tt
 sound_by scenario topology (events.Send site source group payload) is octets = tt
 sound_by scenario topology (events.Packet site bytes) is octets = tt

@@ -4,7 +4,7 @@ use Rattle.std.specs.List.{list_any}
 use Rattle.std.proofs.lemmas.Bool.{cases_Bool, eqb-true}
 use Rattle.std.proofs.lemmas.Map.Steps.{le-length_from_below}
 use Rattle.selective_defs.specs.declared.selection.Selection.{Selection}
-use Rattle.selective_defs.specs.Selective.{Among, free_number, has_number, next_number, IsLeastNumber}
+use Rattle.selective_defs.specs.Selective.{Among, free_number, IsLeastUnused, has_number, next_number, IsLeastNumber}
 use Rattle.selective_defs.proofs.PatternLemmas.{opposite}
 
 -- ---- lists
@@ -74,6 +74,64 @@ walked used (suc count) number = by (used number) refl (walked used count (numbe
         later k after apart =
             let differs : k ≢ number = λ e. opposite (eqb k number) (eq-eqb k number e) apart in
             omega (arith, after, differs)
+
+-- ---- any numbers
+
+-- each number less one
+abbrev lowered : List ℕ → List ℕ
+lowered [] = []
+lowered (n ∷ ns) = (n - 1) ∷ lowered ns
+
+length-lowered : (ns : List ℕ) → length (lowered ns) ≡ length ns
+length-lowered [] = refl
+length-lowered (n ∷ ns) = ap suc (length-lowered ns)
+
+among_lowered : (q n : ℕ) (ns : List ℕ) → Among n ns → n ≡ q + 1 → list_any (eqb q) (lowered ns) ≡ true
+among_lowered q n [] a e = absurd a
+among_lowered q n (m ∷ ms) (inl same) e =
+    let here : q ≡ m - 1 = omega (arith, same, e) in
+    ap (λ (b : Bool). b || list_any (eqb q) (lowered ms)) (eq-eqb q (m - 1) here)
+among_lowered q n (m ∷ ms) (inr a) e =
+    elim (eqb q (m - 1)) as (λ (b : Bool). (b || list_any (eqb q) (lowered ms)) ≡ true) [ true ↦ refl | false ↦ among_lowered q n ms a e ]
+
+module _ (used : ℕ → Bool) (numbers_used : List ℕ) (count : ℕ) (among : (number : ℕ) → used number ≡ true → Among number numbers_used) (enough : length numbers_used ≤ count) where
+  -- where all from 1 up to a number are used, there are as many
+  up_to : (number : ℕ) → ((k : ℕ) → 1 ≤ k → k ≤ number → used k ≡ true) → number ≤ length numbers_used
+  up_to number each =
+      let all : (q : ℕ) → q < number → list_any (eqb q) (lowered numbers_used) ≡ true =
+      λ q low. among_lowered q (q + 1) numbers_used (among (q + 1) (each (q + 1) (omega arith) (omega (arith, low)))) refl in
+      let many : number ≤ length (lowered numbers_used) = le-length_from_below (lowered numbers_used) number all in
+      let same = length-lowered numbers_used in
+      omega (arith, many, same)
+
+  found_few : (number : ℕ) → Walked used count 1 number → number ≤ length numbers_used + 1
+  found_few number w =
+      let from = w.from in
+      let below : number - 1 ≤ length numbers_used = up_to (number - 1) (λ k low high. w.passed k low (omega (arith, from, low, high))) in
+      omega (arith, below)
+
+  found_free : (number : ℕ) → Walked used count 1 number → used number ≡ false
+  found_free number w = elim (cases_Bool (used number)) [
+    | inr free ↦ free
+    | inl taken ↦ elim w.end [
+      | inl free ↦ free
+      | inr last ↦ (
+          let each : (k : ℕ) → 1 ≤ k → k ≤ number → used k ≡ true = λ k low high. elim (cases_Bool (eqb k number)) [
+            | inl same ↦ subst (λ (n : ℕ). used n ≡ true) (sym (eqb-true k number same)) taken
+            | inr apart ↦ (let differs : k ≢ number = λ e. opposite (eqb k number) (eq-eqb k number e) apart in w.passed k low (omega (arith, high, differs)))
+          ] in
+          let many = up_to number each in
+          absurd (omega (arith, many, last, enough)))
+    ]
+  ]
+
+  pub least_unused : IsLeastUnused used (free_number used count 1)
+  least_unused =
+      let w = walked used count 1 in
+      record { counted = w.from; free = found_free (free_number used count 1) w; least = λ lower low below. w.passed lower low below }
+
+  pub few_used : free_number used count 1 ≤ length numbers_used + 1
+  few_used = found_few (free_number used count 1) (walked used count 1)
 
 -- ---- the number
 

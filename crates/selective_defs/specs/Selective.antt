@@ -48,6 +48,12 @@ abbrev pub free_number : (ℕ → Bool) → ℕ → ℕ → ℕ
 free_number used zero number = number
 free_number used (suc count) number = if used number then free_number used count (number + 1) else number
 
+-- The number is the least from 1 on that is not used.
+pub record IsLeastUnused (used : ℕ → Bool) (number : ℕ) : Type 0 where
+  pub counted : 1 ≤ number
+  pub free : used number ≡ false
+  pub least : (lower : ℕ) → 1 ≤ lower → lower < number → used lower ≡ true
+
 -- whether a selection has the number
 abbrev pub has_number : ℕ → Selection → Bool
 has_number number selection = selection.number == number
@@ -80,7 +86,8 @@ pub record IsTransmitted (selections : List Selection) (source group : Addr) (se
   pub among : Among selection selections
   pub matches : Matches selection.pattern source group
   pub run : selection.run ≡ true
-  pub most : (other : Selection) → Among other selections → Matches other.pattern source group → other.run ≡ true → rank other.pattern ≤ rank selection.pattern
+  pub most : (other : Selection) → Among other selections → Matches other.pattern source group → other.run ≡ true
+      → rank other.pattern ≤ rank selection.pattern
 
 -- Selections of one pattern are equal, as where a pattern stands at most once among them.
 abbrev pub AreDistinct : List Selection → Type 0
@@ -104,15 +111,19 @@ wanted routes source group = filter (is_wanted routes source group) routes
 pub record IsWanted (routes : List LearnedRoute) (source group : Addr) (route : LearnedRoute) : Type 0 where
   pub among : Among route routes
   pub matches : Matches route.pattern source group
-  pub kept : (other : LearnedRoute) → Among other routes → Matches other.pattern source group → rank route.pattern < rank other.pattern → other.run ≡ false
+  pub kept : (other : LearnedRoute) → Among other routes → Matches other.pattern source group
+      → rank route.pattern < rank other.pattern → other.run ≡ false
 
 -- ---- a root and an egress
 
 -- An egress is in step with a root: it has learned routes of the same patterns, none before its selection was made; a delay
 -- that was run at the egress is over; and no selection is due whose delay was not run.
 pub record InStep (delay now : ℕ) (selections : List Selection) (routes : List LearnedRoute) : Type 0 where
-  pub learned : (selection : Selection) → Among selection selections → (route : LearnedRoute) × (Among route routes) × (route.pattern ≡ selection.pattern)
-  pub selected : (route : LearnedRoute) → Among route routes → (selection : Selection) × (Among selection selections) × (selection.pattern ≡ route.pattern)
-  pub later : (selection : Selection) (route : LearnedRoute) → Among selection selections → Among route routes → selection.pattern ≡ route.pattern → selection.since ≤ route.since
+  pub learned : (selection : Selection) → Among selection selections
+      → (route : LearnedRoute) × (Among route routes) × (route.pattern ≡ selection.pattern)
+  pub selected : (route : LearnedRoute) → Among route routes
+      → (selection : Selection) × (Among selection selections) × (selection.pattern ≡ route.pattern)
+  pub later : (selection : Selection) (route : LearnedRoute) → Among selection selections → Among route routes
+      → selection.pattern ≡ route.pattern → selection.since ≤ route.since
   pub over : (route : LearnedRoute) → Among route routes → route.run ≡ true → IsDue delay now route.since
   pub run : (selection : Selection) → Among selection selections → IsDue delay now selection.since → selection.run ≡ true

@@ -14,6 +14,7 @@ use Rattle.mldp_msgs.specs.Spelling.{IsWritable}
 use Rattle.mldp_msgs.specs.Reading.{kind_of, element_of, label_at, value_of, tlv_at, body_of, message_at, pdu_front}
 use Rattle.mldp_msgs.proofs.Writings.{pdu_spelled}
 use Rattle.scenario_defs.specs.declared.event.Kind.{Kind}
+use Rattle.session_defs.proofs.Fronts.{stream_of}
 use Rattle.session_defs.specs.Message.{IsPut, same_direction}
 use Rattle.session_defs.specs.Message.SessionMessage.{Label}
 use Rattle.session_defs.specs.Octets.OctetAct.{Move, Call}
@@ -38,7 +39,7 @@ honest : IsHonest keeping
 honest = record { taken = λ direction message kept carried. tt; called = λ call kept. (is_put, tt) }
 
 line : (kind : Kind) (joined : Bool) → IsLine kind joined unfed [] []
-line kind true = record { units = []; each = tt; octets = refl; messages = refl; taken = refl; sound = refl }
+line kind true = record { units = []; each = tt; octets = refl; messages = refl; partial = (stream_of kind).framing.empty; taken = refl; sound = refl }
 line kind false = (refl, refl)
 
 first_piece : kept (Call tt ∷ Move upstream 20 ∷ []) ≡ Some []

@@ -15,6 +15,7 @@ use Rattle.session_defs.specs.Message.{SessionMessage, IsPut, Spells, same_direc
 use Rattle.session_defs.specs.System.{Put, messages_over, octets_over}
 use Rattle.session_defs.specs.Octets.{Stream}
 use Rattle.session_defs.specs.Refined.{Carried, IsLine}
+use Rattle.session_defs.proofs.Fronts.{stream_of}
 
 -- ---- units
 
@@ -109,6 +110,7 @@ put_behind kind stream transit pending octets messages sent c = record {
   each = are_both (IsPut kind) c.units sent.units c.each sent.each;
   octets = sym (append_assoc stream.held transit octets) ∙ ap (λ (xs : List ℕ). xs ++ octets) c.octets ∙ ap (λ (xs : List ℕ). octets_of c.units ++ xs) sent.octets_are ∙ sym (flat_map-append (λ (u : Spelled SessionMessage). u.octets) c.units sent.units);
   messages = ap (λ (ms : List SessionMessage). ms ++ messages) c.messages ∙ ap (λ (ms : List SessionMessage). messages_of c.units ++ ms) sent.messages_are ∙ sym (flat_map-append (λ (u : Spelled SessionMessage). u.messages) c.units sent.units);
+  partial = c.partial;
   taken = c.taken;
   sound = c.sound;
 }
@@ -130,8 +132,8 @@ line_forgotten kind true false stream transit pending line = line
 line_forgotten kind false joined stream transit pending line = line
 
 pub line_joined : (kind : Kind) (hit joined : Bool) (stream : Stream) (transit : List ℕ) (pending : List SessionMessage) → IsLine kind joined stream transit pending → IsLine kind (joined || hit) (cond hit unfed stream) (cond hit [] transit) (cond hit [] pending)
-line_joined kind true true stream transit pending line = record { units = []; each = tt; octets = refl; messages = refl; taken = refl; sound = refl }
-line_joined kind true false stream transit pending line = record { units = []; each = tt; octets = refl; messages = refl; taken = refl; sound = refl }
+line_joined kind true true stream transit pending line = record { units = []; each = tt; octets = refl; messages = refl; partial = (stream_of kind).framing.empty; taken = refl; sound = refl }
+line_joined kind true false stream transit pending line = record { units = []; each = tt; octets = refl; messages = refl; partial = (stream_of kind).framing.empty; taken = refl; sound = refl }
 line_joined kind false true stream transit pending line = line
 line_joined kind false false stream transit pending line = line
 

@@ -51,6 +51,7 @@ left_carried kind stream transit pending count c some = record {
   each = are_behind (IsPut kind) some.done some.left (subst (AreUnits (IsPut kind)) some.both c.each);
   octets = some.comes;
   messages = refl;
+  partial = some.partial;
   taken = refl;
   sound = refl;
 }

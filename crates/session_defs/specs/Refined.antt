@@ -1,21 +1,23 @@
 -- How a network in octets is one in messages.
 use Rattle.std.specs.Prelude.{◌≡◌, ◌≤◌, ℕ, Bool, true, false, List, [], ◌∷◌, ◌++◌, map, length, Option, Some, None, ⊤}
 use Rattle.std.specs.List.{AllByRecursion}
+use Rattle.framing.specs.Cut.Front.{more}
 use Rattle.framing.specs.Units.{Spelled, octets_of, messages_of, AreUnits}
 use Rattle.scenario_defs.specs.declared.event.Kind.{Kind}
 use Rattle.session_defs.specs.declared.direction.Direction.{Direction}
-use Rattle.session_defs.specs.Message.{SessionMessage, IsPut}
+use Rattle.session_defs.specs.Message.{SessionMessage, front_of, IsPut}
 use Rattle.session_defs.specs.System.{Put, Stepped, System, MessageNetwork, MessageAct, Behind, message_run}
 use Rattle.session_defs.specs.System.MessageAct.{Deliver, Call as CallNodes}
 use Rattle.session_defs.specs.Octets.{Stream, OctetNetwork, OctetAct, octet_act, octet_run}
 use Rattle.session_defs.specs.Octets.OctetAct.{Move, Call}
 
--- what is held back, with what is in transit behind it, is whole units, and they carry what is pending
+-- What is held back, with what is in transit behind it, is whole units, and they carry what is pending. No whole unit is held back.
 pub record Carried (kind : Kind) (stream : Stream) (transit : List ℕ) (pending : List SessionMessage) : Type 0 where
   pub units : List (Spelled SessionMessage)
   pub each : AreUnits (IsPut kind) units
   pub octets : stream.held ++ transit ≡ octets_of units
   pub messages : pending ≡ messages_of units
+  pub partial : front_of kind stream.held ≡ more
   pub taken : stream.waiting ≡ []
   pub sound : stream.fault ≡ None
 

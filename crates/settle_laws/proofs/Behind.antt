@@ -8,7 +8,12 @@ use Rattle.scenario_defs.specs.declared.event.Timed.{Timed}
 use Rattle.scenario_defs.specs.declared.report.ReportLine.TheVariants as lines
 use Rattle.scenario_defs.specs.declared.scenario.Scenario.{Scenario}
 use Rattle.session_defs.specs.Octets.{OctetNetwork}
-use Rattle.edge_defs.specs.Place.{Core, IsCoreOf}
+use Rattle.scenario_defs.specs.declared.event.Script.{Script}
+use Rattle.world_defs.specs.Costs.{Cores, AreCoresOf}
+use Rattle.world_laws.specs.SoundRun.{SoundRun}
+use Rattle.world_laws.proofs.Costs.{costs_of}
+use Rattle.world_laws.proofs.KnownCosts.{run_known}
+use Rattle.world_laws.proofs.RunEvents.{run_stays}
 use Rattle.world_defs.specs.Acts.{Land, act}
 use Rattle.world_defs.specs.Counts.{link_ways, all_copies, datagrams_with_copy, octets_in_transit, due_timers, unready, state_line}
 use Rattle.world_defs.specs.Events.{Happened, Done, landings, drain_round}
@@ -20,7 +25,7 @@ use Rattle.world_laws.specs.Sound.{SoundScenario}
 use Rattle.world_laws.specs.Honest.{IsSoundEvent}
 use Rattle.rule_laws.proofs.Start.{run_in_step}
 use Rattle.settle_laws.proofs.Drained.{drain_drains}
-use Rattle.settle_laws.proofs.Settled.{settle_settles}
+use Rattle.settle_laws.proofs.Settled.{Present, settle_settles}
 use Rattle.settle_laws.proofs.Streams.{runs_streams, start_streams}
 use Rattle.settle_laws.proofs.Ttl.{run_alive}
 
@@ -68,13 +73,23 @@ through (one ∷ before) timed behind old number trace new (acts, next, rest, do
 
 -- ---- behind a run
 
-pub run_settles : (scenario : Scenario) (core : Core) (all : List Timed) (trace : List Traced) (old new : World) (line : ℕ) (acts : List Happened) → SoundScenario scenario → IsCoreOf scenario core → AllByRecursion (λ timed. IsSoundEvent scenario timed.event) all
-    → Runs (start scenario core) 0 all trace old → outcome old (record { line = line; event = events.Settle }) ≡ Done acts new → IsSettled new
-run_settles scenario core all trace old new line acts lines is_core sound run e =
-    settle_settles scenario core lines is_core old (run_in_step scenario core all trace old lines sound run) (runs_streams core all (start scenario core) 0 trace old (start_streams scenario core) run) line acts new e
+pub run_settles : (cores : Cores) (script : Script) (all : List Timed) (trace : List Traced) (old new : World) (line : ℕ) (acts : List Happened) → SoundRun cores script all trace old
+    → outcome old (record { line = line; event = events.Settle }) ≡ Done acts new → IsSettled new
+run_settles cores script all trace old new line acts sound_run e =
+    let scenario = script.scenario in
+    let know = run_known script cores all trace old sound_run in
+    let stays = run_stays scenario cores all trace old sound_run.scenario sound_run.sound_events sound_run.run in
+    let present : Present scenario (costs_of old.network.state) = record {
+      of_scenario = subst (AreCoresOf scenario) (sym know.cores_are) sound_run.of_scenario;
+      links = know.links;
+      known = stays.0.known;
+      present = know.present;
+    } in
+    settle_settles scenario (costs_of old.network.state) sound_run.scenario present old (run_in_step scenario cores all trace old sound_run.scenario sound_run.sound_events sound_run.run)
+    (record { streams = runs_streams all (start scenario cores) 0 trace old (start_streams scenario cores) sound_run.run; costs_are = refl }) line acts new e
 
-pub run_drains : (scenario : Scenario) (core : Core) (all : List Timed) (trace : List Traced) (old new : World) (line : ℕ) (acts : List Happened) → Runs (start scenario core) 0 all trace old → outcome old (record { line = line; event = events.Drain }) ≡ Done acts new → IsDrained new
-run_drains scenario core all trace old new line acts run e = drain_drains old (run_alive scenario core all trace old run) line acts new e
+pub run_drains : (scenario : Scenario) (cores : Cores) (all : List Timed) (trace : List Traced) (old new : World) (line : ℕ) (acts : List Happened) → Runs (start scenario cores) 0 all trace old → outcome old (record { line = line; event = events.Drain }) ≡ Done acts new → IsDrained new
+run_drains scenario cores all trace old new line acts run e = drain_drains old (run_alive scenario cores all trace old run) line acts new e
 
 -- ---- a drain touches no session and no node
 

@@ -43,7 +43,7 @@ use Rattle.edge_defs.specs.Place.{EdgePlace, OwnVrf, addr_of, own_vrfs}
 use Rattle.edge_defs.specs.Steps as steps
 use Rattle.edge_defs.specs.Steps.{learned, taken_change, control_step, refreshed}
 use Rattle.edge_defs.specs.Tunnels.{inclusive_tunnels, flow_tunnels, learned_route, learned_routes, leaves}
-use Rattle.edge_defs.specs.Upstream.{known_route, known_from, upstream_for}
+use Rattle.edge_defs.specs.Upstream.{costs_of, known_route, known_from, upstream_for}
 use Rattle.edge_defs.proofs.KeyLemmas.{key_total, key_exact, value_exact}
 use Rattle.settle_laws.specs.Ranks.{IsFresh, kind_of, joins_only}
 use Rattle.settle_laws.proofs.Entries.{found_insert, found_remove, read_insert}
@@ -200,9 +200,10 @@ module _ (place : EdgePlace) (now : ℕ) (old : Control) (peer : NodeId) (taken 
           ap is_some here ∙ sym (ap is_some there)
       by false e = ap is_some (get-insert node_cmp_total old.peers peer new q ∙ ap (λ (b : Bool). cond b (Some new) (maps.get old.peers q)) e)
 
-  abbrev upstream_with : OwnVrf → Addr → List KnownRoute → (NodeId → Rd → Prefix → Option TakenRoute) → Option Upstream
-  upstream_with own source known table =
-      best_route (cost_by own.vrf.rule (place.core.cost place.me)) (map of_site (local_routes place.scenario own.id) ++ known) source >>? λ route.
+  abbrev upstream_with : OwnVrf → Addr → Addr → List KnownRoute → (NodeId → Rd → Prefix → Option TakenRoute) → Option Upstream
+  upstream_with own source group known table =
+      let routes = map of_site (local_routes place.scenario own.id) ++ known in
+      best_route (costs_of place own routes source group) routes source >>? λ route.
       elim route.origin [
         | origins.Local site ↦ Some (Site site)
         | origins.Remote edge address rd ↦
@@ -211,18 +212,18 @@ module _ (place : EdgePlace) (now : ℕ) (old : Control) (peer : NodeId) (taken 
             Some (Remote edge rd by.import by.source_as)
       ]
 
-  upstream_same : (own : OwnVrf) (source : Addr) → upstream_for place after own source ≡ upstream_for place old own source
-  upstream_same own source = λ i. upstream_with own source (known_same own i) (λ q rd prefix. get_same q rd prefix i)
+  upstream_same : (own : OwnVrf) (source group : Addr) → upstream_for place after own source group ≡ upstream_for place old own source group
+  upstream_same own source group = λ i. upstream_with own source group (known_same own i) (λ q rd prefix. get_same q rd prefix i)
 
-  abbrev flows_with : OwnVrf → List FlowRoute → (Addr → Option Upstream) → List (VrfFlow × Option Upstream)
+  abbrev flows_with : OwnVrf → List FlowRoute → (Addr → Addr → Option Upstream) → List (VrfFlow × Option Upstream)
   flows_with own known up =
       let active = map noted_flow (notes_of place old own.id) ++ known in
-      map (λ flow. (record { vrf = own.id; source = flow.source; group = flow.group }, up flow.source))
+      map (λ flow. (record { vrf = own.id; source = flow.source; group = flow.group }, up flow.source flow.group))
       (filter (λ flow. list_any (λ iface. asks old.entries iface flow.source flow.group (list_any (same_flow flow.source flow.group) active) now) (ifaces_of place own))
       (found_in (joined_by place own) (maps.keys old.entries) ++ active))
 
   vrf_same : (own : OwnVrf) → vrf_flows place now after own ≡ vrf_flows place now old own
-  vrf_same own = λ i. flows_with own (active_same own i) (λ source. upstream_same own source i)
+  vrf_same own = λ i. flows_with own (active_same own i) (λ source group. upstream_same own source group i)
 
   flows_same : flows_at place now after ≡ flows_at place now old
   flows_same = λ i. maps.from_entries (flat_map (λ own. vrf_same own i) (own_vrfs place))

@@ -10,12 +10,13 @@ use Rattle.mldp_msgs.specs.declared.message.LabelMessage.{LabelMessage}
 use Rattle.mldp_msgs.specs.declared.message.LabelMessage.TheVariants as messages
 use Rattle.label_defs.specs.LabelData.{Place, LabelData, same_fec, use_of, is_rested, is_hold_due, due}
 use Rattle.label_defs.specs.Settling.{Stepped, with_use}
-use Rattle.label_defs.specs.Steps.{branch_to, Call, Taken, Want, Unwant, Raised, Noticed, Timers, released, with_release, taken, woken, hold_run, effect, label_step}
+use Rattle.label_defs.specs.Steps.{branch_to, Call, Taken, Want, Unwant, Raised, Noticed, Timers, Rerouted, released, with_release, taken, woken, hold_run, effect, counted, label_step}
 use Rattle.label_defs.specs.declared.end.End.{End}
 use Rattle.label_defs.specs.declared.label_use.LabelUse.{LabelUse}
 use Rattle.label_defs.specs.declared.label_use.LabelUse.TheVariants as uses
 use Rattle.label_defs.specs.declared.put.Put.{Put}
 use Rattle.label_defs.proofs.KeyLemmas.{node_cmp_total}
+use Rattle.label_defs.proofs.IdLemmas.{passed, passed_held, passed_raised, get_after}
 use Rattle.label_defs.proofs.OwnLemmas.{step_keeps}
 use Rattle.label_defs.proofs.TimerLemmas.{timed_end}
 use Rattle.label_defs.proofs.TurnLemmas.{Turn}
@@ -108,9 +109,22 @@ turn_kept place now old puts fec next more t r = record {
   holds = λ node end e. r.holds node end (sym (ap (λ (ends : _). maps.get ends node) t.rest.ends) ∙ e);
 }
 
+-- the id that comes next tells nothing of a hold
+passed_due : (life now : ℕ) (node : NodeId) (puts : List Put) (end : End) → is_hold_due life now (passed node puts end) ≡ is_hold_due life now end
+passed_due life now node puts end = λ i. not (passed_held node puts end i) && nat_le (passed_raised node puts end i + life + 1) now
+
+counted_rests : (life now : ℕ) (old : Stepped) → Rested life now old.part → Rested life now (counted old).part
+counted_rests life now old h = record { labels = h.labels; holds = λ node end e. by node end (maps.get old.part.ends node) refl (sym (get_after old.part.ends old.puts node) ∙ e) }
+  where
+    by : (node : NodeId) (end : End) (o : Option End) → maps.get old.part.ends node ≡ o → option_map (passed node old.puts) o ≡ Some end → is_hold_due life now end ≡ false
+    by node end None was e = absurd cc
+    by node end (Some own) was e =
+        let same : passed node old.puts own ≡ end = cc in
+        subst (λ (x : End). is_hold_due life now x ≡ false) same (passed_due life now node old.puts own ∙ h.holds node own was)
+
 step_kept : (place : Place) (now : ℕ) (part : LabelData) (call : Call) (new : Stepped) → Rested place.life now (effect place now part call).0.part → label_step place now part call ≡ Some new → Rested place.life now new.part
 step_kept place now part call new r e =
-    step_keeps place now part call new (λ p puts. Rested place.life now p) (λ old puts fec next more t h. turn_kept place now old puts fec next more t h) (λ old h. record { labels = h.labels; holds = h.holds }) r e
+    step_keeps place now part call new (λ p puts. Rested place.life now p) (λ old puts fec next more t h. turn_kept place now old puts fec next more t h) (λ old h. counted_rests place.life now old h) r e
 
 -- a message that is taken, and a tree of which the node becomes or stops being a leaf
 abbrev pub IsInner : Call → Type 0
@@ -126,6 +140,7 @@ inner_rests place now part (Unwant fec) new is r e = step_kept place now part (U
 inner_rests place now part (Raised peer) new is r e = absurd is
 inner_rests place now part (Noticed peer) new is r e = absurd is
 inner_rests place now part Timers new is r e = absurd is
+inner_rests place now part Rerouted new is r e = absurd is
 
 -- ---- timers
 

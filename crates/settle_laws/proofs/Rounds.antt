@@ -16,7 +16,7 @@ use Rattle.session_defs.specs.Refined.{IsLine}
 use Rattle.session_defs.specs.System.{Behind}
 use Rattle.session_defs.specs.declared.direction.Direction.{Direction}
 use Rattle.session_defs.proofs.Lines.{own_direction, direction_is}
-use Rattle.edge_defs.specs.Place.{Core}
+use Rattle.world_laws.proofs.Costs.{Costs}
 use Rattle.calm_laws.proofs.Lists.{any_from}
 use Rattle.world_defs.specs.Acts.{Act, Move, Acted, with_network, act}
 use Rattle.world_defs.specs.Events.{Outcome, Done, Halted, one_act, row, each, times, turn}
@@ -26,7 +26,7 @@ use Rattle.world_defs.specs.World.{World}
 use Rattle.world_defs.proofs.Kept.{Gives, Comes, then_comes, comes_as}
 use Rattle.world_laws.proofs.Lists.{each_weaker}
 use Rattle.settle_laws.proofs.Turns.{Low, lower}
-use Rattle.settle_laws.proofs.Streams.{StreamsBehind, WorldStreams, run_streams}
+use Rattle.settle_laws.proofs.Streams.{SteadyBehind, WorldSteady, run_steady}
 use Rattle.settle_laws.proofs.Moves.{OnNet, nothing_pending, Round, move_round, Empties, move_empties}
 use Rattle.rule_laws.proofs.Admits.{all_of_among}
 
@@ -107,12 +107,12 @@ joined_by : (kind : _) (joined : Bool) (stream : _) (transit : List ℕ) (pendin
 joined_by kind true stream transit pending octet others line e = refl
 joined_by kind false stream transit pending octet others line e = absurd (let bad : [] ≡ octet ∷ others = sym line.0 ∙ e in cc)
 
-module _ (scenario : Scenario) (core : Core) (depth : NodeId → Fec → ℕ) (most : ℕ) (most_is : (n : NodeId) (fec : Fec) → depth n fec < most) where
+module _ (scenario : Scenario) (costs : Costs) (depth : NodeId → Fec → ℕ) (most : ℕ) (most_is : (n : NodeId) (fec : Fec) → depth n fec < most) where
   -- The messages in transit rank below these bounds, and each stream holds back less than a unit.
   abbrev pub WorldRound : (Direction → ℕ) → World → Type 0
-  WorldRound bounds world = Round scenario world.copies world.datagrams depth most bounds world.network × WorldStreams core world
+  WorldRound bounds world = Round scenario world.copies world.datagrams depth most bounds world.network × WorldSteady costs world
 
-  with_both : (bounds : Direction → ℕ) (world : World) (before : List ReportLine) (found : Option (Behind (OctetNetwork Nodes))) (node : NodeId) → OnNet (Round scenario world.copies world.datagrams depth most bounds) found → StreamsBehind core found
+  with_both : (bounds : Direction → ℕ) (world : World) (before : List ReportLine) (found : Option (Behind (OctetNetwork Nodes))) (node : NodeId) → OnNet (Round scenario world.copies world.datagrams depth most bounds) found → SteadyBehind costs found
       → Gives (WorldRound bounds) (with_network world before found node)
   with_both bounds world before None node r s = tt
   with_both bounds world before (Some new) node r s = (r, s)
@@ -135,7 +135,7 @@ module _ (scenario : Scenario) (core : Core) (depth : NodeId → Fec → ℕ) (m
           lines = round.lines;
           going = round.going;
           low = λ d. none_cut d (same_direction d over) r (bounds d) (round.pending d)
-              (λ t. ap round.pending (direction_is d over t) ∙ nothing_pending over.kind (world.network.joined over) (world.network.stream over) (world.network.transit over) (round.pending over) (round.lines over) e (streams.partial over)) (round.low d);
+              (λ t. ap round.pending (direction_is d over t) ∙ nothing_pending over.kind (world.network.joined over) (world.network.stream over) (world.network.transit over) (round.pending over) (round.lines over) e (streams.streams.partial over)) (round.low d);
         },
         streams,
       ))
@@ -144,7 +144,7 @@ module _ (scenario : Scenario) (core : Core) (depth : NodeId → Fec → ℕ) (m
       let joined : world.network.joined over ≡ true = joined_by over.kind (world.network.joined over) (world.network.stream over) (world.network.transit over) (round.pending over) octet others (round.lines over) e in
       let le : length (world.network.transit over) ≤ count = let same : length (world.network.transit over) ≡ count = ap (λ (xs : List ℕ). length xs) e in omega (arith, same) in
       with_both (lowered bounds over r) world (lines.Take over.kind over.from over.to (take count (world.network.transit over)) ∷ []) (octet_run system world.network (octets.Move over count ∷ [])) over.to
-      (move_round scenario world.copies world.datagrams depth most bounds r over count most_is node least top world.network le joined round) (run_streams core (octets.Move over count ∷ []) world.network streams))
+      (move_round scenario world.copies world.datagrams depth most bounds r over count most_is node least top world.network le joined round) (run_steady costs (octets.Move over count ∷ []) (tt, tt) world.network streams))
 
   each_round : (r : ℕ) (order : List Direction) → AllByRecursion LeadsToNode order → (bounds : Direction → ℕ) → ((d : Direction) → r ≤ bounds d) → AllByRecursion (λ (d : Direction). bounds d ≤ suc r) order → (world : World) → WorldRound bounds world
       → Comes (WorldRound (all_lowered order bounds r)) (each turn order world)

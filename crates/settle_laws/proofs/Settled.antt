@@ -17,13 +17,18 @@ use Rattle.session_defs.specs.Octets.{with_step}
 use Rattle.session_defs.specs.System.{Stepped, with_earlier}
 use Rattle.session_defs.specs.declared.direction.Direction.{Direction}
 use Rattle.session_defs.proofs.Lines.{own_direction}
-use Rattle.edge_defs.specs.Place.{Core, IsCoreOf, upstream, label_place}
+use Rattle.mv_base.specs.declared.core_link.Link.{Link}
+use Rattle.edge_defs.specs.Place.{Core, IsCoreOf, node_with, upstream}
+use Rattle.world_defs.specs.Costs.{AreRepriced, AreCoresOf}
+use Rattle.world_laws.proofs.Costs.{Costs, costs_of}
+use Rattle.label_defs.proofs.SettleLemmas.{bind_some}
+use Rattle.std.proofs.lemmas.Option.{none-some}
 use Rattle.edge_defs.specs.Steps as steps
 use Rattle.calm_laws.proofs.Lists.{any_from}
 use Rattle.world_defs.specs.Acts.{Timers, with_network, act}
 use Rattle.world_defs.specs.Counts.{directions_of, directions, node_due, node_ids, all_nodes}
 use Rattle.world_defs.specs.Events.{Happened, Outcome, Done, and_then, one_act, row, each, times, turn}
-use Rattle.world_defs.specs.Nodes.{NodeState, Edge, CoreNode, Nodes, place_of}
+use Rattle.world_defs.specs.Nodes.{NodeState, Edge, CoreNode, Nodes, place_of, label_place_of}
 use Rattle.world_defs.specs.Run.{IsSettled, outcome}
 use Rattle.world_defs.specs.System.{node_called}
 use Rattle.world_defs.specs.World.{World, scenario_of}
@@ -38,7 +43,7 @@ use Rattle.settle_laws.specs.Ranks.{joins_only, rank}
 use Rattle.settle_laws.proofs.Due.{no_control_due}
 use Rattle.settle_laws.proofs.LabelsDue.{sum_zero, none_due, each_among}
 use Rattle.settle_laws.proofs.Steps.{IsStill, label_low, timers_run}
-use Rattle.settle_laws.proofs.Streams.{WorldStreams, world_act_streams}
+use Rattle.settle_laws.proofs.Streams.{WorldSteady, act_steady}
 use Rattle.settle_laws.proofs.Turns.{IsNearer, Low}
 use Rattle.settle_laws.proofs.Rounds.{is_in, Below, Ended, rounds_end}
 use Rattle.settle_laws.proofs.Depth.{depth_of, depth_low, depth_nearer}
@@ -86,10 +91,10 @@ node_among number (suc count) n le lt = elim (cases_lt number n.0) [
   | inr here ↦ inl (let same : n.0 ≡ number = omega (arith, le, here) in λ i. record { 0 = same i })
 ]
 
-module _ (scenario : Scenario) (core : Core) where
+module _ (scenario : Scenario) (costs : Costs) where
   -- what holds while timers are run
   abbrev Ran : (NodeId → Bool) → World → Type 0
-  Ran test world = InStep scenario world × (WorldStreams core world × StillWhere test world)
+  Ran test world = InStep scenario world × (WorldSteady costs world × StillWhere test world)
 
   timers_ran : (ns : List NodeId) → AllByRecursion (IsNode scenario) ns → (test : NodeId → Bool) (world : World) → Ran test world → Comes (Ran (ran ns test)) (row (map (λ n. Timers n) ns) world)
   timers_ran [] nodes test world h = h
@@ -97,8 +102,8 @@ module _ (scenario : Scenario) (core : Core) where
       let next_test : NodeId → Bool = λ m. (m.0 == n.0) || test m in
       then_comes (Ran next_test) (Ran (ran ns next_test)) (one_act world (Timers n)) (row (map (λ n. Timers n) ns))
       (one_comes (Ran next_test) world (Timers n)
-      (both_give (InStep scenario) (λ next. WorldStreams core next × StillWhere next_test next) (act world (Timers n)) (act_in_step scenario (Timers n) nodes.0 world tt h.0)
-      (both_give (WorldStreams core) (StillWhere next_test) (act world (Timers n)) (world_act_streams core (Timers n) world h.1.0) (timers_still test n world h.1.1))))
+      (both_give (InStep scenario) (λ next. WorldSteady costs next × StillWhere next_test next) (act world (Timers n)) (act_in_step scenario (Timers n) nodes.0 world tt h.0)
+      (both_give (WorldSteady costs) (StillWhere next_test) (act world (Timers n)) (act_steady costs (Timers n) tt world h.1.0) (timers_still test n world h.1.1))))
       (λ next p. timers_ran ns nodes.1 next_test next p)
 
 -- ---- ranks
@@ -128,10 +133,10 @@ still_due nodes n state at still = ap (λ (s : NodeState). due_by s) at ∙ by s
 
     by : (s : NodeState) → IsStill nodes n s → due_by s ≡ 0
     by (Edge edge) h =
-        let first = none_due (label_place nodes.scenario nodes.core n) nodes.clock edge.part h.2 in
+        let first = none_due (label_place_of nodes n) nodes.clock edge.part h.2 in
         let second = no_control_due (place_of nodes n) nodes.clock edge.control h.1 in
         omega (arith, first, second)
-    by (CoreNode part) h = none_due (label_place nodes.scenario nodes.core n) nodes.clock part h
+    by (CoreNode part) h = none_due (label_place_of nodes n) nodes.clock part h
 
 lead_to_nodes : (scenario : Scenario) → SoundScenario scenario → AllByRecursion (λ (d : Direction). d.to.0 < length scenario.nodes) (directions scenario)
 lead_to_nodes scenario sound = each_flat (λ (d : Direction). d.to.0 < length scenario.nodes) directions_of (sessions scenario)
@@ -148,7 +153,20 @@ counts_zero scenario world same h k = (
   ap (λ (s : Scenario). sum_by (node_due world.network.state) (all_nodes s)) same ∙ sum_zero (node_due world.network.state) (all_nodes scenario) k,
 )
 
-module _ (scenario : Scenario) (core : Core) (sound : SoundScenario scenario) (is_core : IsCoreOf scenario core) (some : 0 < length scenario.nodes) where
+-- The costs are those of the scenario's links, and each node of the scenario has acted on the present ones.
+pub record Present (scenario : Scenario) (costs : Costs) : Type 0 where
+  pub of_scenario : AreCoresOf scenario costs.cores
+  pub links : AreRepriced scenario.links costs.links
+  pub known : (n : NodeId) → AreRepriced scenario.links (costs.known n)
+  pub present : (n : NodeId) → n.0 < length scenario.nodes → costs.known n ≡ costs.links
+
+module _ (scenario : Scenario) (costs : Costs) (sound : SoundScenario scenario) (present : Present scenario costs) (some : 0 < length scenario.nodes) where
+  abbrev core : Core
+  core = costs.cores costs.links
+
+  is_core : IsCoreOf (length scenario.nodes) costs.links core
+  is_core = present.of_scenario.core costs.links present.links
+
   abbrev depth : NodeId → Fec → ℕ
   depth = depth_of scenario core
 
@@ -156,12 +174,22 @@ module _ (scenario : Scenario) (core : Core) (sound : SoundScenario scenario) (i
   most = length scenario.nodes
 
   abbrev low : (n : NodeId) (fec : Fec) → depth n fec < most
-  low = depth_low scenario core is_core some
+  low = depth_low scenario costs.links core is_core some
 
-  nearer : (nodes : Nodes) → nodes.scenario ≡ scenario → nodes.core ≡ core → IsNearer depth nodes
-  nearer nodes same core_same n v fec up = depth_nearer scenario core sound is_core n v fec ((λ i. upstream (sym same i) (sym core_same i) n fec) ∙ up)
+  -- by the costs that a node has acted on: the present ones, or, outside the scenario, any
+  nearer_by : (n v : NodeId) (fec : Fec) → upstream scenario (costs.cores (costs.known n)) n fec ≡ Some v → depth v fec < depth n fec
+  nearer_by n v fec up = elim (cases_lt n.0 (length scenario.nodes)) [
+    | inl lt ↦ depth_nearer scenario costs.links core sound present.links is_core n v fec (ap (λ (links : List Link). upstream scenario (costs.cores links) n fec) (sym (present.present n lt)) ∙ up)
+    | inr past ↦
+        let own = present.of_scenario.core (costs.known n) (present.known n) in
+        let x = bind_some (node_with scenario fec.root) (λ root. (costs.cores (costs.known n)).toward n root) v up in
+        absurd (none-some v (sym (own.outside n x.0 (inl past)).1 ∙ x.2))
+  ]
 
-  begins : (world : World) → Ran scenario core (ran (all_nodes scenario) (λ n. false)) world → Below scenario core depth most low (directions scenario) (lead_to_nodes scenario sound) (most + 2) world
+  nearer : (nodes : Nodes) → nodes.scenario ≡ scenario → costs_of nodes ≡ costs → IsNearer depth nodes
+  nearer nodes same costs_are n v fec up = nearer_by n v fec ((λ i. upstream (sym same i) ((sym costs_are i).cores ((sym costs_are i).known n)) n fec) ∙ up)
+
+  begins : (world : World) → Ran scenario costs (ran (all_nodes scenario) (λ n. false)) world → Below scenario costs depth most low (directions scenario) (lead_to_nodes scenario sound) (most + 2) world
   begins world ((pending, are, good), (streams, still)) = (
     record {
       pending = pending;
@@ -169,14 +197,14 @@ module _ (scenario : Scenario) (core : Core) (sound : SoundScenario scenario) (i
       going = record {
         good = good;
         still = λ n lt. still n (ran_each (all_nodes scenario) (λ m. false) n (node_among 0 (length scenario.nodes) n (omega arith) (omega (arith, lt))));
-        nearer = nearer world.network.state good.base.sound.same streams.core_is;
+        nearer = nearer world.network.state good.base.sound.same streams.costs_are;
       };
       low = λ d. subst (λ (k : ℕ). Low depth most k d (pending d)) (sym (same_bound (is_in (directions scenario) d) (most + 2))) (each_of (λ (m : SessionMessage). rank depth most d.to m < most + 2) (λ m. rank_low depth most low d.to m) (pending d));
     },
     streams,
   )
 
-  ends : (world : World) → Ended scenario core depth most low (directions scenario) (lead_to_nodes scenario sound) world → IsSettled world
+  ends : (world : World) → Ended scenario costs depth most low (directions scenario) (lead_to_nodes scenario sound) world → IsSettled world
   ends world ((round, streams), empty) =
       counts_zero scenario world round.going.good.base.sound.same (none_in_transit (directions scenario) world.network.transit empty)
       (λ n a. still_due world.network.state n (world.network.state.node n) refl (round.going.still n (each_among (IsNode scenario) (all_nodes scenario) (nodes_within 0 (length scenario.nodes) (length scenario.nodes) (omega arith)) n a)))
@@ -184,19 +212,19 @@ module _ (scenario : Scenario) (core : Core) (sound : SoundScenario scenario) (i
   rounds_are : suc (most + 2) ≡ most + 3
   rounds_are = omega arith
 
-  settles : (world : World) → InStep scenario world → WorldStreams core world → Comes IsSettled (settled_by scenario world)
+  settles : (world : World) → InStep scenario world → WorldSteady costs world → Comes IsSettled (settled_by scenario world)
   settles world s streams =
-      let ended = Ended scenario core depth most low (directions scenario) (lead_to_nodes scenario sound) in
+      let ended = Ended scenario costs depth most low (directions scenario) (lead_to_nodes scenario sound) in
       comes_as ended IsSettled (settled_by scenario world) ends
-      (then_comes (Ran scenario core (ran (all_nodes scenario) (λ n. false))) ended (row (map (λ n. Timers n) (all_nodes scenario)) world) (times (each turn (directions scenario)) (length scenario.nodes + 3))
-      (timers_ran scenario core (all_nodes scenario) (nodes_within 0 (length scenario.nodes) (length scenario.nodes) (omega arith)) (λ n. false) world (s, (streams, λ n is. absurd cc)))
+      (then_comes (Ran scenario costs (ran (all_nodes scenario) (λ n. false))) ended (row (map (λ n. Timers n) (all_nodes scenario)) world) (times (each turn (directions scenario)) (length scenario.nodes + 3))
+      (timers_ran scenario costs (all_nodes scenario) (nodes_within 0 (length scenario.nodes) (length scenario.nodes) (omega arith)) (λ n. false) world (s, (streams, λ n is. absurd cc)))
       (λ next p. subst (λ (count : ℕ). Comes ended (times (each turn (directions scenario)) count next)) rounds_are
-      (rounds_end scenario core depth most low (directions scenario) (lead_to_nodes scenario sound) (most + 2) (omega arith) next (begins next p))))
+      (rounds_end scenario costs depth most low (directions scenario) (lead_to_nodes scenario sound) (most + 2) (omega arith) next (begins next p))))
 
-pub settle_settles : (scenario : Scenario) (core : Core) → SoundScenario scenario → IsCoreOf scenario core → (world : World) → InStep scenario world → WorldStreams core world → (line : ℕ) (acts : List Happened) (next : World)
+pub settle_settles : (scenario : Scenario) (costs : Costs) → SoundScenario scenario → Present scenario costs → (world : World) → InStep scenario world → WorldSteady costs world → (line : ℕ) (acts : List Happened) (next : World)
     → outcome world (record { line = line; event = events.Settle }) ≡ Done acts next → IsSettled next
-settle_settles scenario core sound is_core world s streams line acts next e = elim (cases_lt 0 (length scenario.nodes)) [
-  | inl some ↦ subst (Comes IsSettled) e (subst (λ (own : Scenario). Comes IsSettled (settled_by own world)) (sym s.2.base.sound.same) (settles scenario core sound is_core some world s streams))
+settle_settles scenario costs sound present world s streams line acts next e = elim (cases_lt 0 (length scenario.nodes)) [
+  | inl some ↦ subst (Comes IsSettled) e (subst (λ (own : Scenario). Comes IsSettled (settled_by own world)) (sym s.2.base.sound.same) (settles scenario costs sound present some world s streams))
   | inr none ↦
       let after : InStep scenario next = turned_in_step enters scenario world s (record { line = line; event = events.Settle }) tt acts next e in
       counts_zero scenario next after.2.base.sound.same

@@ -22,7 +22,8 @@ use Rattle.label_defs.specs.LabelData.{Place, LabelData}
 use Rattle.label_defs.specs.Settled.{AllSettled}
 use Rattle.label_defs.specs.Settling as settling
 use Rattle.label_defs.specs.Steps as labels
-use Rattle.label_defs.specs.Steps.{effect, next_id, label_step}
+use Rattle.label_defs.specs.Steps.{effect, told, numbered, label_step}
+use Rattle.label_defs.specs.declared.end.End.{End}
 use Rattle.label_defs.specs.declared.put.Put as label_puts
 use Rattle.label_defs.specs.Members.{in_order}
 use Rattle.label_defs.proofs.KeyLemmas.{node_equal, fec_cmp_total}
@@ -41,13 +42,13 @@ use Rattle.edge_defs.specs.Edge.{Control, EdgeData}
 use Rattle.edge_defs.specs.Held.{put_to}
 use Rattle.edge_defs.specs.Keys.{Value}
 use Rattle.edge_defs.specs.Messages.{as_update}
-use Rattle.edge_defs.specs.Place.{EdgePlace, addr_of, upstream, label_place}
+use Rattle.edge_defs.specs.Place.{EdgePlace, addr_of, label_place}
 use Rattle.edge_defs.specs.Steps as steps
 use Rattle.edge_defs.specs.Steps.{LabelStep, EdgeStepped, control_step, own_label_call, changed_leaves, one_call, label_row, part_after, edge_step}
 use Rattle.edge_defs.specs.Tunnels.{leaves}
 use Rattle.calm_laws.proofs.Lists.{any_from}
-use Rattle.world_defs.specs.Nodes.{NodeState, Edge, CoreNode, Nodes, with_node, place_of, part_of}
-use Rattle.world_defs.specs.Puts.{bgp_put, bgp_puts, label_put, numbered_puts, label_puts as puts_of}
+use Rattle.world_defs.specs.Nodes.{NodeState, Edge, CoreNode, Nodes, with_node, place_of, label_place_of, part_of}
+use Rattle.node_defs.specs.Puts.{bgp_put, bgp_puts, label_put, label_puts as puts_of}
 use Rattle.world_defs.specs.System.{edge_stepped, core_called, node_called, call_of}
 use Rattle.world_defs.proofs.Nothing.{flat_none}
 use Rattle.world_laws.proofs.Lists.{each_append, each_of, each_map, each_flat, each_weaker}
@@ -113,7 +114,7 @@ edge_behind nodes n edge call row =
     let control = control_step (place_of nodes n) nodes.clock edge.control call in
     record {
       state = with_node nodes n (Edge (record { control = control; part = part_after edge.part row }));
-      puts = bgp_puts (place_of nodes n) edge.control control ++ flat_map (puts_of n (addr_of nodes.scenario n) (label_place nodes.scenario nodes.core n) nodes.clock) row;
+      puts = bgp_puts (place_of nodes n) edge.control control ++ flat_map (puts_of n (addr_of nodes.scenario n) (label_place_of nodes n) nodes.clock) row;
     }
 
 pub record EdgeRow (nodes : Nodes) (n : NodeId) (edge : EdgeData) (call : steps.Call) (new : Stepped Nodes) : Type 0 where
@@ -127,7 +128,7 @@ edge_row nodes n edge call new e =
     let control : Control = control_step place nodes.clock edge.control call in
     let stepped : EdgeStepped → Stepped Nodes = λ made. record {
       state = with_node nodes n (Edge made.edge);
-      puts = bgp_puts place edge.control made.edge.control ++ flat_map (puts_of n (addr_of nodes.scenario n) (label_place nodes.scenario nodes.core n) nodes.clock) made.row;
+      puts = bgp_puts place edge.control made.edge.control ++ flat_map (puts_of n (addr_of nodes.scenario n) (label_place_of nodes n) nodes.clock) made.row;
     } in
     let behind_row : List LabelStep → EdgeStepped = λ row. record { edge = record { control = control; part = part_after edge.part row }; row = row } in
     let calls : List labels.Call = one_call (own_label_call call) ++ changed_leaves (leaves place edge.control) (leaves place control) in
@@ -136,14 +137,14 @@ edge_row nodes n edge call new e =
     record { row = y.0; made = y.1; same = ap stepped (same_Some (behind_row y.0) x.0 y.2) ∙ same_Some (stepped x.0) new x.2 }
 
 core_made : (nodes : Nodes) (n : NodeId) (part : LabelData) (call : labels.Call) (new : Stepped Nodes) → core_called nodes n part (Some call) ≡ Some new
-    → (first : settling.Stepped) × (label_step (label_place nodes.scenario nodes.core n) nodes.clock part call ≡ Some first)
-    × (record { state = with_node nodes n (CoreNode first.part); puts = puts_of n (addr_of nodes.scenario n) (label_place nodes.scenario nodes.core n) nodes.clock (record { old = part; call = call; new = first }) } ≡ new)
+    → (first : settling.Stepped) × (label_step (label_place_of nodes n) nodes.clock part call ≡ Some first)
+    × (record { state = with_node nodes n (CoreNode first.part); puts = puts_of n (addr_of nodes.scenario n) (label_place_of nodes n) nodes.clock (record { old = part; call = call; new = first }) } ≡ new)
 core_made nodes n part call new e =
     let stepped : settling.Stepped → Stepped Nodes = λ first. record {
       state = with_node nodes n (CoreNode first.part);
-      puts = puts_of n (addr_of nodes.scenario n) (label_place nodes.scenario nodes.core n) nodes.clock (record { old = part; call = call; new = first });
+      puts = puts_of n (addr_of nodes.scenario n) (label_place_of nodes n) nodes.clock (record { old = part; call = call; new = first });
     } in
-    let x = bind_some (label_step (label_place nodes.scenario nodes.core n) nodes.clock part call) (λ first. Some (stepped first)) new e in
+    let x = bind_some (label_step (label_place_of nodes n) nodes.clock part call) (λ first. Some (stepped first)) new e in
     (x.0, x.1, same_Some (stepped x.0) new x.2)
 
 -- ---- what is put
@@ -156,14 +157,14 @@ module _ (depth : NodeId → Fec → ℕ) (most : ℕ) where
   abbrev pub AreBelow : ℕ → List Put → Type 0
   AreBelow bound puts = AllByRecursion (IsBelow bound) puts
 
-  numbered_below : (bound : ℕ) (me : NodeId) (addr : Addr) (ids : FinMap node_cmp ℕ) (puts : List label_puts.Put) → PutsBelow depth bound puts → AreBelow bound (numbered_puts me addr ids puts)
-  numbered_below bound me addr ids [] h = tt
-  numbered_below bound me addr ids (put ∷ more) h = by (λ ids'. numbered_below bound me addr ids' more h.1) (maps.get ids put.to)
+  numbered_below : (bound : ℕ) (me : NodeId) (addr : Addr) (ends : FinMap node_cmp End) (puts : List label_puts.Put) → PutsBelow depth bound puts → AreBelow bound (map (label_put me addr) (numbered ends puts))
+  numbered_below bound me addr ends [] h = tt
+  numbered_below bound me addr ends (put ∷ more) h = by (λ ends'. numbered_below bound me addr ends' more h.1) (maps.get ends put.to)
     where
-      by : ((ids' : FinMap node_cmp ℕ) → AreBelow bound (numbered_puts me addr ids' more)) → (o : Option ℕ)
-          → AreBelow bound (elim o [ None ↦ numbered_puts me addr ids more | Some id ↦ label_put me addr id put ∷ numbered_puts me addr (maps.insert ids put.to (next_id id)) more ])
-      by rest None = rest ids
-      by rest (Some id) = ((h.0, tt), rest (maps.insert ids put.to (next_id id)))
+      by : ((ends' : FinMap node_cmp End) → AreBelow bound (map (label_put me addr) (numbered ends' more))) → (o : Option End)
+          → AreBelow bound (map (label_put me addr) (elim o [ None ↦ numbered ends more | Some end ↦ record { id = end.next; put = put } ∷ numbered (maps.insert ends put.to (told end)) more ]))
+      by rest None = rest ends
+      by rest (Some end) = ((h.0, tt), rest (maps.insert ends put.to (told end)))
 
   pub label_low : ((n : NodeId) (fec : Fec) → depth n fec < most) → (n : NodeId) (m : LabelMessage) → label_rounds.rank depth n m < most + 1
   label_low low n (messages.Mapping fec label) = let x = low n fec in omega (arith, x)
@@ -176,7 +177,7 @@ module _ (depth : NodeId → Fec → ℕ) (most : ℕ) where
 
   row_below : ((n : NodeId) (fec : Fec) → depth n fec < most) → (me : NodeId) (addr : Addr) (place : Place) (now : ℕ) (row : List LabelStep) → AreBelow (most + 1) (flat_map (puts_of me addr place now) row)
   row_below low me addr place now row = each_flat (IsBelow (most + 1)) (puts_of me addr place now) row
-      (each_of (λ (step : LabelStep). AreBelow (most + 1) (puts_of me addr place now step)) (λ step. numbered_below (most + 1) me addr (effect place now step.old step.call).0.part.ids step.new.puts (any_below low step.new.puts)) row)
+      (each_of (λ (step : LabelStep). AreBelow (most + 1) (puts_of me addr place now step)) (λ step. numbered_below (most + 1) me addr (effect place now step.old step.call).0.part.ends step.new.puts (any_below low step.new.puts)) row)
 
   join_message : (change : Change Key Value) → IsJoin change → joins_only (changes_of (bgp_messages.Update (update_of (as_update change)))) ≡ true
   join_message (Reach key value) is = ap (λ (k : ℕ). (k == 7) && true) is
@@ -204,12 +205,12 @@ module _ (depth : NodeId → Fec → ℕ) (most : ℕ) where
     pub still : IsStill nodes b node
     pub puts : AreBelow bound new.puts
 
-  module _ (nodes : Nodes) (a b : NodeId) (low : (n : NodeId) (fec : Fec) → depth n fec < most) (nearer : (n v : NodeId) (fec : Fec) → upstream nodes.scenario nodes.core n fec ≡ Some v → depth v fec < depth n fec) (delay : 1 ≤ nodes.scenario.delay) where
+  module _ (nodes : Nodes) (a b : NodeId) (low : (n : NodeId) (fec : Fec) → depth n fec < most) (nearer : (n v : NodeId) (fec : Fec) → (label_place_of nodes n).upstream fec ≡ Some v → depth v fec < depth n fec) (delay : 1 ≤ nodes.scenario.delay) where
     abbrev place : EdgePlace
     place = place_of nodes b
 
     abbrev own_place : Place
-    own_place = label_place nodes.scenario nodes.core b
+    own_place = label_place_of nodes b
 
     -- a label message at an edge
     label_at_edge : (edge : EdgeData) (message : LabelMessage) (new : Stepped Nodes) → AllSettled own_place edge.part → IsStill nodes b (Edge edge) → edge_stepped nodes b edge (steps.Label a message) ≡ Some new → Answered nodes b (rank depth most b (Label message)) new
@@ -225,7 +226,7 @@ module _ (depth : NodeId → Fec → ℕ) (most : ℕ) where
         let puts : List LabelStep → List Put = flat_map (puts_of b (addr_of nodes.scenario b) own_place nodes.clock) in
         let answers : AreBelow bound (puts (record { old = edge.part; call = labels.Taken a message; new = x.new } ∷ [])) =
         each_append (IsBelow bound) (puts_of b (addr_of nodes.scenario b) own_place nodes.clock (record { old = edge.part; call = labels.Taken a message; new = x.new })) []
-        (numbered_below bound b (addr_of nodes.scenario b) (effect own_place nodes.clock edge.part (labels.Taken a message)).0.part.ids x.new.puts
+        (numbered_below bound b (addr_of nodes.scenario b) (effect own_place nodes.clock edge.part (labels.Taken a message)).0.part.ends x.new.puts
         (answers_below own_place nodes.clock edge.part depth a b settled (λ v fec up. nearer b v fec up) message x.new x.made)) tt in
         record {
           node = Edge (record { control = control; part = part_after edge.part r.row });
@@ -248,7 +249,7 @@ module _ (depth : NodeId → Fec → ℕ) (most : ℕ) where
           state = sym (ap (λ (s : Stepped Nodes). s.state) x.2);
           still = inner_rests own_place nodes.clock part (labels.Taken a message) x.0 tt still x.1;
           puts = subst (λ (s : Stepped Nodes). AreBelow bound s.puts) x.2
-              (numbered_below bound b (addr_of nodes.scenario b) (effect own_place nodes.clock part (labels.Taken a message)).0.part.ids x.0.puts
+              (numbered_below bound b (addr_of nodes.scenario b) (effect own_place nodes.clock part (labels.Taken a message)).0.part.ends x.0.puts
               (answers_below own_place nodes.clock part depth a b settled (λ v fec up. nearer b v fec up) message x.0 x.1));
         }
 
@@ -334,4 +335,4 @@ timers_run nodes n (Edge edge) new e =
     }
 timers_run nodes n (CoreNode part) new e =
     let x = core_made nodes n part labels.Timers new e in
-    record { node = CoreNode x.0.part; state = sym (ap (λ (s : Stepped Nodes). s.state) x.2); still = timers_rest (label_place nodes.scenario nodes.core n) nodes.clock part x.0 x.1 }
+    record { node = CoreNode x.0.part; state = sym (ap (λ (s : Stepped Nodes). s.state) x.2); still = timers_rest (label_place_of nodes n) nodes.clock part x.0 x.1 }

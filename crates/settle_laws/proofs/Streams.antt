@@ -1,16 +1,12 @@
--- In every run a stream holds back less than a whole unit, and the core stays what it is.
+-- In every run a stream holds back less than a whole unit.
 use Rattle.std.specs.Prelude.{⊤, Result, Ok, Err, take, drop, if◌then◌else◌}
 use Rattle.std.proofs.Common.{◌≡◌, ℕ, zero, suc, ◌+◌, ◌-◌, ◌&&◌, not, Bool, true, false, cond, List, [], ◌∷◌, ◌++◌, Option, Some, None, refl, sym, ap, subst, ◌∙◌}
+use Rattle.std.specs.List.{AllByRecursion}
 use Rattle.mv_base.specs.Number.{◌>>?◌}
 use Rattle.mv_base.specs.declared.ids.NodeId.{NodeId}
 use Rattle.framing.specs.Cut.{Front, Cut, with_front, cut_at}
 use Rattle.framing.specs.Cut.Front.{more, whole, bad}
 use Rattle.framing.specs.Feed.{Fed, fed, fed_unless, held_of, unfed}
-use Rattle.label_defs.specs.Settling as settling
-use Rattle.label_defs.specs.LabelData.{LabelData}
-use Rattle.world_defs.specs.Puts.{label_puts as puts_of}
-use Rattle.label_defs.specs.Steps as labels
-use Rattle.label_defs.specs.Steps.{label_step}
 use Rattle.scenario_defs.specs.declared.event.Timed.{Timed}
 use Rattle.scenario_defs.specs.declared.report.ReportLine.{ReportLine}
 use Rattle.scenario_defs.specs.declared.report.ReportLine.TheVariants as lines
@@ -22,17 +18,16 @@ use Rattle.session_defs.specs.System.{Stepped, Behind, with_earlier}
 use Rattle.session_defs.specs.declared.direction.Direction.{Direction}
 use Rattle.session_defs.proofs.Fronts.{stream_of}
 use Rattle.session_defs.proofs.Lines.{direction_is}
-use Rattle.edge_defs.specs.Place.{Core, addr_of, label_place}
-use Rattle.edge_defs.specs.Edge.{EdgeData}
+use Rattle.world_defs.specs.Costs.{Cores}
 use Rattle.edge_defs.specs.Steps as steps
-use Rattle.world_defs.specs.Acts.{Act, Tick, Timers, Move, Lose, Notice, RaiseFirst, RaiseSecond, Restart, At, Enter, Land, Drop, Tell, Acted, with_network, is_of_session, is_at, leads_to, is_from_peer, with_aged, act}
+use Rattle.world_defs.specs.Acts.{Act, Tick, Timers, Move, Lose, Notice, RaiseFirst, RaiseSecond, Restart, At, Enter, Land, Drop, Tell, SetCost, Reroute, Acted, with_network, is_of_session, is_at, leads_to, is_from_peer, with_aged, act}
 use Rattle.world_defs.specs.Counts.{direction}
 use Rattle.world_defs.specs.Nodes.{NodeState, Edge, CoreNode, Nodes, with_node}
 use Rattle.world_defs.specs.Run.{Traced, Runs}
-use Rattle.world_defs.specs.System.{NodeCall, Own, Elapse, Reset, system, node_called, core_called, edge_stepped, call_of}
+use Rattle.world_defs.specs.System.{NodeCall, Own, Elapse, Reset, Price, Follow, system}
 use Rattle.world_defs.specs.World.{World, start}
 use Rattle.world_defs.proofs.Kept.{Gives, enter_keeps, land_keeps}
-use Rattle.settle_laws.proofs.Steps.{edge_row}
+use Rattle.world_laws.proofs.Costs.{Costs, HasCosts, NetHas, IsSteady, IsSteadyOctetAct, run_net, act_costs}
 use Rattle.settle_laws.proofs.Everywhere.{runs_holds}
 
 -- ---- what is held back
@@ -60,128 +55,127 @@ fed_partial front empty old piece None h =
 
 -- ---- octets
 
--- Each stream holds back less than a unit, and the core is this one.
-pub record Streams (core : Core) (network : OctetNetwork Nodes) : Type 0 where
+-- Each stream holds back less than a unit.
+pub record Streams (network : OctetNetwork Nodes) : Type 0 where
   pub partial : (over : Direction) → front_of over.kind (network.stream over).held ≡ more
-  pub core_is : network.state.core ≡ core
 
-abbrev pub StreamsBehind : Core → Option (Behind (OctetNetwork Nodes)) → Type 0
-StreamsBehind core None = ⊤
-StreamsBehind core (Some new) = Streams core new.network
+abbrev pub StreamsBehind : Option (Behind (OctetNetwork Nodes)) → Type 0
+StreamsBehind None = ⊤
+StreamsBehind (Some new) = Streams new.network
 
--- a step of nodes leaves the core
-abbrev CoreBehind : Core → Option (Stepped Nodes) → Type 0
-CoreBehind core None = ⊤
-CoreBehind core (Some new) = new.state.core ≡ core
+stepped_streams : (old : OctetNetwork Nodes) (o : Option (Stepped Nodes)) → Streams old → StreamsBehind (with_step old o)
+stepped_streams old None s = tt
+stepped_streams old (Some new) s = record { partial = s.partial }
 
-edge_core : (nodes : Nodes) (n : NodeId) (edge : EdgeData) (call : steps.Call) → CoreBehind nodes.core (edge_stepped nodes n edge call)
-edge_core nodes n edge call = by (edge_stepped nodes n edge call) refl
-  where
-    by : (o : Option (Stepped Nodes)) → edge_stepped nodes n edge call ≡ o → CoreBehind nodes.core o
-    by None e = tt
-    by (Some new) e = ap (λ (s : Stepped Nodes). s.state.core) (sym (edge_row nodes n edge call new e).same)
+earlier_streams : (puts : List _) (o : Option (Behind (OctetNetwork Nodes))) → StreamsBehind o → StreamsBehind (with_earlier puts o)
+earlier_streams puts None s = tt
+earlier_streams puts (Some new) s = s
 
-core_core : (nodes : Nodes) (n : NodeId) (part : LabelData) (o : Option labels.Call) → CoreBehind nodes.core (core_called nodes n part o)
-core_core nodes n part None = refl
-core_core nodes n part (Some call) = by (label_step (label_place nodes.scenario nodes.core n) nodes.clock part call)
-  where
-    by : (o : Option settling.Stepped) → CoreBehind nodes.core (o >>? λ new. Some (record { state = with_node nodes n (CoreNode new.part); puts = puts_of n (addr_of nodes.scenario n) (label_place nodes.scenario nodes.core n) nodes.clock (record { old = part; call = call; new = new }) }))
-    by None = tt
-    by (Some new) = refl
+on_streams : (o : Option (Behind (OctetNetwork Nodes))) (f : OctetNetwork Nodes → Option (Behind (OctetNetwork Nodes))) → StreamsBehind o → ((next : OctetNetwork Nodes) → Streams next → StreamsBehind (f next)) → StreamsBehind (o >>? λ next. with_earlier next.puts (f next.network))
+on_streams None f s h = tt
+on_streams (Some next) f s h = earlier_streams next.puts (f next.network) (h next.network s)
 
-called_core : (nodes : Nodes) (n : NodeId) (old : NodeState) (call : steps.Call) → CoreBehind nodes.core (node_called nodes n old call)
-called_core nodes n (Edge edge) call = edge_core nodes n edge call
-called_core nodes n (CoreNode part) call = core_core nodes n part (steps.own_label_call call)
-
-system_core : (call : NodeCall) (nodes : Nodes) → CoreBehind nodes.core (system.called call nodes)
-system_core (Own n call) nodes = called_core nodes n (nodes.node n) call
-system_core (Elapse ticks) nodes = refl
-system_core (Reset n) nodes = refl
-
-stepped_streams : (core : Core) (old : OctetNetwork Nodes) (o : Option (Stepped Nodes)) → Streams core old → CoreBehind old.state.core o → StreamsBehind core (with_step old o)
-stepped_streams core old None s c = tt
-stepped_streams core old (Some new) s c = record { partial = s.partial; core_is = c ∙ s.core_is }
-
-earlier_streams : (core : Core) (puts : List _) (o : Option (Behind (OctetNetwork Nodes))) → StreamsBehind core o → StreamsBehind core (with_earlier puts o)
-earlier_streams core puts None s = tt
-earlier_streams core puts (Some new) s = s
-
-on_streams : (core : Core) (o : Option (Behind (OctetNetwork Nodes))) (f : OctetNetwork Nodes → Option (Behind (OctetNetwork Nodes))) → StreamsBehind core o → ((next : OctetNetwork Nodes) → Streams core next → StreamsBehind core (f next)) → StreamsBehind core (o >>? λ next. with_earlier next.puts (f next.network))
-on_streams core None f s h = tt
-on_streams core (Some next) f s h = earlier_streams core next.puts (f next.network) (h next.network s)
-
-taken_streams : (core : Core) (over : Direction) (messages : List SessionMessage) (old : OctetNetwork Nodes) → Streams core old → StreamsBehind core (all_taken system old over messages)
-taken_streams core over [] old s = s
-taken_streams core over (message ∷ others) old s =
-    on_streams core (with_step old (system.taken over message old.state)) (λ next. all_taken system next over others)
-    (stepped_streams core old (system.taken over message old.state) s (called_core old.state over.to (old.state.node over.to) (call_of over.from message))) (λ next n. taken_streams core over others next n)
+taken_streams : (over : Direction) (messages : List SessionMessage) (old : OctetNetwork Nodes) → Streams old → StreamsBehind (all_taken system old over messages)
+taken_streams over [] old s = s
+taken_streams over (message ∷ others) old s =
+    on_streams (with_step old (system.taken over message old.state)) (λ next. all_taken system next over others)
+    (stepped_streams old (system.taken over message old.state) s) (λ next n. taken_streams over others next n)
 
 at_stream : (t : Bool) (kind : _) (new old : Stream) → (t ≡ true → front_of kind new.held ≡ more) → front_of kind old.held ≡ more → front_of kind (cond t new old).held ≡ more
 at_stream true kind new old h k = h refl
 at_stream false kind new old h k = k
 
-moved_streams : (core : Core) (old : OctetNetwork Nodes) (over : Direction) (count : ℕ) → Streams core old → StreamsBehind core (moved system old over count)
-moved_streams core old over count s =
+moved_streams : (old : OctetNetwork Nodes) (over : Direction) (count : ℕ) → Streams old → StreamsBehind (moved system old over count)
+moved_streams old over count s =
     let new = fed (front_of over.kind) (old.stream over) (take count (old.transit over)) in
     let left : OctetNetwork Nodes = record old {
       transit = λ other. if same_direction other over then drop count (old.transit over) else old.transit other;
       stream = λ other. if same_direction other over then record new { waiting = [] } else old.stream other;
     } in
-    taken_streams core over new.waiting left (record {
+    taken_streams over new.waiting left (record {
       partial = λ other. at_stream (same_direction other over) other.kind (record new { waiting = [] }) (old.stream other)
           (λ e. subst (λ (d : Direction). front_of d.kind new.held ≡ more) (sym (direction_is other over e)) (fed_partial (front_of over.kind) (stream_of over.kind).framing.empty (old.stream over) (take count (old.transit over)) (old.stream over).fault (s.partial over)))
           (s.partial other);
-      core_is = s.core_is;
     })
 
-act_streams : (core : Core) (one : OctetAct NodeCall) (old : OctetNetwork Nodes) → Streams core old → StreamsBehind core (octet_act system old one)
-act_streams core (octets.Move over count) old s =
-    elim (old.joined over) as (λ b. StreamsBehind core (cond b (moved system old over count) (Some (record { network = old; puts = [] })))) [ true ↦ moved_streams core old over count s | false ↦ s ]
-act_streams core (octets.Call call) old s = stepped_streams core old (system.called call old.state) s (system_core call old.state)
-act_streams core (octets.Lose hit) old s = record { partial = s.partial; core_is = s.core_is }
-act_streams core (octets.Forget hit) old s = record { partial = λ over. at_stream (hit over && not (old.joined over)) over.kind unfed (old.stream over) (λ e. (stream_of over.kind).framing.empty) (s.partial over); core_is = s.core_is }
-act_streams core (octets.Join hit) old s = record { partial = λ over. at_stream (hit over) over.kind unfed (old.stream over) (λ e. (stream_of over.kind).framing.empty) (s.partial over); core_is = s.core_is }
+act_streams : (one : OctetAct NodeCall) (old : OctetNetwork Nodes) → Streams old → StreamsBehind (octet_act system old one)
+act_streams (octets.Move over count) old s =
+    elim (old.joined over) as (λ b. StreamsBehind (cond b (moved system old over count) (Some (record { network = old; puts = [] })))) [ true ↦ moved_streams old over count s | false ↦ s ]
+act_streams (octets.Call call) old s = stepped_streams old (system.called call old.state) s
+act_streams (octets.Lose hit) old s = record { partial = s.partial }
+act_streams (octets.Forget hit) old s = record { partial = λ over. at_stream (hit over && not (old.joined over)) over.kind unfed (old.stream over) (λ e. (stream_of over.kind).framing.empty) (s.partial over) }
+act_streams (octets.Join hit) old s = record { partial = λ over. at_stream (hit over) over.kind unfed (old.stream over) (λ e. (stream_of over.kind).framing.empty) (s.partial over) }
 
-pub run_streams : (core : Core) (acts : List (OctetAct NodeCall)) (old : OctetNetwork Nodes) → Streams core old → StreamsBehind core (octet_run system old acts)
-run_streams core [] old s = s
-run_streams core (one ∷ others) old s = on_streams core (octet_act system old one) (λ next. octet_run system next others) (act_streams core one old s) (λ next n. run_streams core others next n)
+pub run_streams : (acts : List (OctetAct NodeCall)) (old : OctetNetwork Nodes) → Streams old → StreamsBehind (octet_run system old acts)
+run_streams [] old s = s
+run_streams (one ∷ others) old s = on_streams (octet_act system old one) (λ next. octet_run system next others) (act_streams one old s) (λ next n. run_streams others next n)
 
 -- ---- acts
 
-abbrev pub WorldStreams : Core → World → Type 0
-WorldStreams core world = Streams core world.network
+abbrev pub WorldStreams : World → Type 0
+WorldStreams world = Streams world.network
 
-network_streams : (core : Core) (world : World) (before : List ReportLine) (found : Option (Behind (OctetNetwork Nodes))) (node : NodeId) → StreamsBehind core found → Gives (WorldStreams core) (with_network world before found node)
-network_streams core world before None node h = tt
-network_streams core world before (Some new) node h = h
+network_streams : (world : World) (before : List ReportLine) (found : Option (Behind (OctetNetwork Nodes))) (node : NodeId) → StreamsBehind found → Gives (WorldStreams) (with_network world before found node)
+network_streams world before None node h = tt
+network_streams world before (Some new) node h = h
 
-aged_streams : (core : Core) (found : Result Acted NodeId) → Gives (WorldStreams core) found → Gives (WorldStreams core) (with_aged found)
-aged_streams core (Err node) h = tt
-aged_streams core (Ok new) h = h
+aged_streams : (found : Result Acted NodeId) → Gives (WorldStreams) found → Gives (WorldStreams) (with_aged found)
+aged_streams (Err node) h = tt
+aged_streams (Ok new) h = h
 
-at_streams : (core : Core) (world : World) (node : NodeId) (before : List ReportLine) (acts : List (OctetAct NodeCall)) → WorldStreams core world → Gives (WorldStreams core) (with_network world before (octet_run system world.network acts) node)
-at_streams core world node before acts s = network_streams core world before (octet_run system world.network acts) node (run_streams core acts world.network s)
+at_streams : (world : World) (node : NodeId) (before : List ReportLine) (acts : List (OctetAct NodeCall)) → WorldStreams world → Gives (WorldStreams) (with_network world before (octet_run system world.network acts) node)
+at_streams world node before acts s = network_streams world before (octet_run system world.network acts) node (run_streams acts world.network s)
 
-pub world_act_streams : (core : Core) (one : Act) (world : World) → WorldStreams core world → Gives (WorldStreams core) (act world one)
-world_act_streams core (Tick ticks) world s = aged_streams core (with_network world [] (octet_run system world.network (octets.Call (Elapse ticks) ∷ [])) (record { 0 = 0 })) (at_streams core world (record { 0 = 0 }) [] (octets.Call (Elapse ticks) ∷ []) s)
-world_act_streams core (Timers n) world s = at_streams core world n [] (octets.Call (Own n steps.Timers) ∷ []) s
-world_act_streams core (Move kind from to count) world s = at_streams core world to (lines.Take kind from to (take count (world.network.transit (direction kind from to))) ∷ []) (octets.Move (direction kind from to) count ∷ []) s
-world_act_streams core (Lose kind a b) world s = at_streams core world a [] (octets.Lose (is_of_session kind a b) ∷ []) s
-world_act_streams core (Notice kind a b) world s = at_streams core world a [] (octets.Forget (is_from_peer kind a b) ∷ octets.Call (Own a (steps.Noticed kind b)) ∷ []) s
-world_act_streams core (RaiseFirst kind a b) world s = at_streams core world a [] (octets.Join (is_of_session kind a b) ∷ octets.Call (Own a (steps.Raised kind b)) ∷ []) s
-world_act_streams core (RaiseSecond kind a b) world s = at_streams core world b [] (octets.Call (Own b (steps.Raised kind a)) ∷ []) s
-world_act_streams core (Restart n) world s = at_streams core world n [] (octets.Lose (is_at n) ∷ octets.Forget (leads_to n) ∷ octets.Call (Reset n) ∷ []) s
-world_act_streams core (At n call) world s = at_streams core world n [] (octets.Call (Own n call) ∷ []) s
-world_act_streams core (Enter vrf) world s = enter_keeps (Streams core) world vrf s
-world_act_streams core (Land from to place) world s = land_keeps (Streams core) world from to place s
-world_act_streams core (Drop from to place) world s = s
-world_act_streams core Tell world s = s
+pub world_act_streams : (one : Act) (world : World) → WorldStreams world → Gives (WorldStreams) (act world one)
+world_act_streams (Tick ticks) world s = aged_streams (with_network world [] (octet_run system world.network (octets.Call (Elapse ticks) ∷ [])) (record { 0 = 0 })) (at_streams world (record { 0 = 0 }) [] (octets.Call (Elapse ticks) ∷ []) s)
+world_act_streams (Timers n) world s = at_streams world n [] (octets.Call (Own n steps.Timers) ∷ []) s
+world_act_streams (Move kind from to count) world s = at_streams world to (lines.Take kind from to (take count (world.network.transit (direction kind from to))) ∷ []) (octets.Move (direction kind from to) count ∷ []) s
+world_act_streams (Lose kind a b) world s = at_streams world a [] (octets.Lose (is_of_session kind a b) ∷ []) s
+world_act_streams (Notice kind a b) world s = at_streams world a [] (octets.Forget (is_from_peer kind a b) ∷ octets.Call (Own a (steps.Noticed kind b)) ∷ []) s
+world_act_streams (RaiseFirst kind a b) world s = at_streams world a [] (octets.Join (is_of_session kind a b) ∷ octets.Call (Own a (steps.Raised kind b)) ∷ []) s
+world_act_streams (RaiseSecond kind a b) world s = at_streams world b [] (octets.Call (Own b (steps.Raised kind a)) ∷ []) s
+world_act_streams (Restart n) world s = at_streams world n [] (octets.Lose (is_at n) ∷ octets.Forget (leads_to n) ∷ octets.Call (Reset n) ∷ []) s
+world_act_streams (At n call) world s = at_streams world n [] (octets.Call (Own n call) ∷ []) s
+world_act_streams (Enter vrf) world s = enter_keeps Streams world vrf s
+world_act_streams (Land from to place) world s = land_keeps Streams world from to place s
+world_act_streams (Drop from to place) world s = s
+world_act_streams Tell world s = s
+world_act_streams (SetCost a b cost) world s = at_streams world a [] (octets.Call (Price a b cost) ∷ []) s
+world_act_streams (Reroute n) world s = at_streams world n [] (octets.Call (Follow n) ∷ []) s
 
 -- ---- runs
 
-pub runs_streams : (core : Core) (all : List Timed) (old : World) (number : ℕ) (trace : List Traced) (new : World) → WorldStreams core old → Runs old number all trace new → WorldStreams core new
-runs_streams core all old number trace new s run =
-    runs_holds (WorldStreams core) (world_act_streams core) (λ world datagrams h. record { partial = h.partial; core_is = h.core_is }) all old number trace new s run
+pub runs_streams : (all : List Timed) (old : World) (number : ℕ) (trace : List Traced) (new : World) → WorldStreams old → Runs old number all trace new → WorldStreams new
+runs_streams all old number trace new s run =
+    runs_holds (WorldStreams) (world_act_streams) (λ world datagrams h. record { partial = h.partial }) all old number trace new s run
 
-pub start_streams : (scenario : Scenario) (core : Core) → WorldStreams core (start scenario core)
-start_streams scenario core = record { partial = λ over. (stream_of over.kind).framing.empty; core_is = refl }
+pub start_streams : (scenario : Scenario) (cores : Cores) → WorldStreams (start scenario cores)
+start_streams scenario cores = record { partial = λ over. (stream_of over.kind).framing.empty }
+
+-- ---- with costs that stand still
+
+-- Each stream holds back less than a unit, and the costs are these.
+pub record Steady (costs : Costs) (network : OctetNetwork Nodes) : Type 0 where
+  pub streams : Streams network
+  pub costs_are : HasCosts costs network.state
+
+abbrev pub SteadyBehind : Costs → Option (Behind (OctetNetwork Nodes)) → Type 0
+SteadyBehind costs None = ⊤
+SteadyBehind costs (Some new) = Steady costs new.network
+
+both_behind : (costs : Costs) (o : Option (Behind (OctetNetwork Nodes))) → StreamsBehind o → NetHas costs o → SteadyBehind costs o
+both_behind costs None s h = tt
+both_behind costs (Some new) s h = record { streams = s; costs_are = h }
+
+pub run_steady : (costs : Costs) (acts : List (OctetAct NodeCall)) → AllByRecursion IsSteadyOctetAct acts → (old : OctetNetwork Nodes) → Steady costs old → SteadyBehind costs (octet_run system old acts)
+run_steady costs acts are old s = both_behind costs (octet_run system old acts) (run_streams acts old s.streams) (run_net costs acts are old s.costs_are)
+
+abbrev pub WorldSteady : Costs → World → Type 0
+WorldSteady costs world = Steady costs world.network
+
+pub act_steady : (costs : Costs) (one : Act) → IsSteady one → (world : World) → WorldSteady costs world → Gives (WorldSteady costs) (act world one)
+act_steady costs one is world s = by (act world one) (world_act_streams one world s.streams) (act_costs costs one is world s.costs_are)
+  where
+    by : (o : Result Acted NodeId) → Gives WorldStreams o → Gives (λ new. HasCosts costs new.network.state) o → Gives (WorldSteady costs) o
+    by (Err node) p q = tt
+    by (Ok new) p q = record { streams = p; costs_are = q }

@@ -13,9 +13,8 @@ use Rattle.session_defs.specs.Refined.{IsCarried, Keeps, deliveries}
 use Rattle.session_defs.specs.System.{Put, Stepped, System, MessageNetwork, Behind, messages_over, with_messages, with_earlier, delivered, message_act, message_run, Deliver}
 use Rattle.session_defs.specs.declared.direction.Direction.{Direction}
 use Rattle.session_defs.proofs.Lines.{all_both, own_direction, direction_is}
-use Rattle.edge_defs.specs.Place.{upstream}
 use Rattle.world_defs.specs.Counts.{direction}
-use Rattle.world_defs.specs.Nodes.{NodeState, Nodes}
+use Rattle.world_defs.specs.Nodes.{NodeState, Nodes, label_place_of}
 use Rattle.world_defs.specs.World.{Datagram}
 use Rattle.world_laws.specs.Sound.{Sound}
 use Rattle.world_laws.specs.Honest.{sound_system, SoundCall}
@@ -31,7 +30,7 @@ use Rattle.settle_laws.proofs.Steps.{IsStill, AreBelow, Answered, answered}
 
 -- the neighbour of a node towards the root of a tree is less deep in it
 abbrev pub IsNearer : (NodeId → Fec → ℕ) → Nodes → Type 0
-IsNearer depth nodes = (n v : NodeId) (fec : Fec) → upstream nodes.scenario nodes.core n fec ≡ Some v → depth v fec < depth n fec
+IsNearer depth nodes = (n v : NodeId) (fec : Fec) → (label_place_of nodes n).upstream fec ≡ Some v → depth v fec < depth n fec
 
 -- each node of the scenario is still
 abbrev pub AllStill : Scenario → Nodes → Type 0

@@ -3,7 +3,7 @@ use Rattle.std.specs.Prelude.{◌≡◌, ℕ, List, ◌++◌}
 use Rattle.scenario_defs.specs.declared.event.Event.TheVariants as events
 use Rattle.scenario_defs.specs.declared.event.Script.{Script}
 use Rattle.scenario_defs.specs.declared.event.Timed.{Timed}
-use Rattle.edge_defs.specs.Place.{Core}
+use Rattle.world_defs.specs.Costs.{Cores}
 use Rattle.world_defs.specs.Run.{Traced, Run}
 use Rattle.world_defs.specs.World.{World}
 
@@ -15,10 +15,10 @@ abbrev pub drain_at : ℕ → Timed
 drain_at line = record { line = line; event = events.Drain }
 
 -- A run of these events is the beginning of what happened, and the network behind it has a property.
-pub record IsBehind (core : Core) (script : Script) (events : List Timed) (trace : List Traced) (P : World → Type 0) : Type 0 where
+pub record IsBehind (cores : Cores) (script : Script) (events : List Timed) (trace : List Traced) (P : World → Type 0) : Type 0 where
   pub world : World
   pub first : List Traced
   pub rest : List Traced
   pub parts : trace ≡ first ++ rest
-  pub run : Run core script events first world
+  pub run : Run cores script events first world
   pub holds : P world

@@ -10,7 +10,8 @@ ghost use Rattle.scenario_defs.specs.declared.event.Timed.{Timed};
 ghost use Rattle.scenario_defs.specs.declared.report.ReportLine.TheVariants.{State};
 ghost use Rattle.edge_defs.specs.Edge.{Control};
 ghost use Rattle.edge_defs.specs.Held.{put_to};
-ghost use Rattle.edge_defs.specs.Place.{Core, EdgePlace};
+ghost use Rattle.edge_defs.specs.Place.{EdgePlace};
+ghost use Rattle.world_defs.specs.Costs.{Cores};
 ghost use Rattle.edge_defs.specs.Steps.{Update, Label, Timers, control_step};
 ghost use Rattle.world_defs.specs.Counts.{all_copies, datagrams_with_copy, octets_in_transit, due_timers, unready, state_line};
 ghost use Rattle.world_defs.specs.Events.{Happened, Done};
@@ -20,22 +21,22 @@ ghost use Rattle.world_laws.specs.SoundRun.{SoundRun};
 ghost use Rattle.settle_laws.specs.Behind.{IsBehind, settle_at, drain_at};
 ghost use Rattle.settle_laws.specs.Ranks.{IsFresh, IsQuietAt, joins_only, IsJoin};
 
-/// Behind a `settle` that comes next after a run of a sound scenario, by its core and by sound events, no octet is in transit and no
+/// Behind a `settle` that comes next after a run of a sound scenario, by its cores and by sound events, no octet is in transit and no
 /// timer is due, unless a node lacks a label on the way. So it is behind each `settle` within such a run.
 pub fn settle_settles()
-    ensures next { (core : Core) (script : Script) (events : List Timed) (trace : List Traced) (old new : World) (line : ℕ) →
-        (acts : List Happened) → SoundRun core script events trace old → outcome old (settle_at line) ≡ Done acts new → IsSettled new }
-    ensures within { (core : Core) (script : Script) (before after : List Timed) (line : ℕ) (trace : List Traced) (new : World) →
-        SoundRun core script (before ++ settle_at line ∷ after) trace new →
-        IsBehind core script (before ++ settle_at line ∷ []) trace IsSettled }
+    ensures next { (cores : Cores) (script : Script) (events : List Timed) (trace : List Traced) (old new : World) (line : ℕ) →
+        (acts : List Happened) → SoundRun cores script events trace old → outcome old (settle_at line) ≡ Done acts new → IsSettled new }
+    ensures within { (cores : Cores) (script : Script) (before after : List Timed) (line : ℕ) (trace : List Traced) (new : World) →
+        SoundRun cores script (before ++ settle_at line ∷ after) trace new →
+        IsBehind cores script (before ++ settle_at line ∷ []) trace IsSettled }
 {}
 
 /// Behind a `drain` that comes next after any run, and behind each one within a run, no copy is on a link. What was settled stays so.
 pub fn drain_drains()
-    ensures next { (core : Core) (script : Script) (events : List Timed) (trace : List Traced) (old new : World) (line : ℕ) →
-        (acts : List Happened) → Run core script events trace old → outcome old (drain_at line) ≡ Done acts new → IsDrained new }
-    ensures within { (core : Core) (script : Script) (before after : List Timed) (line : ℕ) (trace : List Traced) (new : World) →
-        Run core script (before ++ drain_at line ∷ after) trace new → IsBehind core script (before ++ drain_at line ∷ []) trace IsDrained }
+    ensures next { (cores : Cores) (script : Script) (events : List Timed) (trace : List Traced) (old new : World) (line : ℕ) →
+        (acts : List Happened) → Run cores script events trace old → outcome old (drain_at line) ≡ Done acts new → IsDrained new }
+    ensures within { (cores : Cores) (script : Script) (before after : List Timed) (line : ℕ) (trace : List Traced) (new : World) →
+        Run cores script (before ++ drain_at line ∷ after) trace new → IsBehind cores script (before ++ drain_at line ∷ []) trace IsDrained }
     ensures settled { (old new : World) (line : ℕ) (acts : List Happened) →
         IsSettled old → outcome old (drain_at line) ≡ Done acts new → IsSettled new }
 {}

@@ -5,7 +5,7 @@ use Rattle.std.proofs.lemmas.Bool.{cases_eq, cases_lt}
 use Rattle.mv_base.specs.declared.core_link.Link.{Link}
 use Rattle.mv_base.specs.declared.ids.NodeId.{NodeId}
 use Rattle.core_walks.specs.Costs.{joins, priced_if, with_cost}
-use Rattle.core_walks.specs.Topology.{HasCost}
+use Rattle.core_walks.specs.Topology.{HasCost, HasEnds}
 use Rattle.scenario_defs.specs.declared.scenario.Scenario.{Scenario}
 use Rattle.edge_defs.proofs.CoreLemmas.{one_core}
 use Rattle.world_defs.specs.Costs.{AreRepriced, Cores, no_core, AreCoresOf}
@@ -58,6 +58,26 @@ repriced_more (link ∷ more) (other ∷ others) a b cost h is = by (joins a b o
     by : (t : Bool) → AreRepriced more (with_cost a b cost others) → AreRepriced (link ∷ more) (priced_if t cost other ∷ with_cost a b cost others)
     by true rest = (h.0, h.1, is, rest)
     by false rest = (h.0, h.1, h.2, rest)
+
+-- they have costs, and the same ends
+pub repriced_costs : (links others : List Link) → AreRepriced links others → AllByRecursion HasCost others
+repriced_costs [] [] h = tt
+repriced_costs [] (other ∷ others) h = absurd h
+repriced_costs (link ∷ more) [] h = absurd h
+repriced_costs (link ∷ more) (other ∷ others) h = (h.2, repriced_costs more others h.3)
+
+pub repriced_ends : (nodes : ℕ) (links others : List Link) → AllByRecursion (HasEnds nodes) links → AreRepriced links others → AllByRecursion (HasEnds nodes) others
+repriced_ends nodes [] [] ends h = tt
+repriced_ends nodes [] (other ∷ others) ends h = absurd h
+repriced_ends nodes (link ∷ more) [] ends h = absurd h
+repriced_ends nodes (link ∷ more) (other ∷ others) ends h = (
+  record {
+    a = subst (λ (n : NodeId). n.0 < nodes) (sym h.0) ends.0.a;
+    b = subst (λ (n : NodeId). n.0 < nodes) (sym h.1) ends.0.b;
+    two = λ e. ends.0.two (ap (λ (n : NodeId). n.0) (sym h.0) ∙ e ∙ ap (λ (n : NodeId). n.0) h.1);
+  },
+  repriced_ends nodes more others ends.1 h.3,
+)
 
 -- ---- the cores of a scenario are one
 

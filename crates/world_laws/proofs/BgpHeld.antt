@@ -76,7 +76,7 @@ join_one place peer host flow None is up = tt
 join_one place peer host flow (Some (Site site)) is up = tt
 join_one place peer host flow (Some (Remote edge rd import source_as)) is up =
     if_found (edge.0 == peer.0) (keys.Mcast (afi_of flow.source) (routes.SourceJoin rd source_as flow.source flow.group), record { next_hop = own_addr place; comms = import_target import ∷ []; pmsi = None })
-    (join_fits rd source_as flow.source flow.group up.0 up.3 is.0 is.1, join_value_fits place import host up.1)
+    (join_fits rd source_as flow.source flow.group up.0 up.3 is, join_value_fits place import host up.1)
 
 -- ---- the routes of a VRF
 
@@ -97,7 +97,7 @@ module _ (place : EdgePlace) (control : Control) (scenario_is : SoundScenario pl
       let of_vrf : VrfPattern × Selected → Bool = λ (entry : VrfPattern × Selected). entry.0.vrf.0 == own.id.0 in
       let each : AllByRecursion (λ (entry : VrfPattern × Selected). FitsEntry (selective_entry own entry)) all = all_entries pattern_total (λ (key : VrfPattern) (selected : Selected). FitsEntry (selective_entry own (key, selected))) control.selections
       (λ key selected h. (let is : SoundPattern key.pattern = control_is.selections key selected h in
-      (selective_fits own.vrf.rd key.pattern.source key.pattern.group (own_addr place) fits.rd is.0 is.1 host, tunnel_fits place own.vrf (tunnel_number own.vrf selected.number) host fits))) in
+      (selective_fits own.vrf.rd key.pattern.source key.pattern.group (own_addr place) fits.rd is host, tunnel_fits place own.vrf (tunnel_number own.vrf selected.number) host fits))) in
       each_map FitsEntry (selective_entry own) (filter of_vrf all) (each_filter (λ (entry : VrfPattern × Selected). FitsEntry (selective_entry own entry)) of_vrf all each)
 
   abbrev active_entry : OwnVrf → Note → Key × Value
@@ -108,7 +108,7 @@ module _ (place : EdgePlace) (control : Control) (scenario_is : SoundScenario pl
       let of_vrf : Note → Bool = λ (note : Note). is_iface_of place.scenario own.id note.iface in
       let each : AllByRecursion (λ (note : Note). FitsEntry (active_entry own note)) (in_order control.notes) = each_in_order note_total (λ (note : Note). FitsEntry (active_entry own note)) control.notes
       (λ note h. (let is : IsFlow note.source note.group = control_is.notes note h in
-      (active_fits own.vrf.rd note.source note.group fits.rd is.0 is.1, plain_fits place own.vrf host fits))) in
+      (active_fits own.vrf.rd note.source note.group fits.rd is, plain_fits place own.vrf host fits))) in
       each_map FitsEntry (active_entry own) (notes_of place control own.id) (each_filter (λ (note : Note). FitsEntry (active_entry own note)) of_vrf (in_order control.notes) each)
 
   own_routes_fit : (own : OwnVrf) → FitsVrf own.vrf → AllByRecursion FitsEntry (routes_of place control own)

@@ -10,14 +10,14 @@ use Rattle.mv_base.specs.declared.addr.Addr.TheVariants.{V4, V6}
 use Rattle.mvpn_nlri.specs.declared.route.Afi.TheVariants.{Ipv4, Ipv6}
 use Rattle.route_targets.specs.declared.communities.ExtComm.{ExtComm}
 use Rattle.pmsi_attr.specs.declared.pmsi.Pmsi.{Pmsi}
-use Rattle.bgp_attributes.specs.Spelling.{pair, AreComms}
+use Rattle.bgp_attributes.specs.Spelling.{pair, mapped_front, AreComms}
 use Rattle.bgp_attributes.specs.declared.family.Family.{Family}
 use Rattle.bgp_attributes.specs.declared.family.Family.TheVariants as families
 use Rattle.bgp_attributes.specs.declared.key.Key.{Key}
 use Rattle.bgp_attributes.specs.declared.update.Advert.{Advert}
 use Rattle.bgp_attributes.specs.declared.update.Change as updates
 use Rattle.bgp_attributes.specs.declared.update.Message.TheVariants as messages
-use Rattle.bgp_update.specs.Written.{attribute, path_text, family_of, hop_of, key_text, advertised, withdrawn, comms_octets, reach_value, tunnel_text, advert_text, message_text, written, update_of, IsWritableKey, IsWritable, HasOctets, IsTunnel}
+use Rattle.bgp_update.specs.Written.{attribute, path_text, family_of, hop_of, key_text, advertised, withdrawn, comms_octets, reach_value, tunnel_text, advert_text, message_text, written, update_of, IsNextHop, IsWritableKey, IsWritable, HasOctets, IsTunnel}
 use Rattle.bgp_update.proofs.Appending.{message_octets}
 use Rattle.bgp_update.proofs.ReadsBack.{written_spells}
 use Rattle.table_defs.specs.declared.change.Change.{Change}
@@ -26,7 +26,7 @@ use Rattle.scenario_defs.specs.declared.event.Kind.TheVariants as kinds
 use Rattle.session_defs.specs.Message.{IsPut}
 use Rattle.edge_defs.specs.Keys.{Value}
 use Rattle.edge_defs.specs.Messages.{as_update}
-use Rattle.world_defs.specs.Puts.{update_unit}
+use Rattle.node_defs.specs.Puts.{update_unit}
 use Rattle.world_laws.specs.Sound.{IsHost, AreEight}
 use Rattle.world_laws.proofs.BgpOctets.{no_octets, octets_cons, octets_append, one_octet, repeated_octets, octets_of_16, octets_of_32, host_octets, host_length, comms_fit, comms_length, attribute_fits, attribute_length}
 
@@ -36,9 +36,9 @@ pub record FitsKey (key : Key) : Type 0 where
   pub writable : IsWritableKey key
   pub prefix : HasOctets key
   pub reach : IsOctets (key_text advertised key)
-  pub reach_few : length (key_text advertised key) ≤ 26
+  pub reach_few : length (key_text advertised key) ≤ 48
   pub unreach : IsOctets (key_text withdrawn key)
-  pub unreach_few : length (key_text withdrawn key) ≤ 26
+  pub unreach_few : length (key_text withdrawn key) ≤ 48
 
 pub record FitsTunnel (pmsi : Option Pmsi) : Type 0 where
   pub spelled : IsTunnel pmsi
@@ -60,24 +60,38 @@ IsBgpPut change = IsPut kinds.Bgp (update_unit change).messages (update_unit cha
 pair_fits : (f : Family) → IsOctets (pair f)
 pair_fits (families.Mcast Ipv4) = octets_append (to_be_bytes w16 1) (5 ∷ []) (octets_of_16 1) (one_octet 5 (omega arith))
 pair_fits (families.Mcast Ipv6) = octets_append (to_be_bytes w16 2) (5 ∷ []) (octets_of_16 2) (one_octet 5 (omega arith))
-pair_fits families.VpnIpv4 = octets_append (to_be_bytes w16 1) (128 ∷ []) (octets_of_16 1) (one_octet 128 (omega arith))
+pair_fits (families.Vpn Ipv4) = octets_append (to_be_bytes w16 1) (128 ∷ []) (octets_of_16 1) (one_octet 128 (omega arith))
+pair_fits (families.Vpn Ipv6) = octets_append (to_be_bytes w16 2) (128 ∷ []) (octets_of_16 2) (one_octet 128 (omega arith))
 
 pair_length : (f : Family) → length (pair f) ≡ 3
 pair_length f = refl
 
+mapped_fits : IsOctets mapped_front
+mapped_fits = octets_append (replicate 10 0) (0xFF ∷ 0xFF ∷ []) (repeated_octets 10 0 (omega arith)) (octets_cons 0xFF (0xFF ∷ []) (omega arith) (one_octet 0xFF (omega arith)))
+
 hop_fits : (f : Family) (addr : Addr) → IsHost addr → IsOctets (hop_of f addr)
 hop_fits (families.Mcast afi) addr h = octets_cons (length (addr_octets addr)) (addr_octets addr) (omega (arith, host_length addr h)) (host_octets addr h)
-hop_fits families.VpnIpv4 addr h =
+hop_fits (families.Vpn Ipv4) addr h =
     octets_cons (8 + length (addr_octets addr)) (replicate 8 0 ++ addr_octets addr) (omega (arith, host_length addr h))
     (octets_append (replicate 8 0) (addr_octets addr) (repeated_octets 8 0 (omega arith)) (host_octets addr h))
+hop_fits (families.Vpn Ipv6) (V4 octets) h =
+    octets_cons 24 (replicate 8 0 ++ (mapped_front ++ octets)) (omega arith)
+    (octets_append (replicate 8 0) (mapped_front ++ octets) (repeated_octets 8 0 (omega arith)) (octets_append mapped_front octets mapped_fits h.1))
+hop_fits (families.Vpn Ipv6) (V6 octets) h = absurd h
 
-hop_length : (f : Family) (addr : Addr) → IsHost addr → length (hop_of f addr) ≤ 13
+hop_length : (f : Family) (addr : Addr) → IsHost addr → length (hop_of f addr) ≤ 25
 hop_length (families.Mcast afi) addr h = omega (arith, host_length addr h)
-hop_length families.VpnIpv4 addr h = omega (arith, host_length addr h, length-append (replicate 8 0) (addr_octets addr))
+hop_length (families.Vpn Ipv4) addr h = omega (arith, host_length addr h, length-append (replicate 8 0) (addr_octets addr))
+hop_length (families.Vpn Ipv6) (V4 octets) h = omega (arith, h.0, length-append (replicate 8 0) (mapped_front ++ octets), length-append mapped_front octets)
+hop_length (families.Vpn Ipv6) (V6 octets) h = absurd h
 
 pub host_addr : (addr : Addr) → IsHost addr → IsAddr addr
 host_addr (V4 octets) h = h.0
 host_addr (V6 octets) h = absurd h
+
+host_hop : (f : Family) (addr : Addr) → IsHost addr → IsNextHop f addr
+host_hop f (V4 octets) h = (h.0, tt)
+host_hop f (V6 octets) h = absurd h
 
 are_comms : (comms : List ExtComm) → AllByRecursion (λ (comm : ExtComm). AreEight comm.0) comms → AreComms comms
 are_comms [] h = tt
@@ -106,7 +120,7 @@ module _ (key : Key) (value : Value) (k : FitsKey key) (v : FitsValue value) whe
       octets_append (pair f) (hop_of f value.next_hop ++ (0 ∷ key_text advertised key)) (pair_fits f)
       (octets_append (hop_of f value.next_hop) (0 ∷ key_text advertised key) (hop_fits f value.next_hop v.next_hop) (octets_cons 0 (key_text advertised key) (omega arith) k.reach))
 
-  value_length : length (reach_value advert) ≤ 43
+  value_length : length (reach_value advert) ≤ 77
   value_length = omega (arith, length-append (hop_of f value.next_hop) (0 ∷ key_text advertised key), hop_length f value.next_hop v.next_hop, k.reach_few)
 
   advert_fits : IsOctets (advert_text advert)
@@ -138,7 +152,7 @@ module _ (key : Key) (value : Value) (k : FitsKey key) (v : FitsValue value) whe
   reach_put =
       let change : updates.Change = as_update (Reach key value) in
       let few : length (written change) ≤ 4096 = message_few (advert_text advert) advert_length in
-      let writable : IsWritable change = record { key = k.writable; next_hop = host_addr value.next_hop v.next_hop; comms = are_comms value.comms v.comms; tunnel = v.tunnel.spelled } in
+      let writable : IsWritable change = record { key = k.writable; next_hop = host_hop f value.next_hop v.next_hop; comms = are_comms value.comms v.comms; tunnel = v.tunnel.spelled } in
       ((messages.Update (update_of change) ∷ [], refl, written_spells change writable k.prefix few), message_octets (advert_text advert) advert_fits)
 
 -- what withdraws it

@@ -1,24 +1,19 @@
--- The entries of an edge stay sound, and a group that an interface asks for is that of a sound entry.
-use Rattle.std.proofs.Common.{◌≡◌, ℕ, Bool, true, false, cond, not, ◌&&◌, inl, inr, List, [], ◌∷◌, ◌++◌, map, Option, Some, None, refl, sym, ◌∙◌}
+-- The entries of an edge stay sound.
+use Rattle.std.proofs.Common.{◌≡◌, ℕ, Bool, true, false, cond, List, [], ◌∷◌, ◌++◌, map, Option, Some, None, sym, ◌∙◌}
 use Rattle.std.specs.List.{AllByRecursion}
 use Rattle.std.specs.FinMap as maps
-use Rattle.std.proofs.lemmas.Bool.{or_cases, and_parts}
-use Rattle.mv_base.specs.declared.addr.Addr.{Addr}
 use Rattle.mv_base.specs.declared.ids.IfaceId.{IfaceId}
 use Rattle.pim_joinprune.specs.declared.group.Group.{Group}
 use Rattle.pim_joinprune.specs.declared.message.JoinPrune.{JoinPrune}
 use Rattle.pim_joinprune.specs.declared.source.JpSource.{JpSource}
-use Rattle.pim_joinprune.specs.declared.source.SourceKind.{SourceKind}
-use Rattle.pim_joinprune.specs.declared.source.SourceKind.TheVariants as kinds
 use Rattle.scenario_defs.specs.declared.event.IfaceEntry.{IfaceEntry}
-use Rattle.scenario_defs.specs.declared.event.JoinEntry.TheVariants as entries
 use Rattle.pim_defs.specs.declared.expiry.Expiry.{Expiry}
 use Rattle.pim_defs.specs.Expiry.{counts}
-use Rattle.pim_defs.specs.Mention.{entry_by, entry_of}
-use Rattle.pim_defs.specs.Entries.{Entries, expiry_at, expiry_then, named_in, with_expiries, applied, kept_at, asks}
+use Rattle.pim_defs.specs.Mention.{entry_of}
+use Rattle.pim_defs.specs.Entries.{Entries, expiry_then, named_in, with_expiries, applied, kept_at}
 use Rattle.pim_defs.proofs.EntriesLemmas.{get-kept}
 use Rattle.pim_defs.proofs.KeyLemmas.{entry_cmp_total, entry_cmp_exact}
-use Rattle.world_laws.specs.Sound.{IsHost, IsGroupAddr, SoundEntry}
+use Rattle.world_laws.specs.Sound.{SoundEntry}
 use Rattle.world_laws.specs.Honest.{SoundGroup, SoundMessage}
 use Rattle.world_laws.proofs.Lists.{each_append, each_map, each_flat, each_weaker}
 use Rattle.world_laws.proofs.Maps.{Each, all_entries, made_meets}
@@ -28,18 +23,11 @@ SoundAt at expiry = SoundEntry at.entry
 
 -- ---- messages
 
-sound_entry_by : (kind : SourceKind) (group addr : Addr) → IsGroupAddr group → IsHost addr → SoundEntry (entry_by kind group addr)
-sound_entry_by kinds.Sg group addr g h = (h, g)
-sound_entry_by kinds.Star group addr g h = g
-sound_entry_by kinds.Rpt group addr g h = (h, g)
-
 named_by_group : (iface : IfaceId) (group : Group) → SoundGroup group →
     AllByRecursion (λ (at : IfaceEntry). SoundEntry at.entry) (map (λ source. record { iface = iface; entry = entry_of group.group source }) (group.joins ++ group.prunes))
 named_by_group iface group sound =
     each_map (λ (at : IfaceEntry). SoundEntry at.entry) (λ (source : JpSource). record { iface = iface; entry = entry_of group.group source }) (group.joins ++ group.prunes)
-    (each_weaker (λ (source : JpSource). IsHost source.addr) (λ source. SoundEntry (entry_of group.group source))
-    (λ source h. sound_entry_by source.kind group.group source.addr sound.group_addr h)
-    (group.joins ++ group.prunes) (each_append (λ (source : JpSource). IsHost source.addr) group.joins group.prunes sound.joins sound.prunes))
+    (each_append (λ (source : JpSource). SoundEntry (entry_of group.group source)) group.joins group.prunes sound.joins sound.prunes)
 
 named_sound : (iface : IfaceId) (message : JoinPrune) → SoundMessage message → AllByRecursion (λ (at : IfaceEntry). SoundEntry at.entry) (named_in iface message)
 named_sound iface message sound =
@@ -73,23 +61,3 @@ passed false o expiry e = absurd cc
 
 pub kept_sound : (old : Entries) (now : ℕ) → Each SoundAt old → Each SoundAt (kept_at old now)
 kept_sound old now sound at expiry e = sound at expiry (passed (counts now (maps.get old at)) (maps.get old at) expiry (sym (get-kept old now at) ∙ e))
-
--- ---- what an interface asks for
-
-counted : (now : ℕ) (o : Option Expiry) → counts now o ≡ true → (expiry : Expiry) × (o ≡ Some expiry)
-counted now None h = absurd cc
-counted now (Some expiry) h = (expiry, refl)
-
-pub asked_group : (old : Entries) (iface : IfaceId) (source group : Addr) (active : Bool) (now : ℕ) → Each SoundAt old → asks old iface source group active now ≡ true → IsGroupAddr group
-asked_group old iface source group active now sound h =
-    elim (or_cases (counts now (expiry_at old iface (entries.Source source group)))
-    (counts now (expiry_at old iface (entries.Star group)) && not (counts now (expiry_at old iface (entries.Rpt source group))) && active) h) [
-      | inl e ↦
-          let found = counted now (expiry_at old iface (entries.Source source group)) e in
-          (sound (record { iface = iface; entry = entries.Source source group }) found.0 found.1).1
-      | inr e ↦
-          let front = (and_parts (counts now (expiry_at old iface (entries.Star group)) && not (counts now (expiry_at old iface (entries.Rpt source group)))) active e).0 in
-          let both = and_parts (counts now (expiry_at old iface (entries.Star group))) (not (counts now (expiry_at old iface (entries.Rpt source group)))) front in
-          let found = counted now (expiry_at old iface (entries.Star group)) both.0 in
-          sound (record { iface = iface; entry = entries.Star group }) found.0 found.1
-    ]

@@ -29,21 +29,21 @@ use Rattle.pim_defs.proofs.KeyLemmas.{entry_cmp_total}
 use Rattle.label_defs.proofs.KeyLemmas.{node_cmp_total}
 use Rattle.label_defs.proofs.MemberLemmas.{each_in_order}
 use Rattle.label_defs.specs.Members.{in_order}
-use Rattle.choice_defs.specs.Choice.{cost_by, best_route}
+use Rattle.choice_defs.specs.Choice.{best_route}
 use Rattle.choice_defs.specs.declared.origin.Origin.{Origin}
 use Rattle.choice_defs.specs.declared.origin.Origin.TheVariants as origins
 use Rattle.edge_defs.specs.Edge.{Note, VrfFlow, Import, Upstream, Site, Remote, TakenRoute, Taken, Control}
-use Rattle.edge_defs.specs.Flows.{flows_at, vrf_flows, with_upstream, possible_flows, joined_by, active_flows, active_from, noted_flow, is_active, is_flow, is_asking, ifaces_of}
+use Rattle.edge_defs.specs.Flows.{flows_at, vrf_flows, with_upstream, possible_flows, joined_by, active_flows, active_from, noted_flow, is_flow}
 use Rattle.edge_defs.specs.Imported.{FlowRoute, JoinBy, active_of, imported_active, import_in, source_as_in, found_in, only_one, join_by, taken_from, is_admitted}
 use Rattle.edge_defs.specs.Keys.{Value, key_cmp}
 use Rattle.edge_defs.specs.Originated.{is_iface_of, notes_of}
 use Rattle.edge_defs.specs.Place.{EdgePlace, OwnVrf, own_vrfs}
 use Rattle.edge_defs.specs.Upstream.{costs_of, known_routes, upstream_by, upstream_for}
 use Rattle.world_laws.specs.Sound.{IsHost, IsFlow, AreEight, SoundEntry, SoundUpstream, SoundKey, SoundValue, SoundTaken}
-use Rattle.world_laws.proofs.Lists.{each_append, each_of, each_map, each_flat, each_weaker, each_filtered, each_found, only_meets, passing}
+use Rattle.world_laws.proofs.Lists.{each_append, each_of, each_map, each_flat, each_weaker, each_filtered, each_found, only_meets}
 use Rattle.world_laws.proofs.Maps.{Each, AllEntries, all_entries, made_meets}
 use Rattle.edge_defs.proofs.KeyLemmas.{key_total, note_total, flow_total, flow_exact}
-use Rattle.world_laws.proofs.ControlEntries.{SoundAt, asked_group}
+use Rattle.world_laws.proofs.ControlEntries.{SoundAt}
 
 -- what a peer's table meets
 abbrev pub SoundPeer : NodeId → Taken → Type 0
@@ -128,18 +128,19 @@ upstream_sound place control own source group sound =
 
 -- ---- flows
 
--- a flow of IPv4, where its group is
-abbrev Likely : FlowRoute → Type 0
-Likely flow = IsHost flow.group → IsFlow flow.source flow.group
+-- a flow's source and group
+abbrev SoundFlowRoute : FlowRoute → Type 0
+SoundFlowRoute flow = IsFlow flow.source flow.group
 
-routed : (afi : Afi) (source group : Addr) → IsSource afi source → IsGroup afi group → IsOctets (addr_octets source) → IsOctets (addr_octets group) → IsHost group → IsFlow source group
-routed Ipv4 (V4 s) (V4 g) a b o p host = ((a, o), ((b.0, p), b.1))
-routed Ipv4 (V6 s) group a b o p host = absurd a
-routed Ipv4 (V4 s) (V6 g) a b o p host = absurd host
-routed Ipv6 source (V6 g) a b o p host = absurd host
-routed Ipv6 source (V4 g) a b o p host = absurd b.0
+routed : (afi : Afi) (source group : Addr) → IsSource afi source → IsGroup afi group → IsOctets (addr_octets source) → IsOctets (addr_octets group) → IsFlow source group
+routed Ipv4 (V4 s) (V4 g) a b o p = ((a, o), ((b.0, p), b.1), refl)
+routed Ipv4 (V6 s) group a b o p = absurd a
+routed Ipv4 (V4 s) (V6 g) a b o p = absurd b.0
+routed Ipv6 (V6 s) (V6 g) a b o p = ((a, o), ((b.0, p), b.1), refl)
+routed Ipv6 (V4 s) group a b o p = absurd a
+routed Ipv6 (V6 s) (V4 g) a b o p = absurd b.0
 
-active_sound : (key : Key) (flow : FlowRoute) → SoundKey key → active_of key ≡ Some flow → Likely flow
+active_sound : (key : Key) (flow : FlowRoute) → SoundKey key → active_of key ≡ Some flow → SoundFlowRoute flow
 active_sound (Unicast rd prefix) flow h e = absurd cc
 active_sound (Mcast afi (routes.Intra rd originator)) flow h e = absurd cc
 active_sound (Mcast afi (routes.Inter rd source_as)) flow h e = absurd cc
@@ -150,28 +151,28 @@ active_sound (Mcast afi (routes.SourceJoin rd source_as source group)) flow h e 
 active_sound (Mcast afi (routes.Other kind octets)) flow h e = absurd cc
 active_sound (Mcast afi (routes.Active rd source group)) flow h e =
     let same : record { source = source; group = group } ≡ flow = cc in
-    subst Likely same (routed afi source group h.0 h.1 h.2 h.3)
+    subst SoundFlowRoute same (routed afi source group h.0 h.1 h.2 h.3)
 
-imported_sound : (own : OwnVrf) (entry : Key × TakenRoute) (flow : FlowRoute) → SoundRoute entry.0 entry.1 → imported_active own.vrf entry ≡ Some flow → Likely flow
+imported_sound : (own : OwnVrf) (entry : Key × TakenRoute) (flow : FlowRoute) → SoundRoute entry.0 entry.1 → imported_active own.vrf entry ≡ Some flow → SoundFlowRoute flow
 imported_sound own entry flow h e =
     let one = bound (active_of entry.0) (λ found. only_if (is_admitted own.vrf entry.1.value.comms) found) flow e in
-    subst Likely (tested (is_admitted own.vrf entry.1.value.comms) one.0 flow one.2) (active_sound entry.0 one.0 h.0 one.1)
+    subst SoundFlowRoute (tested (is_admitted own.vrf entry.1.value.comms) one.0 flow one.2) (active_sound entry.0 one.0 h.0 one.1)
 
 by_entry : (own : Bool) (entry : JoinEntry) (flow : FlowRoute) → SoundEntry entry → elim entry [
   | entries.Source source group ↦ if own then Some (record { source = source; group = group }) else None
   | entries.Star group ↦ None
   | entries.Rpt source group ↦ None
-] ≡ Some flow → Likely flow
+] ≡ Some flow → SoundFlowRoute flow
 by_entry own (entries.Star group) flow h e = absurd cc
 by_entry own (entries.Rpt source group) flow h e = absurd cc
-by_entry own (entries.Source source group) flow h e = subst Likely (tested own (record { source = source; group = group }) flow e) (λ host. h)
+by_entry own (entries.Source source group) flow h e = subst SoundFlowRoute (tested own (record { source = source; group = group }) flow e) h
 
-joined_sound : (place : EdgePlace) (own : OwnVrf) (at : IfaceEntry) (flow : FlowRoute) → SoundEntry at.entry → joined_by place own at ≡ Some flow → Likely flow
+joined_sound : (place : EdgePlace) (own : OwnVrf) (at : IfaceEntry) (flow : FlowRoute) → SoundEntry at.entry → joined_by place own at ≡ Some flow → SoundFlowRoute flow
 joined_sound place own at = by_entry (is_iface_of place.scenario own.id at.iface) at.entry
 
-peer_sound : (own : OwnVrf) (peer : NodeId × Taken) → SoundTaken peer.1 → AllByRecursion Likely (active_from own peer)
+peer_sound : (own : OwnVrf) (peer : NodeId × Taken) → SoundTaken peer.1 → AllByRecursion SoundFlowRoute (active_from own peer)
 peer_sound own peer sound =
-    each_found (λ entry. SoundRoute entry.0 entry.1) Likely (imported_active own.vrf) (imported_sound own) (maps.entries peer.1) (all_entries key_total SoundRoute peer.1 sound)
+    each_found (λ entry. SoundRoute entry.0 entry.1) SoundFlowRoute (imported_active own.vrf) (imported_sound own) (maps.entries peer.1) (all_entries key_total SoundRoute peer.1 sound)
 
 -- The entries, the notes and the tables of the peers are sound.
 pub record SoundSources (control : Control) : Type 0 where
@@ -179,20 +180,20 @@ pub record SoundSources (control : Control) : Type 0 where
   pub notes : (note : Note) → sets.contains control.notes note ≡ true → SoundNote note
   pub peers : Each SoundPeer control.peers
 
-active_flows_sound : (place : EdgePlace) (control : Control) (own : OwnVrf) → SoundSources control → AllByRecursion Likely (active_flows place control own)
+active_flows_sound : (place : EdgePlace) (control : Control) (own : OwnVrf) → SoundSources control → AllByRecursion SoundFlowRoute (active_flows place control own)
 active_flows_sound place control own sound =
-    each_append Likely (map noted_flow (notes_of place control own.id)) (flat_map (active_from own) (maps.entries control.peers))
-    (each_map Likely noted_flow (notes_of place control own.id)
-    (each_weaker (λ note. SoundNote note × (is_iface_of place.scenario own.id note.iface ≡ true)) (λ note. Likely (noted_flow note)) (λ note h host. h.0) (notes_of place control own.id)
+    each_append SoundFlowRoute (map noted_flow (notes_of place control own.id)) (flat_map (active_from own) (maps.entries control.peers))
+    (each_map SoundFlowRoute noted_flow (notes_of place control own.id)
+    (each_weaker (λ note. SoundNote note × (is_iface_of place.scenario own.id note.iface ≡ true)) (λ note. SoundFlowRoute (noted_flow note)) (λ note h. h.0) (notes_of place control own.id)
     (each_filtered SoundNote (λ note. is_iface_of place.scenario own.id note.iface) (in_order control.notes) (each_in_order note_total SoundNote control.notes sound.notes))))
-    (each_flat Likely (active_from own) (maps.entries control.peers)
-    (each_weaker (λ peer. SoundPeer peer.0 peer.1) (λ peer. AllByRecursion Likely (active_from own peer)) (peer_sound own) (maps.entries control.peers)
+    (each_flat SoundFlowRoute (active_from own) (maps.entries control.peers)
+    (each_weaker (λ peer. SoundPeer peer.0 peer.1) (λ peer. AllByRecursion SoundFlowRoute (active_from own peer)) (peer_sound own) (maps.entries control.peers)
     (all_entries node_cmp_total SoundPeer control.peers sound.peers)))
 
-possible_sound : (place : EdgePlace) (control : Control) (own : OwnVrf) → SoundSources control → AllByRecursion Likely (possible_flows place control own)
+possible_sound : (place : EdgePlace) (control : Control) (own : OwnVrf) → SoundSources control → AllByRecursion SoundFlowRoute (possible_flows place control own)
 possible_sound place control own sound =
-    each_append Likely (found_in (joined_by place own) (maps.keys control.entries)) (active_flows place control own)
-    (each_found (λ at. SoundEntry at.entry) Likely (joined_by place own) (joined_sound place own) (maps.keys control.entries)
+    each_append SoundFlowRoute (found_in (joined_by place own) (maps.keys control.entries)) (active_flows place control own)
+    (each_found (λ at. SoundEntry at.entry) SoundFlowRoute (joined_by place own) (joined_sound place own) (maps.keys control.entries)
     (each_map (λ (at : IfaceEntry). SoundEntry at.entry) (λ e. e.0) (maps.entries control.entries) (all_entries entry_cmp_total SoundAt control.entries sound.entries)))
     (active_flows_sound place control own sound)
 
@@ -200,18 +201,13 @@ possible_sound place control own sound =
 abbrev pub SoundFlow : VrfFlow → Option Upstream → Type 0
 SoundFlow flow found = IsFlow flow.source flow.group × SoundUpstream found
 
-asked_sound : (place : EdgePlace) (now : ℕ) (control : Control) (own : OwnVrf) (flow : FlowRoute) → SoundSources control → Likely flow → is_flow place now control own flow ≡ true → IsFlow flow.source flow.group
-asked_sound place now control own flow sound likely e =
-    let iface = passing (is_asking place now control own flow.source flow.group) (ifaces_of place own) e in
-    likely (asked_group control.entries iface.0 flow.source flow.group (is_active place control own flow.source flow.group) now sound.entries iface.1).0
-
 vrf_flows_sound : (place : EdgePlace) (now : ℕ) (control : Control) (own : OwnVrf) → SoundSources control → AllEntries SoundFlow (vrf_flows place now control own)
 vrf_flows_sound place now control own sound =
     each_map (λ entry. SoundFlow entry.0 entry.1) (with_upstream place control own) (filter (is_flow place now control own) (possible_flows place control own))
-    (each_weaker (λ flow. Likely flow × (is_flow place now control own flow ≡ true)) (λ flow. IsFlow flow.source flow.group × SoundUpstream (upstream_for place control own flow.source flow.group))
-    (λ flow h. (asked_sound place now control own flow sound h.0 h.1, upstream_sound place control own flow.source flow.group sound.peers))
+    (each_weaker (λ flow. SoundFlowRoute flow × (is_flow place now control own flow ≡ true)) (λ flow. IsFlow flow.source flow.group × SoundUpstream (upstream_for place control own flow.source flow.group))
+    (λ flow h. (h.0, upstream_sound place control own flow.source flow.group sound.peers))
     (filter (is_flow place now control own) (possible_flows place control own))
-    (each_filtered Likely (is_flow place now control own) (possible_flows place control own) (possible_sound place control own sound)))
+    (each_filtered SoundFlowRoute (is_flow place now control own) (possible_flows place control own) (possible_sound place control own sound)))
 
 -- Each flow that some interface asks for is sound, and so is its upstream.
 pub flows_are_sound : (place : EdgePlace) (now : ℕ) (control : Control) → SoundSources control → Each SoundFlow (flows_at place now control)

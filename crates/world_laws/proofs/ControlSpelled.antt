@@ -60,15 +60,15 @@ route_sound afi (routes.Active rd source group) text s fits =
     let octets = active_octets rd.0 source group 5 (length (nlri.fields (routes.Active rd source group))) (subst IsOctets s.octets fits) in
     (s.route.1.0, s.route.1.1, octets.0, octets.1)
 
-unicast_sound : (rd : Rd) (prefix : Prefix) (text : List ℕ) → SpellsVpn rd prefix text → IsOctets text → AreEight rd.0
-unicast_sound rd prefix text s fits =
+unicast_sound : (afi : Afi) (rd : Rd) (prefix : Prefix) (text : List ℕ) → SpellsVpn afi rd prefix text → IsOctets text → AreEight rd.0
+unicast_sound afi rd prefix text s fits =
     (s.rd_len, IsOctets-before rd.0 s.octets (IsOctets-behind s.label (rd.0 ++ s.octets) (behind_one (88 + prefix.bits) (s.label ++ (rd.0 ++ s.octets)) (subst IsOctets s.parts fits))))
 
 key_sound : (family : Family) (key : Key) (text : List ℕ) → SpellsKey family key text → IsOctets text → SoundKey key
 key_sound (families.Mcast afi) (Mcast own route) text s fits = subst (λ (a : Afi). SoundKey (Mcast a route)) (sym s.0) (route_sound afi route text s.1 fits)
-key_sound families.VpnIpv4 (Unicast rd prefix) text s fits = unicast_sound rd prefix text s fits
+key_sound (families.Vpn afi) (Unicast rd prefix) text s fits = unicast_sound afi rd prefix text s fits
 key_sound (families.Mcast afi) (Unicast rd prefix) text s fits = absurd s
-key_sound families.VpnIpv4 (Mcast own route) text s fits = absurd s
+key_sound (families.Vpn afi) (Mcast own route) text s fits = absurd s
 
 unit_sound : (family : Family) (keys : List Key) (text : List ℕ) → SpellsUnit family keys text → IsOctets text → AllByRecursion SoundKey keys
 unit_sound family keys text s fits = subst (AllByRecursion SoundKey) (sym s.1) (key_sound family s.0 text s.2 fits, tt)

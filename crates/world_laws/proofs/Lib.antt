@@ -31,3 +31,4 @@ pub mod RunEvents
 pub mod Costs
 pub mod SteadyEvents
 pub mod KnownCosts
+pub mod Limits

@@ -157,8 +157,8 @@ done_stays world lines s (events.Lose kind a b) sound = row_stays (scenario_of w
 done_stays world lines s (events.Notice kind a b) sound = row_stays (scenario_of world) (Notice kind a b ∷ []) (sound, tt) world s
 done_stays world lines s (events.Raise kind a b) sound =
     row_stays (scenario_of world) (raises (sessions (scenario_of world)) kind a b) (raises_sound (scenario_of world) (sessions (scenario_of world)) kind a b (sessions_within (scenario_of world) lines)) world s
-done_stays world lines s (events.Join iface entry) sound = message_stays world lines (message_of (scenario_of world) (events.Join iface entry)) (join_is_sound (scenario_of world) lines iface entry sound.0 sound.1) s
-done_stays world lines s (events.Prune iface entry) sound = message_stays world lines (message_of (scenario_of world) (events.Prune iface entry)) (prune_is_sound (scenario_of world) lines iface entry sound.0 sound.1) s
+done_stays world lines s (events.Join iface entry) sound = message_stays world lines (message_of (scenario_of world) (events.Join iface entry)) (join_is_sound (scenario_of world) iface entry sound.1) s
+done_stays world lines s (events.Prune iface entry) sound = message_stays world lines (message_of (scenario_of world) (events.Prune iface entry)) (prune_is_sound (scenario_of world) iface entry sound.1) s
 done_stays world lines s (events.Pim iface octets) sound = message_stays world lines (message_of (scenario_of world) (events.Pim iface octets)) (read_is_sound iface octets sound) s
 done_stays world lines s (events.Active iface source group) sound =
     edge_stays (scenario_of world) (edge_of (scenario_of world) iface) (steps.Active iface source group) (edge_within (scenario_of world) lines iface) sound world s

@@ -7,6 +7,7 @@ use Rattle.core_walks.specs.Walks.{IsLinked}
 use Rattle.pim_joinprune.specs.declared.group.Group.{Group}
 use Rattle.pim_joinprune.specs.declared.message.JoinPrune.{JoinPrune}
 use Rattle.pim_joinprune.specs.declared.source.JpSource.{JpSource}
+use Rattle.pim_defs.specs.Mention.{entry_of}
 use Rattle.scenario_defs.specs.declared.event.Event.{Event}
 use Rattle.scenario_defs.specs.declared.event.Event.TheVariants as events
 use Rattle.scenario_defs.specs.declared.scenario.Scenario.{Scenario}
@@ -14,13 +15,12 @@ use Rattle.session_defs.specs.System.{System}
 use Rattle.edge_defs.specs.Steps as steps
 use Rattle.world_defs.specs.Nodes.{Nodes}
 use Rattle.world_defs.specs.System.{NodeCall, Own, Elapse, Reset, Price, Follow, system}
-use Rattle.world_laws.specs.Sound.{IsHost, IsGroupAddr, IsFlow, SoundEntry, SoundPattern}
+use Rattle.world_laws.specs.Sound.{IsFlow, SoundEntry, SoundPattern}
 
--- the groups of a Join/Prune message are multicast, and all its addresses are those of IPv4
+-- the entries that a group of a Join/Prune message names are sound
 pub record SoundGroup (group : Group) : Type 0 where
-  pub group_addr : IsGroupAddr group.group
-  pub joins : AllByRecursion (λ (source : JpSource). IsHost source.addr) group.joins
-  pub prunes : AllByRecursion (λ (source : JpSource). IsHost source.addr) group.prunes
+  pub joins : AllByRecursion (λ (source : JpSource). SoundEntry (entry_of group.group source)) group.joins
+  pub prunes : AllByRecursion (λ (source : JpSource). SoundEntry (entry_of group.group source)) group.prunes
 
 abbrev pub SoundMessage : JoinPrune → Type 0
 SoundMessage message = AllByRecursion SoundGroup message.groups

@@ -1,4 +1,5 @@
 pub mod Sound
 pub mod Costs
+pub mod Limits
 pub mod Honest
 pub mod SoundRun

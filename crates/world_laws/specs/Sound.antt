@@ -1,10 +1,10 @@
 -- What the values that nodes keep are made of, so that what they put is spelled (RFC 4271 section 4.3, RFC 6514 section 4, RFC 5036
 -- section 3): octets, addresses of their families, groups that are multicast.
-use Rattle.std.specs.Prelude.{◌≡◌, ◌<◌, ◌≤◌, ℕ, true, List, All, length, Option, Some}
+use Rattle.std.specs.Prelude.{◌≡◌, ◌<◌, ◌≤◌, ℕ, true, List, All, length, Option, Some, None}
 use Rattle.std.specs.List.{AllByRecursion}
 use Rattle.std.specs.FinMap as maps
 use Rattle.std.specs.FinSet as sets
-use Rattle.mv_base.specs.Address.{addr_octets}
+use Rattle.mv_base.specs.Address.{addr_octets, IsAddr}
 use Rattle.mv_base.specs.Octets.{IsOctets}
 use Rattle.mv_base.specs.declared.addr.Addr.{Addr}
 use Rattle.mv_base.specs.declared.addr.Addr.TheVariants.{V4, V6}
@@ -29,23 +29,28 @@ use Rattle.label_defs.specs.declared.label_use.LabelUse.TheVariants as uses
 use Rattle.edge_defs.specs.Edge.{Note, VrfPattern, Selected, VrfFlow, Upstream, Remote, TakenRoute, Taken, Control}
 use Rattle.edge_defs.specs.Imported.{lsp_of}
 use Rattle.edge_defs.specs.Keys.{Value}
+use Rattle.edge_defs.specs.Originated.{afi_of}
 use Rattle.world_defs.specs.Costs.{AreRepriced}
 use Rattle.world_defs.specs.Nodes.{NodeState, Edge, CoreNode, Nodes}
 
 -- ---- addresses and the like
 
--- an IPv4 address, in octets
+-- an address of a node, which is of IPv4, in octets
 abbrev pub IsHost : Addr → Type 0
 IsHost (V4 octets) = (length octets ≡ 4) × IsOctets octets
 IsHost (V6 octets) = ⊥
 
+-- an address of a customer, of either family, in octets
+abbrev pub IsCustomer : Addr → Type 0
+IsCustomer addr = IsAddr addr × IsOctets (addr_octets addr)
+
 -- a multicast one
 abbrev pub IsGroupAddr : Addr → Type 0
-IsGroupAddr addr = IsHost addr × IsMulticast addr
+IsGroupAddr addr = IsCustomer addr × IsMulticast addr
 
--- a source and a group
+-- a source and a group of one family
 abbrev pub IsFlow : Addr → Addr → Type 0
-IsFlow source group = IsHost source × IsGroupAddr group
+IsFlow source group = IsCustomer source × IsGroupAddr group × (afi_of source ≡ afi_of group)
 
 -- eight octets
 abbrev pub AreEight : List ℕ → Type 0
@@ -77,8 +82,14 @@ SoundEntry (entries.Star group) = IsGroupAddr group
 SoundEntry (entries.Source source group) = IsFlow source group
 SoundEntry (entries.Rpt source group) = IsFlow source group
 
+-- where a pattern has both, source and group are of one family
+abbrev pub AreAlike : Option Addr → Option Addr → Type 0
+AreAlike (Some source) (Some group) = afi_of source ≡ afi_of group
+AreAlike (Some source) None = Unit {0}
+AreAlike None group = Unit {0}
+
 abbrev pub SoundPattern : Pattern → Type 0
-SoundPattern pattern = IsAnyOr IsHost pattern.source × IsAnyOr IsGroupAddr pattern.group
+SoundPattern pattern = IsAnyOr IsCustomer pattern.source × IsAnyOr IsGroupAddr pattern.group × AreAlike pattern.source pattern.group
 
 abbrev pub SoundUpstream : Option Upstream → Type 0
 SoundUpstream (Some (Remote edge rd import source_as)) = AreEight rd.0 × IsHost import.addr × (import.number < 65536) × (source_as < 65536)

@@ -14,6 +14,7 @@ ghost use Rattle.world_defs.specs.Nodes.{Nodes, start_nodes};
 ghost use Rattle.world_defs.specs.Run.{Traced, Run};
 ghost use Rattle.world_defs.specs.World.{World};
 ghost use Rattle.world_laws.specs.Costs.{KnowCosts};
+ghost use Rattle.world_laws.specs.Limits.{AreWithin};
 ghost use Rattle.world_laws.specs.SoundRun.{SoundRun};
 ghost use Rattle.world_laws.specs.Sound.{SoundScenario, Sound};
 ghost use Rattle.world_laws.specs.Honest.{IsSoundEvent, SoundCall, sound_system};
@@ -58,4 +59,9 @@ pub fn runs_stay_sound()
 pub fn nodes_know_the_present_costs()
     ensures { (cores : Cores) (script : Script) (events : List Timed) (trace : List Traced) (new : World) →
         SoundRun cores script events trace new → KnowCosts script.scenario cores new.network.state }
+{}
+
+/// In every run, by whatever events, no edge holds more entries of its interfaces, notes or selections than its limits: 1,024, 256 and 256.
+pub fn limits_hold()
+    ensures { (cores : Cores) (script : Script) (events : List Timed) (trace : List Traced) (new : World) → Run cores script events trace new → AreWithin new }
 {}

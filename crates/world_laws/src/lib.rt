@@ -4,6 +4,6 @@
 mod laws;
 
 pub use laws::{
-    moves_of_the_network_deliver, nodes_are_honest, nodes_know_the_present_costs,
+    limits_hold, moves_of_the_network_deliver, nodes_are_honest, nodes_know_the_present_costs,
     octets_of_the_network_carry_messages, runs_stay_sound, start_is_sound,
 };

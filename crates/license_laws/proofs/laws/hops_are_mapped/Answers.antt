@@ -2,4 +2,4 @@ use Rattle.license_laws.proofs.Licensed.{run_kept}
 use Rattle.license_laws.proofs.laws.hops_are_mapped.Goals as goal
 
 pub returns : goal.returns
-returns c core script events trace new s = (run_kept script.scenario core events trace new s.scenario s.sound_events s.run).0.0.1
+returns c cores script events trace new s = (run_kept script.scenario cores events trace new s.scenario s.sound_events s.run).0.0.1

@@ -9,4 +9,4 @@ pub returns : goal.returns
 returns c =
     let ended = λ (expiry : Expiry). not (is_after expiry c.args.now) in
     c.count_due.ensures ∙ (ap (λ (l : List Expiry). count_by ended l) (c.as_slice.ensures ∙ c.values.ensures.rest)
-    ∙ (sym (count-map ended c.self.inside.entries.entries c.self.invariant) ∙ ap (λ (m : Entries). due m c.args.now) c.self.view_is))
+    ∙ (sym (count-map ended c.self.inside.entries.entries c.self.invariant.0) ∙ ap (λ (m : Entries). due m c.args.now) c.self.view_is))

@@ -1,0 +1,5 @@
+pub mod Asked
+pub mod Leaf
+pub mod Goes
+pub mod Quiet
+pub mod Known

@@ -24,7 +24,8 @@ edge_stepped nodes n edge call =
     edge_step (place_of nodes n) nodes.clock edge call >>? λ new.
     Some (record {
       state = with_node nodes n (Edge new.edge);
-      puts = bgp_puts (place_of nodes n) edge.control new.edge.control ++ flat_map (label_puts n (addr_of nodes.scenario n) (label_place_of nodes n) nodes.clock) new.row;
+      puts = bgp_puts (place_of nodes n) edge.control new.edge.control
+          ++ flat_map (label_puts n (addr_of nodes.scenario n) (label_place_of nodes n) nodes.clock) new.row;
     })
 
 -- a core node makes one label step

@@ -1,14 +1,12 @@
 -- The uses of labels as a list, beside what is kept of them.
-use Rattle.std.proofs.Common.{inl, inr, ◌⊎◌, ◌≡◌, ℕ, zero, suc, ◌+◌, ◌-◌, ◌<◌, ◌≤◌, Bool, true, false, cond, nat_lt, nat_le, List, [], ◌∷◌, map, slice_get, slice_set, Option, Some, None, option_map, is_some, refl, sym, ap, ◌∙◌, arith}
+use Rattle.std.proofs.Common.{inl, inr, ◌≡◌, ℕ, zero, suc, ◌+◌, ◌-◌, ◌<◌, ◌≤◌, Bool, true, false, cond, nat_lt, List, [], ◌∷◌, slice_get, slice_set, Option, Some, None, option_map, is_some, refl, sym, ap, ◌∙◌, arith}
 use Rattle.std.proofs.lemmas.Bool.{cases_lt, cond-true, cond-false, lt-ltb, le-ltb}
 use Rattle.std.proofs.lemmas.Option.{none-some, same_Some}
 use Rattle.mv_base.specs.declared.ids.NodeId.{NodeId}
 use Rattle.mldp_fec.specs.declared.fec.Fec.{Fec}
 use Rattle.label_defs.specs.declared.label_use.LabelUse.{LabelUse}
 use Rattle.label_defs.specs.declared.label_use.LabelUse.TheVariants as uses
-use Rattle.label_defs.specs.LabelData.{LabelData, fresh, is_free}
-use Rattle.label_defs.specs.Steps.{freed}
-use Rattle.label_defs.specs.Steps as steps
+use Rattle.label_defs.specs.LabelData.{LabelData, fresh}
 use Rattle.label_defs.proofs.UseLemmas.{mapped_none, mapped_some, free_none, free_some}
 use Rattle.tunnel_bindings.specs.declared.binding.Incarnation.{Incarnation}
 use Rattle.tunnel_bindings.specs.declared.name.BindingName.{BindingName}
@@ -17,9 +15,10 @@ use Rattle.tunnel_bindings.specs.declared.state.LabelState.{LabelState}
 use Rattle.tunnel_bindings.specs.declared.state.LabelState.TheVariants as states
 use Rattle.tunnel_bindings.specs.Labels.{Space, state_of, set_label, IsLeastFree, NoneFree}
 use Rattle.label_uses.specs.declared.held.Held.{Held}
+use Rattle.label_uses.specs.declared.table.Waiting.{Waiting}
 use Rattle.label_uses.specs.Uses.{use_in, set_use, free_in, mapped_in}
 use Rattle.label_uses.specs.Held.{use_held, use_by, uses_from, IsMapping, Holds}
-use Rattle.label_uses.proofs.HoldLemmas.{there, same_own, not_none}
+use Rattle.label_uses.proofs.HoldLemmas.{not_none}
 
 -- ---- one label changes
 
@@ -111,7 +110,7 @@ set_used labels label usage at = elim (cases_lt label 16) [
 abbrev part_of : List LabelUse → LabelData
 part_of labels = record (fresh 0) { labels = labels }
 
-module _ (space : Space) (f : ℕ → Option Held) (k : BindingName → Option AnyBinding) (s : NodeId → Option Incarnation) (g : Fec → Option ℕ) (holds : Holds (state_of space) f k s g) where
+module _ (space : Space) (f : ℕ → Option Held) (k : BindingName → Option AnyBinding) (s : NodeId → Option Incarnation) (g : Fec → Option ℕ) (w : Fec → Option Waiting) (holds : Holds (state_of space) f k s g w) where
   -- a label that is held
   pub use_of_held : (label : ℕ) (own : Held) → f label ≡ Some own → use_in (uses_from 16 f space.states) label ≡ Some (use_held own)
   use_of_held label own at = use_is space f label ∙ ap (option_map (λ st. use_by st (f label))) (holds.owned label own at) ∙ ap (λ (o : Option Held). Some (use_by states.Owned o)) at
@@ -198,9 +197,9 @@ module _ (space : Space) (f : ℕ → Option Held) (k : BindingName → Option A
           elim (cases_lt label other) [
             | inl lt ↦ absurd (x.lower label lt (use_free label least.free))
             | inr ge ↦ elim (cases_lt other label) [
-                | inl lt ↦ absurd (least.below other lt (state_free other x.free))
-                | inr le ↦ (let same : label ≡ other = omega (arith, ge, le) in ap (λ (l : ℕ). Some l) same ∙ sym e)
-              ]
+              | inl lt ↦ absurd (least.below other lt (state_free other x.free))
+              | inr le ↦ (let same : label ≡ other = omega (arith, ge, le) in ap (λ (l : ℕ). Some l) same ∙ sym e)
+            ]
           ]
 
   pub none_agrees : NoneFree space → None ≡ free_in (uses_from 16 f space.states)

@@ -1,8 +1,8 @@
 -- The labels of a session that is lost, one after another and all at once.
-use Rattle.std.proofs.Common.{inl, inr, ◌≡◌, ℕ, zero, suc, ◌+◌, ◌-◌, ◌≤◌, ◌||◌, Bool, true, false, cond, nat_eq, List, [], ◌∷◌, map, length, slice_get, slice_set, Option, Some, None, option_map, refl, sym, ap, subst, ◌∙◌, arith}
+use Rattle.std.proofs.Common.{inl, inr, ◌≡◌, ℕ, suc, ◌+◌, ◌-◌, ◌≤◌, ◌||◌, Bool, true, false, cond, nat_eq, List, [], ◌∷◌, map, slice_get, slice_set, Option, Some, None, option_map, refl, sym, ap, subst, ◌∙◌, arith}
 use Rattle.std.specs.List.{list_any}
 use Rattle.std.specs.Map.{lookup}
-use Rattle.std.proofs.lemmas.Bool.{cases_eq, cases_lt, cases_Bool, eq-eqb, ne_eqb}
+use Rattle.std.proofs.lemmas.Bool.{cases_eq, cases_lt, eq-eqb, ne_eqb}
 use Rattle.std.proofs.lemmas.Option.{slice_get-map, slice_get_within, same_Some, none-some}
 use Rattle.indexmap.specs.IndexMap.{get}
 use Rattle.mv_base.specs.declared.ids.NodeId.{NodeId}
@@ -16,7 +16,8 @@ use Rattle.tunnel_bindings.specs.declared.any_binding.AnyBinding.{AnyBinding}
 use Rattle.tunnel_bindings.specs.Labels.{Space, state_of}
 use Rattle.tunnel_bindings.proofs.NumbersLemmas.{get-set_same, get-set_other}
 use Rattle.label_uses.specs.declared.held.Held.{Held}
-use Rattle.label_uses.specs.Uses.{use_in, set_use, lost_at, lost_all}
+use Rattle.label_uses.specs.declared.table.Waiting.{Waiting}
+use Rattle.label_uses.specs.Uses.{use_in, lost_at, lost_all}
 use Rattle.label_uses.specs.Held.{is_node, use_held, uses_from, labels_toward, Holds}
 use Rattle.label_uses.proofs.ListLemmas.{use_low, use_high, use_of_held}
 use Rattle.label_uses.proofs.StepLemmas.{HeldMap, freed_own, lost_use, Idle, idle, idle_freed}
@@ -111,7 +112,7 @@ toward_listed peer (e ∷ es) label own at to = by (λ here. toward_listed peer 
     by behind false t at false u = ap (λ (b : Bool). list_any (λ l. nat_eq l label) (cond b (e.0 ∷ labels_toward peer es) (labels_toward peer es))) u
         ∙ behind (sym (ap (λ (b : Bool). cond b (Some e.1) (lookup (nat_eq label) es)) t) ∙ at)
 
-module _ (space : Space) (h : HeldMap) (k : BindingName → Option AnyBinding) (s : NodeId → Option Incarnation) (g : Fec → Option ℕ) (holds : Holds (state_of space) (get nat_eq h) k s g) (peer : NodeId) where
+module _ (space : Space) (h : HeldMap) (k : BindingName → Option AnyBinding) (s : NodeId → Option Incarnation) (g : Fec → Option ℕ) (w : Fec → Option Waiting) (holds : Holds (state_of space) (get nat_eq h) k s g w) (peer : NodeId) where
   pub lost_is : lost_all peer (uses_from 16 (get nat_eq h) space.states) (labels_toward peer h.entries) ≡ map (freed peer) (uses_from 16 (get nat_eq h) space.states)
   lost_is = same_lists _ _ (λ p. lost_all_get peer (labels_toward peer h.entries) labels p ∙ (by p (list_any (λ l. nat_eq l (16 + p)) (labels_toward peer h.entries)) refl ∙ sym (slice_get-map (freed peer) labels p)))
     where
@@ -124,7 +125,7 @@ module _ (space : Space) (h : HeldMap) (k : BindingName → Option AnyBinding) (
       held : (p : ℕ) (own : Held) → get nat_eq h (16 + p) ≡ Some own → (t : Bool) → is_node own.upstream peer ≡ t → list_any (λ l. nat_eq l (16 + p)) (labels_toward peer h.entries) ≡ false → slice_get labels p ≡ option_map (freed peer) (slice_get labels p)
       held p own at true to none = absurd (let no = toward_listed peer h.entries (16 + p) own at to in cc)
       held p own at false to none =
-          let is : slice_get labels p ≡ Some (use_held own) = sym (placed p) ∙ use_of_held space (get nat_eq h) k s g holds (16 + p) own at in
+          let is : slice_get labels p ≡ Some (use_held own) = sym (placed p) ∙ use_of_held space (get nat_eq h) k s g w holds (16 + p) own at in
           is ∙ (ap (λ (u : LabelUse). Some u) (sym (freed_own peer own false to)) ∙ sym (ap (option_map (freed peer)) is))
 
       stays : (p : ℕ) (o : Option Held) → get nat_eq h (16 + p) ≡ o → list_any (λ l. nat_eq l (16 + p)) (labels_toward peer h.entries) ≡ false → slice_get labels p ≡ option_map (freed peer) (slice_get labels p)
@@ -153,10 +154,10 @@ use_in-map f labels label = elim (cases_lt label 16) [
 ]
 
 -- no label is held towards the neighbour behind the loss
-pub none_toward : (space : Space) (h : HeldMap) (k : BindingName → Option AnyBinding) (s : NodeId → Option Incarnation) (g : Fec → Option ℕ) → Holds (state_of space) (get nat_eq h) k s g
+pub none_toward : (space : Space) (h : HeldMap) (k : BindingName → Option AnyBinding) (s : NodeId → Option Incarnation) (g : Fec → Option ℕ) (w : Fec → Option Waiting) → Holds (state_of space) (get nat_eq h) k s g w
     → (peer : NodeId) (old : List LabelUse) → uses_from 16 (get nat_eq h) space.states ≡ map (freed peer) old → (label : ℕ) (own : Held) → get nat_eq h label ≡ Some own → is_node own.upstream peer ≡ true → ⊥
-none_toward space h k s g holds peer old is label own at to =
-    by (use_in old label) (sym (use_in-map (freed peer) old label) ∙ (ap (λ (ls : List LabelUse). use_in ls label) (sym is) ∙ use_of_held space (get nat_eq h) k s g holds label own at))
+none_toward space h k s g w holds peer old is label own at to =
+    by (use_in old label) (sym (use_in-map (freed peer) old label) ∙ (ap (λ (ls : List LabelUse). use_in ls label) (sym is) ∙ use_of_held space (get nat_eq h) k s g w holds label own at))
   where
     by : (o : Option LabelUse) → option_map (freed peer) o ≡ Some (use_held own) → ⊥
     by None e = none-some (use_held own) e

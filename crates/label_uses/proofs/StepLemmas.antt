@@ -1,5 +1,5 @@
 -- The calls on the labels of a node, each as a change of what is kept and of what is seen.
-use Rattle.std.proofs.Common.{inl, inr, ◌⊎◌, ◌≡◌, ℕ, ◌+◌, ◌&&◌, Bool, true, false, not, cond, nat_eq, List, [], ◌∷◌, Option, Some, None, option_map, is_some, refl, sym, ap, subst, ◌∙◌, arith}
+use Rattle.std.proofs.Common.{inl, inr, ◌⊎◌, ◌≡◌, ℕ, ◌+◌, ◌&&◌, Bool, true, false, not, cond, nat_eq, List, [], ◌∷◌, Option, Some, None, option_map, refl, sym, ap, subst, ◌∙◌}
 use Rattle.std.specs.Prelude.{IfSome}
 use Rattle.std.specs.Map.{lookup}
 use Rattle.std.specs.FinMap as maps
@@ -8,8 +8,8 @@ use Rattle.std.specs.Ordering.{eq_by_cmp, is_eq}
 use Rattle.std.specs.Cmp.{tied_itself, Equal-is}
 use Rattle.std.specs.declared.hash.FoldHasher.{FoldHasher}
 use Rattle.std.specs.declared.hash.BuildHasherDefault.{BuildHasherDefault}
-use Rattle.std.proofs.lemmas.Bool.{cases_eq, cases_Bool, eq-eqb, ne_eqb}
-use Rattle.std.proofs.lemmas.Option.{same_Some, none-some}
+use Rattle.std.proofs.lemmas.Bool.{cases_eq, eq-eqb, ne_eqb}
+use Rattle.std.proofs.lemmas.Option.{same_Some}
 use Rattle.indexmap.specs.IndexMap.{IndexMap, get}
 use Rattle.mv_base.specs.declared.ids.NodeId.{NodeId}
 use Rattle.mldp_fec.specs.declared.fec.Fec.{Fec}
@@ -17,7 +17,6 @@ use Rattle.label_defs.specs.declared.label_use.LabelUse.{LabelUse}
 use Rattle.label_defs.specs.declared.label_use.LabelUse.TheVariants as uses
 use Rattle.label_defs.specs.Keys.{node_cmp}
 use Rattle.label_defs.specs.Steps.{freed, released}
-use Rattle.label_defs.specs.Settling.{upstream_of}
 use Rattle.label_defs.proofs.KeyLemmas.{node_cmp_total, node_cmp_exact}
 use Rattle.tunnel_bindings.specs.declared.binding.Incarnation.{Incarnation}
 use Rattle.tunnel_bindings.specs.declared.binding.Binding.{Binding}
@@ -34,17 +33,21 @@ use Rattle.tunnel_bindings.specs.States.{label_of}
 use Rattle.tunnel_bindings.proofs.LabelLemmas.{set-label, set-others, owned_taken, owned_behind}
 use Rattle.label_forwarding.proofs.SlotLemmas.{fec-ties}
 use Rattle.label_uses.specs.declared.held.Held.{Held}
+use Rattle.label_uses.specs.declared.table.Waiting.{Waiting}
 use Rattle.label_uses.specs.Uses.{use_in, set_use, lost_at, with_released}
 use Rattle.label_uses.specs.Held.{is_fec, is_node, use_held, use_by, uses_from, binding_of, left, rested, Holds}
 use Rattle.label_uses.proofs.TableLemmas.{Sets, sets_at, sets_label, sets_fec, name_kept, name_gone, state_set, one_fec}
-use Rattle.label_uses.proofs.HoldLemmas.{Leads, Leaves, same_own, not_none, holds_more, holds_less, holds_states, holds_sessions}
-use Rattle.label_uses.proofs.ListLemmas.{use_is, use_set, use_change, use_of_held, held_of_use, set_used}
+use Rattle.label_uses.proofs.HoldLemmas.{Leaves, same_own, not_none, holds_more, holds_less, holds_states}
+use Rattle.label_uses.proofs.ListLemmas.{use_is, use_set, held_of_use, set_used}
 
 abbrev pub HeldMap : Type 0
 HeldMap = IndexMap ℕ Held (BuildHasherDefault FoldHasher)
 
 abbrev pub TreeMap : Type 0
 TreeMap = IndexMap Fec ℕ (BuildHasherDefault FoldHasher)
+
+abbrev pub WaitingMap : Type 0
+WaitingMap = IndexMap Fec Waiting (BuildHasherDefault FoldHasher)
 
 abbrev pub SessionMap : Type 0
 SessionMap = IndexMap NodeId Incarnation (BuildHasherDefault FoldHasher)
@@ -74,11 +77,11 @@ pub session_seen : (sessions : SessionMap) (q : NodeId) → maps.get (maps.from_
 session_seen sessions q = maps.get-from_entries node_cmp_total sessions.entries q ∙ find-lookup sessions.entries q
 
 -- tables whose entries are the same
-pub same_tables : (space : Space) (h h' : HeldMap) (k : BindingName → Option AnyBinding) (s : NodeId → Option Incarnation) (m m' : TreeMap) → h'.entries ≡ h.entries → m'.entries ≡ m.entries
-    → Holds (state_of space) (get nat_eq h) k s (get is_fec m) → Holds (state_of space) (get nat_eq h') k s (get is_fec m')
-same_tables space h h' k s m m' he me holds =
-    subst (λ (es : List (ℕ × Held)). Holds (state_of space) (λ q. lookup (nat_eq q) es) k s (get is_fec m')) (sym he)
-    (subst (λ (es : List (Fec × ℕ)). Holds (state_of space) (get nat_eq h) k s (λ q. lookup (is_fec q) es)) (sym me) holds)
+pub same_tables : (space : Space) (h h' : HeldMap) (k : BindingName → Option AnyBinding) (s : NodeId → Option Incarnation) (m m' : TreeMap) (w : Fec → Option Waiting) → h'.entries ≡ h.entries → m'.entries ≡ m.entries
+    → Holds (state_of space) (get nat_eq h) k s (get is_fec m) w → Holds (state_of space) (get nat_eq h') k s (get is_fec m') w
+same_tables space h h' k s m m' w he me holds =
+    subst (λ (es : List (ℕ × Held)). Holds (state_of space) (λ q. lookup (nat_eq q) es) k s (get is_fec m') w) (sym he)
+    (subst (λ (es : List (Fec × ℕ)). Holds (state_of space) (get nat_eq h) k s (λ q. lookup (is_fec q) es) w) (sym me) holds)
 
 -- ---- a label is mapped
 
@@ -89,25 +92,25 @@ mapped_binding w m fec upstream name session label wanted mapped same =
     let l = sym same in
     ap bindings.Mapped (mapped ∙ λ i. record { fec = (wanted i).fec; upstream = (wanted i).upstream; state = record { label = l i; session = session } })
 
-pub map_holds : (space space' : Space) (h h' : HeldMap) (k k' : Kept) (s : NodeId → Option Incarnation) (m m' : TreeMap) (label : ℕ) (own : Held) (raise : Incarnation) (b : AnyBinding)
-    → Holds (state_of space) (get nat_eq h) (maps.get k) s (get is_fec m) → IsLeastFree space label → space' ≡ set_label space label states.Owned
+pub map_holds : (space space' : Space) (h h' : HeldMap) (k k' : Kept) (s : NodeId → Option Incarnation) (m m' : TreeMap) (w : Fec → Option Waiting) (label : ℕ) (own : Held) (raise : Incarnation) (b : AnyBinding)
+    → Holds (state_of space) (get nat_eq h) (maps.get k) s (get is_fec m) w → IsLeastFree space label → space' ≡ set_label space label states.Owned
     → ((other : ℕ) → get nat_eq h' other ≡ cond (nat_eq label other) (Some own) (get nat_eq h other))
     → maps.get k own.name ≡ None → k' ≡ maps.insert k own.name b → b ≡ binding_of label own raise → s own.upstream ≡ Some raise
     → get is_fec m own.fec ≡ None → ((other : Fec) → get is_fec m' other ≡ cond (is_fec own.fec other) (Some label) (get is_fec m other)) → own.leaving ≡ false
-    → Holds (state_of space') (get nat_eq h') (maps.get k') s (get is_fec m')
-map_holds space space' h h' k k' s m m' label own raise b holds least spaces held fresh kept binding up unmapped trees mapped =
+    → Holds (state_of space') (get nat_eq h') (maps.get k') s (get is_fec m') w
+map_holds space space' h h' k k' s m m' w label own raise b holds least spaces held fresh kept binding up unmapped trees mapped =
     let free = none_held (get nat_eq h label) refl in
     let sets = subst (λ (x : Space). Sets (state_of space) (state_of x) label (Some states.Owned)) (sym spaces) (state_set space label states.Free states.Owned least.free) in
     let names = subst (λ (x : Kept). Sets (maps.get k) (maps.get x) own.name (Some (binding_of label own raise))) (sym kept)
-        (subst (λ (x : AnyBinding). Sets (maps.get k) (maps.get (maps.insert k own.name b)) own.name (Some x)) binding (name_kept k own.name b)) in
+    (subst (λ (x : AnyBinding). Sets (maps.get k) (maps.get (maps.insert k own.name b)) own.name (Some x)) binding (name_kept k own.name b)) in
     let tree = sets_fec (get is_fec m) (get is_fec m') own.fec (Some label) trees in
-    holds_more (state_of space) (state_of space') (get nat_eq h) (get nat_eq h') (maps.get k) (maps.get k') s (get is_fec m) (get is_fec m') label own raise
-        holds free fresh up sets (sets_label (get nat_eq h) (get nat_eq h') label (Some own) held) names
-        (record {
-          more = λ fec other e. more tree fec other e;
-          still = λ fec other e. tree.others fec (λ is. not_none (get is_fec m fec) other e (ap (get is_fec m) is ∙ unmapped)) ∙ e;
-          mine = λ l. tree.here;
-        })
+    holds_more (state_of space) (state_of space') (get nat_eq h) (get nat_eq h') (maps.get k) (maps.get k') s (get is_fec m) (get is_fec m') w label own raise
+    holds free fresh up sets (sets_label (get nat_eq h) (get nat_eq h') label (Some own) held) names
+    (record {
+      more = λ fec other e. more tree fec other e;
+      still = λ fec other e. tree.others fec (λ is. not_none (get is_fec m fec) other e (ap (get is_fec m) is ∙ unmapped)) ∙ e;
+      mine = λ l. tree.here;
+    })
   where
     none_held : (o : Option Held) → get nat_eq h label ≡ o → o ≡ None
     none_held None e = refl
@@ -130,12 +133,12 @@ map_labels space space' h h' label own least spaces held =
     ∙ ap (λ (o : Option Held). set_use (uses_from 16 (get nat_eq h) space.states) label (use_by states.Owned o)) sets.here)
 
 -- a label that is taken, and given back
-pub back_holds : (space space' space'' : Space) (f : ℕ → Option Held) (k : BindingName → Option AnyBinding) (s : NodeId → Option Incarnation) (g : Fec → Option ℕ) (label : ℕ)
-    → Holds (state_of space) f k s g → IsLeastFree space label → space' ≡ set_label space label states.Owned → space'' ≡ set_label space' label states.Free → Holds (state_of space'') f k s g
-back_holds space space' space'' f k s g label holds least one two =
+pub back_holds : (space space' space'' : Space) (f : ℕ → Option Held) (k : BindingName → Option AnyBinding) (s : NodeId → Option Incarnation) (g : Fec → Option ℕ) (w : Fec → Option Waiting) (label : ℕ)
+    → Holds (state_of space) f k s g w → IsLeastFree space label → space' ≡ set_label space label states.Owned → space'' ≡ set_label space' label states.Free → Holds (state_of space'') f k s g w
+back_holds space space' space'' f k s g w label holds least one two =
     let both : space'' ≡ set_label (set_label space label states.Owned) label states.Free = two ∙ ap (λ (x : Space). set_label x label states.Free) one in
-    subst (λ (x : Space). Holds (state_of x) f k s g) (sym both)
-    (holds_states (state_of space) (state_of (set_label (set_label space label states.Owned) label states.Free)) f k s g holds
+    subst (λ (x : Space). Holds (state_of x) f k s g w) (sym both)
+    (holds_states (state_of space) (state_of (set_label (set_label space label states.Owned) label states.Free)) f k s g w holds
     (λ q e. owned_behind space q label e least)
     (λ q e. elim (cases_eq q label) [
       | inl is ↦ absurd (let here = set-label (set_label space label states.Owned) label states.Owned states.Free (owned_taken space label least) in
@@ -156,15 +159,15 @@ binding_label label own raise = by own.leaving
 pub owned_if : (space : Space) (b : AnyBinding) (label : ℕ) → label_of b ≡ Some label → IsOwned space label → IfSome (label_of b) (λ l. IsOwned space l)
 owned_if space b label is owned = subst (λ (o : Option ℕ). IfSome o (λ l. IsOwned space l)) (sym is) owned
 
-pub less_holds : (space space' : Space) (h h' : HeldMap) (k k' : Kept) (s : NodeId → Option Incarnation) (g g' : Fec → Option ℕ) (label : ℕ) (own : Held) (new : LabelState)
-    → Holds (state_of space) (get nat_eq h) (maps.get k) s g → get nat_eq h label ≡ Some own → (Some new ≡ Some states.Owned → ⊥) → space' ≡ set_label space label new
+pub less_holds : (space space' : Space) (h h' : HeldMap) (k k' : Kept) (s : NodeId → Option Incarnation) (g g' : Fec → Option ℕ) (w : Fec → Option Waiting) (label : ℕ) (own : Held) (new : LabelState)
+    → Holds (state_of space) (get nat_eq h) (maps.get k) s g w → get nat_eq h label ≡ Some own → (Some new ≡ Some states.Owned → ⊥) → space' ≡ set_label space label new
     → ((other : ℕ) → get nat_eq h' other ≡ cond (nat_eq label other) None (get nat_eq h other)) → k' ≡ maps.remove k own.name → Leaves g g' label
-    → Holds (state_of space') (get nat_eq h') (maps.get k') s g'
-less_holds space space' h h' k k' s g g' label own new holds at free spaces held kept leaves =
+    → Holds (state_of space') (get nat_eq h') (maps.get k') s g' w
+less_holds space space' h h' k k' s g g' w label own new holds at free spaces held kept leaves =
     let sets = subst (λ (x : Space). Sets (state_of space) (state_of x) label (Some new)) (sym spaces) (state_set space label states.Owned new (holds.owned label own at)) in
     let names = subst (λ (x : Kept). Sets (maps.get k) (maps.get x) own.name None) (sym kept) (name_gone k own.name) in
-    holds_less (state_of space) (state_of space') (get nat_eq h) (get nat_eq h') (maps.get k) (maps.get k') s g g' label own (Some new) holds at free sets
-        (sets_label (get nat_eq h) (get nat_eq h') label None held) names leaves
+    holds_less (state_of space) (state_of space') (get nat_eq h) (get nat_eq h') (maps.get k) (maps.get k') s g g' w label own (Some new) holds at free sets
+    (sets_label (get nat_eq h) (get nat_eq h') label None held) names leaves
 
 pub less_labels : (space space' : Space) (h h' : HeldMap) (label : ℕ) (old new : LabelState) → state_of space label ≡ Some old → space' ≡ set_label space label new
     → ((other : ℕ) → get nat_eq h' other ≡ cond (nat_eq label other) None (get nat_eq h other))
@@ -173,7 +176,7 @@ less_labels space space' h h' label old new at spaces held =
     let sets = sets_label (get nat_eq h) (get nat_eq h') label None held in
     ap (λ (x : Space). uses_from 16 (get nat_eq h') x.states) spaces ∙ use_set space (get nat_eq h) (get nat_eq h') label old new at sets.others
 
-module _ (st : ℕ → Option LabelState) (f : ℕ → Option Held) (k : BindingName → Option AnyBinding) (s : NodeId → Option Incarnation) (g : Fec → Option ℕ) (holds : Holds st f k s g) where
+module _ (st : ℕ → Option LabelState) (f : ℕ → Option Held) (k : BindingName → Option AnyBinding) (s : NodeId → Option Incarnation) (g : Fec → Option ℕ) (w : Fec → Option Waiting) (holds : Holds st f k s g w) where
   -- no tree leads to a label that is leaving
   pub leaves_alike : (g' : Fec → Option ℕ) (label : ℕ) (own : Held) → f label ≡ Some own → own.leaving ≡ true → ((fec : Fec) → g' fec ≡ g fec) → Leaves g g' label
   leaves_alike g' label own at gone alike = record {
@@ -330,10 +333,10 @@ pub record IsMapped (f : ℕ → Option Held) (label : ℕ) (fec : Fec) (upstrea
   pub tree : own.fec ≡ fec
   pub toward : own.upstream ≡ upstream
 
-pub mapped_own : (space : Space) (f : ℕ → Option Held) (k : BindingName → Option AnyBinding) (s : NodeId → Option Incarnation) (g : Fec → Option ℕ) → Holds (state_of space) f k s g
+pub mapped_own : (space : Space) (f : ℕ → Option Held) (k : BindingName → Option AnyBinding) (s : NodeId → Option Incarnation) (g : Fec → Option ℕ) (w : Fec → Option Waiting) → Holds (state_of space) f k s g w
     → (label : ℕ) (fec : Fec) (upstream : NodeId) → use_in (uses_from 16 f space.states) label ≡ Some (uses.Mapped fec upstream) → (own : Held) × IsMapped f label fec upstream own
-mapped_own space f k s g holds label fec upstream e =
-    let x = held_of_use space f k s g holds label (uses.Mapped fec upstream) e (λ u. absurd cc) (λ until u. absurd cc) in
+mapped_own space f k s g w holds label fec upstream e =
+    let x = held_of_use space f k s g w holds label (uses.Mapped fec upstream) e (λ u. absurd cc) (λ until u. absurd cc) in
     (x.0, by x.0 x.1 x.0.leaving refl x.2)
   where
     by : (own : Held) → f label ≡ Some own → (b : Bool) → own.leaving ≡ b → uses.Mapped fec upstream ≡ cond b (uses.Leaving own.fec own.upstream) (uses.Mapped own.fec own.upstream) → IsMapped f label fec upstream own
@@ -350,23 +353,23 @@ leaving_binding label own raise b fec upstream name is mapped tree toward = ap l
     by false e = refl
     by true e = absurd cc
 
-pub leave_holds : (space : Space) (h h' : HeldMap) (k k1 k' : Kept) (s : NodeId → Option Incarnation) (m m' : TreeMap) (label : ℕ) (own new : Held) (raise : Incarnation) (b : AnyBinding)
-    → Holds (state_of space) (get nat_eq h) (maps.get k) s (get is_fec m) → get nat_eq h label ≡ Some own → own.leaving ≡ false → new.leaving ≡ true
+pub leave_holds : (space : Space) (h h' : HeldMap) (k k1 k' : Kept) (s : NodeId → Option Incarnation) (m m' : TreeMap) (w : Fec → Option Waiting) (label : ℕ) (own new : Held) (raise : Incarnation) (b : AnyBinding)
+    → Holds (state_of space) (get nat_eq h) (maps.get k) s (get is_fec m) w → get nat_eq h label ≡ Some own → own.leaving ≡ false → new.leaving ≡ true
     → k1 ≡ maps.remove k own.name → maps.get k1 new.name ≡ None → k' ≡ maps.insert k1 new.name b → b ≡ binding_of label new raise → s new.upstream ≡ Some raise
     → ((other : ℕ) → get nat_eq h' other ≡ cond (nat_eq label other) (Some new) (get nat_eq h other)) → ((other : Fec) → get is_fec m' other ≡ cond (is_fec own.fec other) None (get is_fec m other))
-    → Holds (state_of space) (get nat_eq h') (maps.get k') s (get is_fec m')
-leave_holds space h h' k k1 k' s m m' label own new raise b holds at mapped gone one fresh two binding up held trees =
+    → Holds (state_of space) (get nat_eq h') (maps.get k') s (get is_fec m') w
+leave_holds space h h' k k1 k' s m m' w label own new raise b holds at mapped gone one fresh two binding up held trees =
     let f1 : ℕ → Option Held = λ l. cond (nat_eq label l) None (get nat_eq h l) in
     let st1 : ℕ → Option LabelState = λ l. cond (nat_eq label l) None (state_of space l) in
     let down = sets_at (state_of space) st1 label None (λ l. refl) in
     let less = sets_at (get nat_eq h) f1 label None (λ l. refl) in
     let names = subst (λ (x : Kept). Sets (maps.get k) (maps.get x) own.name None) (sym one) (name_gone k own.name) in
-    let middle = holds_less (state_of space) st1 (get nat_eq h) f1 (maps.get k) (maps.get k1) s (get is_fec m) (get is_fec m') label own None holds at (λ e. absurd cc) down less names
-        (leaves_cut (state_of space) (get nat_eq h) (maps.get k) s (get is_fec m) holds (get is_fec m') label own at mapped (sets_fec (get is_fec m) (get is_fec m') own.fec None trees)) in
+    let middle = holds_less (state_of space) st1 (get nat_eq h) f1 (maps.get k) (maps.get k1) s (get is_fec m) (get is_fec m') w label own None holds at (λ e. absurd cc) down less names
+    (leaves_cut (state_of space) (get nat_eq h) (maps.get k) s (get is_fec m) w holds (get is_fec m') label own at mapped (sets_fec (get is_fec m) (get is_fec m') own.fec None trees)) in
     let again = subst (λ (x : Kept). Sets (maps.get k1) (maps.get x) new.name (Some (binding_of label new raise))) (sym two)
-        (subst (λ (x : AnyBinding). Sets (maps.get k1) (maps.get (maps.insert k1 new.name b)) new.name (Some x)) binding (name_kept k1 new.name b)) in
+    (subst (λ (x : AnyBinding). Sets (maps.get k1) (maps.get (maps.insert k1 new.name b)) new.name (Some x)) binding (name_kept k1 new.name b)) in
     let more = sets_at (get nat_eq h) (get nat_eq h') label (Some new) held in
-    holds_more st1 (state_of space) f1 (get nat_eq h') (maps.get k1) (maps.get k') s (get is_fec m') (get is_fec m') label new raise middle less.here fresh up
-        (record { here = holds.owned label own at; others = λ other ne. sym (down.others other ne) })
-        (record { here = more.here; others = λ other ne. more.others other ne ∙ sym (less.others other ne) })
-        again (record { more = λ fec other e. inl e; still = λ fec other e. e; mine = λ l. absurd (let no : true ≡ false = sym gone ∙ l in cc) })
+    holds_more st1 (state_of space) f1 (get nat_eq h') (maps.get k1) (maps.get k') s (get is_fec m') (get is_fec m') w label new raise middle less.here fresh up
+    (record { here = holds.owned label own at; others = λ other ne. sym (down.others other ne) })
+    (record { here = more.here; others = λ other ne. more.others other ne ∙ sym (less.others other ne) })
+    again (record { more = λ fec other e. inl e; still = λ fec other e. e; mine = λ l. absurd (let no : true ≡ false = sym gone ∙ l in cc) })

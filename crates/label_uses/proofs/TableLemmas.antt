@@ -4,7 +4,7 @@ use Rattle.std.specs.Ordering.{eq_by_cmp}
 use Rattle.std.specs.Cmp.{Equal-is}
 use Rattle.std.specs.FinMap as maps
 use Rattle.std.specs.FinMap.{FinMap}
-use Rattle.std.proofs.lemmas.Bool.{cases_Bool, cases_eq, eq-eqb, ne_eqb}
+use Rattle.std.proofs.lemmas.Bool.{cases_Bool, eq-eqb, ne_eqb}
 use Rattle.mldp_fec.specs.declared.fec.Fec.{Fec}
 use Rattle.tunnel_bindings.specs.declared.name.BindingName.{BindingName}
 use Rattle.tunnel_bindings.specs.declared.any_binding.AnyBinding.{AnyBinding}
@@ -49,11 +49,14 @@ sets_at old new at value each = record {
 pub sets_label : (old new : ℕ → Option Held) (at : ℕ) (value : Option Held) → ((other : ℕ) → new other ≡ cond (nat_eq at other) value (old other)) → Sets old new at value
 sets_label old new at value each = sets_at old new at value each
 
-pub sets_fec : (old new : Fec → Option ℕ) (at : Fec) (value : Option ℕ) → ((other : Fec) → new other ≡ cond (is_fec at other) value (old other)) → Sets old new at value
-sets_fec old new at value each = record {
+pub sets_tree : {B : Type 0} (old new : Fec → Option B) (at : Fec) (value : Option B) → ((other : Fec) → new other ≡ cond (is_fec at other) value (old other)) → Sets old new at value
+sets_tree old new at value each = record {
   here = each at ∙ ap (λ (b : Bool). cond b value (old at)) (fec_itself at);
   others = λ other ne. each other ∙ ap (λ (b : Bool). cond b value (old other)) (apart_fec at other ne);
 }
+
+pub sets_fec : (old new : Fec → Option ℕ) (at : Fec) (value : Option ℕ) → ((other : Fec) → new other ≡ cond (is_fec at other) value (old other)) → Sets old new at value
+sets_fec old new at value each = sets_tree old new at value each
 
 pub name_kept : (old : FinMap name_cmp AnyBinding) (name : BindingName) (b : AnyBinding) → Sets (maps.get old) (maps.get (maps.insert old name b)) name (Some b)
 name_kept old name b = record {

@@ -5,13 +5,13 @@ ghost use Rattle.label_defs.specs.declared.label_use.LabelUse.TheVariants as use
 ghost use Rattle.label_defs.specs.LabelData.{is_rested};
 ghost use Rattle.label_defs.specs.Steps.{woken};
 ghost use Rattle.label_defs.specs.Settling.{upstream_of};
-ghost use Rattle.label_uses.specs.Uses.{Uses, unused, use_in, set_use, free_in, mapped_in, with_mapping, with_released, without, lost_at, lost_all, AreBindings};
+ghost use Rattle.label_uses.specs.Uses.{Uses, unused, use_in, set_use, free_in, mapped_in, with_mapped, with_released, without, lost_at, lost_all, AreBindings};
 ghost use Rattle.label_uses.specs.Held.{left, rested};
 ghost use Rattle.tunnel_bindings.specs.Labels.{IsOwned};
 ghost use Rattle.tunnel_bindings.specs.States.{label_of};
 
 use crate::held::{Held, HeldLabels, is_leaving_to, labels_toward};
-use crate::table::{MappedTrees, Sessions};
+use crate::table::{MappedTrees, Sessions, Waiting, WaitingTrees};
 use crate::{held, table};
 use indexmap::IndexMap;
 use mldp_fec::Fec;
@@ -20,15 +20,17 @@ use std::alloc::Global;
 use std::marker::Model;
 use tunnel_bindings::{AnyBinding, Binding, Bindings, Incarnation, LabelSpace, Wanted};
 
-/// The labels of a node. Contracts see what each is used for. It must be closed.
+/// The labels of a node. Contracts see what each is used for, and which trees wait for one. It must be closed.
 ///
-/// Each label that is mapped or leaving has a binding of its own, which was told over the present raise of its session.
+/// Each label that is mapped or leaving has a binding of its own, which was told over the present raise of its session, and so
+/// has each tree that waits.
 pub struct LabelUses {
     alloc: Global,
     space: LabelSpace,
     bindings: Bindings,
     held: HeldLabels,
     mapped: MappedTrees,
+    waiting: WaitingTrees,
     sessions: Sessions,
 }
 
@@ -36,18 +38,19 @@ impl Model for LabelUses {
     ghost use Rattle.std.specs.Prelude.{nat_eq};
     ghost use Rattle.std.specs.FinMap as maps;
     ghost use Rattle.indexmap.specs.IndexMap.{get};
-    ghost use Rattle.label_defs.specs.LabelData.{first_label};
     ghost use Rattle.tunnel_bindings.specs.Labels.{state_of};
     ghost use Rattle.label_uses.specs.Uses.{Uses, uses_code};
-    ghost use Rattle.label_uses.specs.Held.{Holds, uses_from, is_fec, is_node};
+    ghost use Rattle.label_uses.specs.Held.{Holds, seen, is_fec, is_node};
 
     ghost Value = { Uses };
 
     ghost coded = { uses_code };
 
-    ghost view = { λ u. record { life = u.space.life; labels = uses_from first_label (get nat_eq u.held) u.space.states; sessions = maps.from_entries u.sessions.entries } };
+    ghost view = { λ u. seen u.space (get nat_eq u.held) u.waiting.entries u.sessions.entries };
 
-    ghost invariant = { λ u. Holds (state_of u.space) (get nat_eq u.held) (maps.get u.bindings.kept) (get is_node u.sessions) (get is_fec u.mapped) };
+    ghost invariant = { λ u.
+        Holds (state_of u.space) (get nat_eq u.held) (maps.get u.bindings.kept) (get is_node u.sessions) (get is_fec u.mapped)
+        (get is_fec u.waiting) };
 }
 
 /// The binding behind its withdraw.
@@ -86,6 +89,7 @@ impl LabelUses {
             bindings: Bindings::of(alloc),
             held: IndexMap::new(alloc),
             mapped: IndexMap::new(alloc),
+            waiting: IndexMap::new(alloc),
             sessions: IndexMap::new(alloc),
         })
     }
@@ -99,13 +103,44 @@ impl LabelUses {
         Ok(())
     }
 
-    /// Maps the least free label to the tree, towards the neighbour. `None` where no label is free.
+    /// The tree waits for a label towards the neighbour from now on.
+    pub fn wait(&mut self, fec: &Fec, upstream: NodeId) -> Result<(), NoMemory>
+        ensures { OnOk result (self.new ≡ record self.old { waiting = maps.insert self.old.waiting fec.now upstream }) }
+    {
+        self.unwait(fec);
+        self.waiting.reserve(1)?;
+        let wanted = Binding::<Wanted>::new(*fec, upstream);
+        match self.bindings.keep(AnyBinding::Wanted(wanted)) {
+            Err(back) => {
+                back.end(&mut self.space);
+                Err(NoMemory)
+            }
+            Ok(name) => {
+                table::note_waiting(&mut self.waiting, fec, Waiting { upstream, name });
+                Ok(())
+            }
+        }
+    }
+
+    /// The tree waits no longer.
+    pub fn unwait(&mut self, fec: &Fec)
+        ensures { self.new ≡ record self.old { waiting = maps.remove self.old.waiting fec.now } }
+    {
+        if let Some(own) = self.waiting.get(fec).copied() {
+            let binding = self.bindings.take(own.name).unwrap();
+            table::forget_waiting(&mut self.waiting, fec);
+            binding.end(&mut self.space);
+        }
+    }
+
+    /// Maps the least free label to the tree, towards the neighbour; the tree waits no longer. `None` where no label is free.
     pub fn map(&mut self, fec: &Fec, upstream: NodeId) -> Result<Option<u32>, NoMemory>
         requires up { is_some (maps.get self.old.sessions upstream) ≡ true }
         requires unmapped { mapped_in self.old.labels fec.now ≡ None }
         ensures least { IfOk result (λ label. label ≡ free_in self.old.labels) }
-        ensures mapped { IfOk result (λ label. self.new ≡ record self.old { labels = with_mapping self.old.labels label fec.now upstream }) }
+        ensures mapped { IfOk result (λ label. self.new ≡ with_mapped self.old label fec.now upstream) }
     {
+        self.unwait(fec);
         let session = self.sessions.get(&upstream).copied().unwrap();
         self.held.reserve(1)?;
         self.mapped.reserve(1)?;
@@ -234,8 +269,15 @@ impl LabelUses {
         }
     }
 
-    /// The bindings, each under its name: each mapped or leaving label has exactly one, told over the present raise of its
-    /// session, and there is no other.
+    /// Whether the session with the neighbour is up.
+    pub fn is_up(&self, peer: NodeId) -> bool
+        ensures { result ≡ is_some (maps.get self.now.sessions peer) }
+    {
+        self.sessions.get(&peer).is_some()
+    }
+
+    /// The bindings, each under its name: each label that is mapped or leaving has exactly one, told over the present raise of
+    /// its session, each tree that waits has exactly one, and there is no other.
     pub fn bindings(&self) -> &Bindings
         ensures { AreBindings self.now result.now }
     {
@@ -250,6 +292,7 @@ impl LabelUses {
             bindings,
             held: _,
             mapped: _,
+            waiting: _,
             sessions: _,
         } = self;
         bindings.close(&mut space);

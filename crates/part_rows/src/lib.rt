@@ -18,6 +18,8 @@ mod forwarding;
 #[cfg(test)]
 mod join_prune;
 #[cfg(test)]
+mod labels;
+#[cfg(test)]
 mod ldp;
 #[cfg(test)]
 mod paths;

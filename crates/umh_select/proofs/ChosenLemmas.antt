@@ -1,12 +1,15 @@
 -- What is found at the greatest length that covers the source is what is chosen of all routes.
 use Rattle.std.proofs.Common.{◌≡◌, ◌<◌, ℕ, suc, ◌≤◌, ◌==◌, ◌&&◌, max, Bool, true, false, inl, inr, List, [], ◌∷◌, ◌++◌, map, filter, Option, Some, None, option_map, slice_index_or, refl, sym, ap, subst, ◌∙◌, cond, arith, eqb-true, eq-eqb}
 use Rattle.std.proofs.lemmas.Bool.{and_parts, cases_Bool, cases_lt}
+use Rattle.std.specs.BTreeMap.{is_at}
 use Rattle.std.specs.FinMap as maps
 use Rattle.std.specs.FinMap.{FinMap, from_sorted}
 use Rattle.mv_base.specs.Prefix.{covers}
 use Rattle.mv_base.specs.declared.addr.Addr.{Addr}
 use Rattle.mv_base.specs.declared.ids.NodeId.{NodeId}
 use Rattle.mv_base.specs.declared.ids.SiteId.{SiteId}
+use Rattle.mv_base.specs.declared.prefix.Prefix.{Prefix}
+use Rattle.mv_base.specs.declared.rd.Rd.{Rd}
 use Rattle.mv_base.specs.declared.rd.Rule.{Rule}
 use Rattle.mv_base.specs.declared.rd.Rule.TheVariants.{Highest, Nearest, Hash}
 use Rattle.choice_defs.specs.declared.known_route.KnownRoute.{KnownRoute}
@@ -21,10 +24,10 @@ use Rattle.umh_select.specs.declared.route.Choice.{Choice}
 use Rattle.umh_select.specs.declared.route.Choice.TheVariants as choices
 use Rattle.umh_select.specs.declared.route.Held.{Held}
 use Rattle.umh_select.specs.Edges.{cost_at, edge_of, edges_in}
-use Rattle.umh_select.specs.Order.{key_cmp}
+use Rattle.umh_select.specs.Order.{key_cmp, key_total}
 use Rattle.umh_select.specs.Routes.{AreFromNodes, AreOfCore, IsIndexed, IsNoneAt, Routes, at_length, best_of, candidate_of, choice_of, chosen, first_site, is_attached_place, is_learned_place, key_from, known, known_at, known_from, known_here, is_found, measure, named_by, origin_of, peer_of, rd_of, remote_choice}
 use Rattle.umh_select.proofs.BestLemmas.{AllAt, AreAt, Cut, NoneLonger, best_winner, cut, local_first, winner, winner_among, winner_best}
-use Rattle.umh_select.proofs.OrderLemmas.{IsInner, Sorted, entries_of, entry_found, entry_get, get-lookup, there}
+use Rattle.umh_select.proofs.OrderLemmas.{IsInner, Sorted, entries_of, entry_found, entry_get, get-lookup, same_key, there}
 
 -- ---- lists
 
@@ -390,3 +393,15 @@ pub not_found : (choice : Choice) → is_found choice ≡ false → choice ≡ c
 not_found choices.None h = refl
 not_found (choices.Local site) h = absurd cc
 not_found (choices.Remote edge rd import source_as) h = absurd cc
+
+-- ---- the peers of routes that are learned
+
+pub none_of_core : (nodes : ℕ) → AreOfCore nodes maps.empty
+none_of_core nodes key held h = absurd (let bad : None ≡ Some held = sym (maps.get-empty key_cmp key) ∙ h in cc)
+
+pub learned_of_core : (nodes : ℕ) (learned : FinMap key_cmp Held) (peer : NodeId) (rd : Rd) (prefix : Prefix) (held : Held) → peer.0 < nodes → AreOfCore nodes learned → AreOfCore nodes (maps.insert learned (key_from peer rd prefix) held)
+learned_of_core nodes learned peer rd prefix held h k key found e = by (is_at (key_cmp key) (key_from peer rd prefix)) refl (sym (maps.get-insert key_total learned (key_from peer rd prefix) held key) ∙ e)
+  where
+    by : (t : Bool) → is_at (key_cmp key) (key_from peer rd prefix) ≡ t → cond t (Some held) (maps.get learned key) ≡ Some found → (peer_of key.place).0 < nodes
+    by true same g = subst (λ (q : RouteKey). (peer_of q.place).0 < nodes) (sym (same_key key (key_from peer rd prefix) same)) h
+    by false other g = k key found g

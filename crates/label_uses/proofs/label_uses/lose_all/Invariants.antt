@@ -6,5 +6,6 @@ abbrev pub invariant-loop-label : goal.invariant-loop-label
 invariant-loop-label l = record {
   labels : lost_all l.peer l.uses.labels (drop l.label-index l.labels) ≡ lost_all l.peer l.initial.uses.labels l.labels;
   life : l.uses.life ≡ l.initial.uses.life;
+  waiting : l.uses.waiting ≡ l.initial.uses.waiting;
   sessions : l.uses.sessions ≡ l.initial.uses.sessions;
 }

@@ -7,4 +7,4 @@ use Rattle.label_uses.proofs.label_uses.LabelUses.bindings.Goals as goal
 
 pub returns : goal.returns
 returns c = subst (λ (u : Uses). AreBindings u c.self.inside.bindings) c.self.view_is
-    (bindings_are c.self.inside.space c.self.inside.held c.self.inside.bindings c.self.inside.sessions (get is_fec c.self.inside.mapped) c.self.invariant)
+    (bindings_are c.self.inside.space c.self.inside.held c.self.inside.bindings c.self.inside.sessions (get is_fec c.self.inside.mapped) c.self.inside.waiting c.self.invariant)

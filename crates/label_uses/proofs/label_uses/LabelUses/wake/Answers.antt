@@ -4,7 +4,7 @@ use Rattle.indexmap.specs.IndexMap.{get}
 use Rattle.label_defs.specs.Steps.{woken}
 use Rattle.tunnel_bindings.specs.Labels.{Space}
 use Rattle.label_uses.specs.Uses.{Uses}
-use Rattle.label_uses.specs.Held.{uses_from}
+use Rattle.label_uses.specs.Held.{towards, uses_from}
 use Rattle.label_uses.proofs.SeenLemmas.{uses_woken}
 use Rattle.label_uses.proofs.label_uses.LabelUses.wake.Goals as goal
 
@@ -12,5 +12,5 @@ pub returns : goal.returns
 returns c =
     let life = ap (λ (x : Space). x.life) c.wake.ensures in
     let labels = ap (λ (x : Space). uses_from 16 (get nat_eq c.self.inside.held) x.states) c.wake.ensures ∙ uses_woken c.args.now 16 c.self.inside.space.states (get nat_eq c.self.inside.held) in
-    (λ i. record { life = life i; labels = labels i; sessions = maps.from_entries c.self.inside.sessions.entries })
+    (λ i. record { life = life i; labels = labels i; waiting = maps.from_entries (towards c.self.inside.waiting.entries); sessions = maps.from_entries c.self.inside.sessions.entries })
     ∙ ap (λ (u : Uses). record u { labels = map (woken c.args.now) u.labels }) c.self.view_is

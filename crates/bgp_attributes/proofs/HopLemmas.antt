@@ -111,9 +111,9 @@ mapped_read (V4 octets) text (len, inr is) =
       ap (λ (xs : List ℕ). unmapped (addr_of xs)) is ∙ ap unmapped (addr_again (V6 whole) size) ∙ read,
     )
 mapped_read (V6 octets) text (len, none, is) = (
-    inr (ap (λ (xs : List ℕ). length xs) is ∙ len),
-    ap (λ (xs : List ℕ). unmapped (addr_of xs)) is ∙ ap unmapped (addr_again (V6 octets) len) ∙ unmapped_no octets (no_mapped octets (is_mapped octets) none refl),
-  )
+  inr (ap (λ (xs : List ℕ). length xs) is ∙ len),
+  ap (λ (xs : List ℕ). unmapped (addr_of xs)) is ∙ ap unmapped (addr_again (V6 octets) len) ∙ unmapped_no octets (no_mapped octets (is_mapped octets) none refl),
+)
 
 -- ---- the address of a next hop
 

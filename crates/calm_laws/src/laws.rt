@@ -17,8 +17,13 @@ ghost use Rattle.calm_laws.specs.Calm.{CalmSession, NoneDue, FlowsStand, AreOfOn
 /// The flows of each edge are those that were asked for at some clock so far, with the upstreams that its VRFs choose now.
 pub fn flows_stand()
     ensures start { (scenario : Scenario) (core : NodeId → Core) →
-        FlowsStand (record { clock = 0; scenario = scenario; core = core; node = λ n. no_control;
-          direction = λ a b. record { joined = false; transit = [] } }) }
+        FlowsStand (record {
+          clock = 0;
+          scenario = scenario;
+          core = core;
+          node = λ n. no_control;
+          direction = λ a b. record { joined = false; transit = [] };
+        }) }
     ensures runs { (network : EdgeNetwork) (acts : List Act) → FlowsStand network → FlowsStand (run network acts) }
 {}
 
@@ -34,7 +39,7 @@ pub fn egress_is_in_step()
     ensures { (network : EdgeNetwork) (root egress : NodeId) (root_vrf own : OwnVrf) → Rule network → CalmSession network root egress →
         NoneDue network root → Among root_vrf (own_vrfs (place_of network root)) → Among own (own_vrfs (place_of network egress)) →
         AreOfOneVpn root_vrf own → InStep network.scenario.delay network.clock (selections_of (network.node root) root_vrf.id)
-          (learned_routes (place_of network egress) (network.node egress) own root) }
+        (learned_routes (place_of network egress) (network.node egress) own root) }
 {}
 
 /// On a calm session, where no delay of a selection is due, each flow of an egress whose upstream is the root is joined there, and by

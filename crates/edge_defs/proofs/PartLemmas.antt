@@ -1,8 +1,6 @@
 -- Keys and values are told apart by their parts: each is what is read back from them.
 use Rattle.std.proofs.Common.{◌≡◌, ℕ, ◌==◌, Bool, true, false, cond, List, [], ◌∷◌, ◌++◌, Option, Some, None, refl, sym, ap, ◌∙◌}
 use Rattle.std.specs.Prelude.{map}
-use Rattle.mv_base.specs.declared.addr.Addr.{Addr}
-use Rattle.mv_base.specs.declared.addr.Addr.TheVariants.{V4, V6}
 use Rattle.mv_base.specs.declared.rd.Rd.{Rd}
 use Rattle.mldp_fec.specs.declared.fec.FecKind.{FecKind}
 use Rattle.mldp_fec.specs.declared.fec.FecKind.TheVariants.{P2mp, Up, Down}
@@ -19,7 +17,7 @@ use Rattle.route_targets.specs.declared.communities.ExtComm.{ExtComm}
 use Rattle.bgp_attributes.specs.declared.key.Key.{Key}
 use Rattle.bgp_attributes.specs.declared.key.Key.TheVariants.{Mcast, Unicast}
 use Rattle.selective_defs.proofs.PartLemmas.{first, behind, addr_back, addr_again, word_back, word_again}
-use Rattle.edge_defs.specs.Keys.{Value, addr_part, word_part, leaf_parts, route_parts, key_parts, flag_number, label_part, kind_number, tunnel_parts, pmsi_parts, value_parts}
+use Rattle.edge_defs.specs.Keys.{Value, leaf_parts, route_parts, key_parts, flag_number, label_part, kind_number, tunnel_parts, pmsi_parts, value_parts}
 
 -- ---- lists
 

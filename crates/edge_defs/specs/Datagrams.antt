@@ -56,9 +56,9 @@ entering_fate place now edge own site source group =
     then record {
       outs = filter (is_outside place.scenario site) (asking_ifaces place now edge.control own source group);
       branches =
-        if is_joined_in place edge.control own source group
-        then branches_of edge.part (transmit_tunnel place edge.control own source group)
-        else [];
+          if is_joined_in place edge.control own source group
+          then branches_of edge.part (transmit_tunnel place edge.control own source group)
+          else [];
     }
     else discarded
 

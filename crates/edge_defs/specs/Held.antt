@@ -18,9 +18,10 @@ use Rattle.edge_defs.specs.Place.{EdgePlace, own_addr}
 abbrev pub join_route : EdgePlace → NodeId → VrfFlow × Option Upstream → Option (Key × Value)
 join_route place peer (flow, Some (Remote edge rd import source_as)) =
     if edge.0 == peer.0
-    then Some
-      (Mcast (afi_of flow.source) (routes.SourceJoin rd source_as flow.source flow.group),
-        record { next_hop = own_addr place; comms = import_target import ∷ []; pmsi = None })
+    then Some (
+      Mcast (afi_of flow.source) (routes.SourceJoin rd source_as flow.source flow.group),
+      record { next_hop = own_addr place; comms = import_target import ∷ []; pmsi = None },
+    )
     else None
 join_route place peer (flow, other) = None
 

@@ -113,7 +113,7 @@ active_routes place control own =
 abbrev pub selective_routes : EdgePlace → Control → OwnVrf → List (Key × Value)
 selective_routes place control own =
     map (λ (entry : VrfPattern × Selected).
-      (selective_key place own.vrf entry.0.pattern, tunnel_value place own.vrf (tunnel_number own.vrf entry.1.number)))
+    (selective_key place own.vrf entry.0.pattern, tunnel_value place own.vrf (tunnel_number own.vrf entry.1.number)))
     (filter (λ (entry : VrfPattern × Selected). entry.0.vrf.0 == own.id.0) (maps.entries control.selections))
 
 abbrev pub routes_of : EdgePlace → Control → OwnVrf → List (Key × Value)

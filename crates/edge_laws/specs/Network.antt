@@ -43,8 +43,8 @@ behind network n new =
       node = at_node n new network.node;
       direction = λ from to. record (network.direction from to) {
         transit =
-          if (from.0 == n.0) && (network.direction from to).joined
-          then (network.direction from to).transit ++ put_to (place_of network n) (network.node n) new to
-          else (network.direction from to).transit;
+            if (from.0 == n.0) && (network.direction from to).joined
+            then (network.direction from to).transit ++ put_to (place_of network n) (network.node n) new to
+            else (network.direction from to).transit;
       };
     }

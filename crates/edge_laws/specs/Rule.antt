@@ -23,9 +23,9 @@ use Rattle.edge_laws.specs.Network.{EdgeNetwork, place_of}
 abbrev pub selected_in : EdgePlace → Control → Key → OwnVrf → Option Selected
 selected_in place control (Mcast afi (routes.Selective rd source group originator)) own =
     if
-      eq_by_cmp key_cmp
-      (Mcast afi (routes.Selective rd source group originator))
-      (selective_key place own.vrf (record { source = source; group = group }))
+    eq_by_cmp key_cmp
+    (Mcast afi (routes.Selective rd source group originator))
+    (selective_key place own.vrf (record { source = source; group = group }))
     then maps.get control.selections (record { vrf = own.id; pattern = record { source = source; group = group } })
     else None
 selected_in place control other own = None

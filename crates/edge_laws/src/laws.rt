@@ -19,8 +19,13 @@ ghost use Rattle.edge_laws.specs.Rule.{Rule, selected_at, taken_values};
 /// A network in which nothing has happened meets the rule.
 pub fn start_keeps_the_rule()
     ensures { (scenario : Scenario) (core : NodeId → Core) → Rules scenario →
-        Rule (record { clock = 0; scenario = scenario; core = core; node = λ n. no_control;
-          direction = λ a b. record { joined = false; transit = [] } }) }
+        Rule (record {
+          clock = 0;
+          scenario = scenario;
+          core = core;
+          node = λ n. no_control;
+          direction = λ a b. record { joined = false; transit = [] };
+        }) }
 {}
 
 /// Whatever happens, the rule is kept.
@@ -48,5 +53,6 @@ pub fn routes_are_learned_no_earlier()
         selected_at (place_of network a) (network.node a) key ≡ Some selected →
         maps.get (taken_from (network.node b) a) key ≡ Some route → selected.since ≤ route.since }
     ensures over { (network : EdgeNetwork) (a b : NodeId) (key : Key) (route : TakenRoute) → Rule network → a ≢ b →
-        maps.get (taken_from (network.node b) a) key ≡ Some route → route.run ≡ true → route.since + network.scenario.delay ≤ network.clock }
+        maps.get (taken_from (network.node b) a) key ≡ Some route → route.run ≡ true →
+        route.since + network.scenario.delay ≤ network.clock }
 {}

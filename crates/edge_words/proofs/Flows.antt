@@ -9,9 +9,7 @@ use Rattle.mv_base.specs.Address.{same_addr, same_addr_equiv}
 use Rattle.mv_base.specs.Number.{◌>>?◌, only_if}
 use Rattle.mv_base.specs.declared.addr.Addr.{Addr}
 use Rattle.mv_base.specs.declared.ids.IfaceId.{IfaceId}
-use Rattle.mv_base.specs.declared.ids.NodeId.{NodeId}
 use Rattle.mv_base.specs.declared.ids.VrfId.{VrfId}
-use Rattle.bgp_attributes.specs.declared.key.Key.{Key}
 use Rattle.pim_defs.specs.Entries.{expiry_at}
 use Rattle.pim_defs.specs.Expiry.{counts}
 use Rattle.pim_defs.specs.declared.expiry.Expiry.{Expiry}
@@ -20,7 +18,7 @@ use Rattle.scenario_defs.specs.declared.event.IfaceEntry.{IfaceEntry}
 use Rattle.scenario_defs.specs.declared.event.JoinEntry.TheVariants as entries
 use Rattle.label_defs.specs.Members.{in_order}
 use Rattle.selective_defs.specs.Selective.{Among}
-use Rattle.edge_defs.specs.Edge.{Note, VrfFlow, flow_cmp, Upstream, TakenRoute, Taken, Control}
+use Rattle.edge_defs.specs.Edge.{Note, VrfFlow, Upstream, Control}
 use Rattle.edge_defs.specs.Flows.{noted_flow, active_from, active_flows, same_flow, is_active, is_asking, ifaces_of, is_flow, joined_by, possible_flows, with_upstream, vrf_flows, flows_at}
 use Rattle.edge_defs.specs.Imported.{FlowRoute, found_in, active_of, is_admitted, imported_active}
 use Rattle.edge_defs.specs.Originated.{is_iface_of, notes_of}
@@ -31,7 +29,7 @@ use Rattle.calm_laws.proofs.Lists.{passes, among_front, among_behind, among_eith
 use Rattle.calm_laws.proofs.Maps.{some_found, found_stands, get_entry}
 use Rattle.calm_laws.proofs.Upstreams.{chained}
 use Rattle.calm_laws.proofs.Vrfs.{one_number}
-use Rattle.edge_words.specs.Asked.{IsIfaceOf, IsNoted, IsTold, IsKnown, Stands, Asks, IsAsked}
+use Rattle.edge_words.specs.Asked.{IsIfaceOf, IsNoted, IsTold, IsKnown, Asks, IsAsked}
 use Rattle.edge_words.proofs.Members.{listed, contained, taken_of, table_of, iface_of, of_iface, ifaces_from, ifaces_to, one_flow}
 
 abbrev flow : Addr → Addr → FlowRoute
@@ -45,7 +43,7 @@ module _ (place : EdgePlace) (control : Control) (own : OwnVrf) where
       let by = map_among noted_flow (flow source group) (notes_of place control own.id) a in
       let test = filter_among (λ (note : Note). is_iface_of place.scenario own.id note.iface) by.0 (in_order control.notes) by.1 in
       let same : by.0 ≡ record { iface = by.0.iface; source = source; group = group } =
-        λ i. record { iface = by.0.iface; source = (sym by.2 i).source; group = (sym by.2 i).group } in
+      λ i. record { iface = by.0.iface; source = (sym by.2 i).source; group = (sym by.2 i).group } in
       record {
         iface = by.0.iface;
         of_vrf = iface_of place.scenario own.id by.0.iface test.1;
@@ -191,11 +189,11 @@ module _ (place : EdgePlace) (now : ℕ) (control : Control) where
       let route : FlowRoute = flow key.source key.group in
       let entry : VrfFlow × Option Upstream = with_upstream place control is.own route in
       let test : is_flow place now control is.own route ≡ true =
-        any_from (is_asking place now control is.own key.source key.group) is.iface (ifaces_of place is.own) (ifaces_to place.scenario is.own.id is.iface is.of_vrf)
-        (is_asks place now control is.own key.source key.group is.iface is.asks) in
+      any_from (is_asking place now control is.own key.source key.group) is.iface (ifaces_of place is.own) (ifaces_to place.scenario is.own.id is.iface is.of_vrf)
+      (is_asks place now control is.own key.source key.group is.iface is.asks) in
       let listed = among_flat_map (vrf_flows place now control) is.own entry (own_vrfs place) is.of_edge
-        (among_map (with_upstream place control is.own) route (filter (is_flow place now control is.own) (possible_flows place control is.own))
-        (among_filter (is_flow place now control is.own) route (possible_flows place control is.own) test (possible is.own key.source key.group is.iface is.of_vrf is.asks))) in
+      (among_map (with_upstream place control is.own) route (filter (is_flow place now control is.own) (possible_flows place control is.own))
+      (among_filter (is_flow place now control is.own) route (possible_flows place control is.own) test (possible is.own key.source key.group is.iface is.of_vrf is.asks))) in
       let keys : entry.0 ≡ key = λ i. record { vrf = is.of_flow i; source = key.source; group = key.group } in
       let found = some_found flow_total key entry.1 all (subst (λ (k : VrfFlow). Among (k, entry.1) all) keys listed) in
       (found.0, maps.get-from_entries flow_total all key ∙ found.1)

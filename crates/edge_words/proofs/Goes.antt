@@ -1,7 +1,7 @@
 -- Where a datagram leaves and goes on.
-use Rattle.std.proofs.Common.{◌≡◌, ◌≢◌, ◌↔◌, ℕ, ◌==◌, ◌&&◌, Bool, true, false, cond, not, ◌⊎◌, inl, inr, List, [], Option, Some, None, refl, sym, ap, subst, ◌∙◌}
+use Rattle.std.proofs.Common.{◌≡◌, ◌↔◌, ℕ, ◌==◌, ◌&&◌, Bool, true, false, cond, not, ◌⊎◌, inl, inr, List, [], Option, Some, None, refl, sym, ap, subst, ◌∙◌}
 use Rattle.std.specs.Prelude.{slice_get}
-use Rattle.std.specs.List.{filter, flat_map, list_any}
+use Rattle.std.specs.List.{filter, flat_map}
 use Rattle.std.specs.FinMap as maps
 use Rattle.std.specs.FinSet as sets
 use Rattle.std.proofs.lemmas.Bool.{and_parts, and_from, eq-eqb, eqb-true}
@@ -258,22 +258,22 @@ module _ (place : EdgePlace) (now : ℕ) (edge : EdgeData) (from : NodeId) (labe
       let up = upstream_for place control own source group in
       none_among (is_imported_from place own fec peer.0 && is_from_edge peer.0.0 up) iface (asking_ifaces place now control own source group) peer.2
       (λ tests here. (
-        let both = and_parts (is_imported_from place own fec peer.0) (is_from_edge peer.0.0 up) tests in
-        let by = from_edge peer.0.0 up both.1 in
-        record {
-          fec = fec;
-          mapped = mapped;
-          leaf = leaf;
-          own = own;
-          of_edge = a;
-          peer = peer.0.0;
-          imported = imported_from place control own fec peer.0.0 peer.0.1 peer.1 both.0;
-          rd = by.rd;
-          import = by.import;
-          source_as = by.source_as;
-          upstream = by.is;
-          asking = asking_from place now control own source group iface here;
-        }))
+      let both = and_parts (is_imported_from place own fec peer.0) (is_from_edge peer.0.0 up) tests in
+      let by = from_edge peer.0.0 up both.1 in
+      record {
+        fec = fec;
+        mapped = mapped;
+        leaf = leaf;
+        own = own;
+        of_edge = a;
+        peer = peer.0.0;
+        imported = imported_from place control own fec peer.0.0 peer.0.1 peer.1 both.0;
+        rd = by.rd;
+        import = by.import;
+        source_as = by.source_as;
+        upstream = by.is;
+        asking = asking_from place now control own source group iface here;
+      }))
 
   outs_tree : (fec : Fec) (iface : IfaceId) → use_of edge.part label ≡ Some (uses.Mapped fec from) → Among iface (outs_of place now edge fec source group) → ArrivesOut place now edge from label source group iface
   outs_tree fec iface mapped a =
@@ -307,8 +307,8 @@ module _ (place : EdgePlace) (now : ℕ) (edge : EdgeData) (from : NodeId) (labe
       let up = upstream_for place control is.own source group in
       let entry : NodeId × Taken = (is.peer, t.table) in
       let here = among_when (is_imported_from place is.own is.fec entry && is_from_edge is.peer up) iface (asking_ifaces place now control is.own source group)
-        (and_from (is_imported_from place is.own is.fec entry) (is_from_edge is.peer up) (imported_to place control is.own is.fec is.peer t.table is.imported.key is.imported.route t.among is.imported.of_tunnel)
-        (edge_from is.peer up is.rd is.import is.source_as is.upstream)) (asking_to place now control is.own source group iface is.asking) in
+      (and_from (is_imported_from place is.own is.fec entry) (is_from_edge is.peer up) (imported_to place control is.own is.fec is.peer t.table is.imported.key is.imported.route t.among is.imported.of_tunnel)
+      (edge_from is.peer up is.rd is.import is.source_as is.upstream)) (asking_to place now control is.own source group iface is.asking) in
       let at_own = among_flat_map (outs_from place now control is.own is.fec source group) entry iface (maps.entries control.peers) t.of_peer here in
       let all = among_flat_map (outs_at place now control is.fec source group) is.own iface (own_vrfs place) is.of_edge at_own in
       subst (λ (tree : Option Fec). Among iface (fate_of tree).outs) (sym (tree_by is.fec is.mapped))

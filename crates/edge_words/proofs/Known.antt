@@ -1,5 +1,5 @@
 -- What a VRF chooses by all that it knows is chosen by its rule.
-use Rattle.std.proofs.Common.{◌≡◌, ◌↔◌, ◌⊎◌, inl, inr, ℕ, ◌<◌, ◌++◌, Bool, true, false, List, [], ◌∷◌, length, map, get_or, slice_get, Option, Some, None, option_map, is_some, refl, sym, ap, subst, ◌∙◌, arith}
+use Rattle.std.proofs.Common.{◌≡◌, ◌↔◌, ◌⊎◌, inl, inr, ℕ, ◌<◌, true, false, List, [], ◌∷◌, length, map, get_or, slice_get, Option, Some, None, option_map, is_some, refl, sym, ap, subst, ◌∙◌, arith}
 use Rattle.std.specs.List.{flat_map}
 use Rattle.std.specs.FinMap as maps
 use Rattle.std.proofs.lemmas.Bool.{cases_eq, cases_lt}
@@ -11,7 +11,6 @@ use Rattle.mv_base.specs.declared.addr.Addr.{Addr}
 use Rattle.mv_base.specs.declared.addr.Addr.TheVariants.{V4}
 use Rattle.mv_base.specs.declared.ids.NodeId.{NodeId}
 use Rattle.mv_base.specs.declared.ids.SiteId.{SiteId}
-use Rattle.mv_base.specs.declared.prefix.Prefix.{Prefix}
 use Rattle.mv_base.specs.declared.rd.Rd.{Rd}
 use Rattle.bgp_attributes.specs.declared.key.Key.{Key}
 use Rattle.bgp_attributes.specs.declared.key.Key.TheVariants.{Mcast, Unicast}
@@ -20,7 +19,6 @@ use Rattle.scenario_defs.specs.Rules.{Rules}
 use Rattle.scenario_defs.specs.declared.scenario.Node.{Node}
 use Rattle.scenario_defs.specs.declared.scenario.Route.{Route}
 use Rattle.scenario_defs.specs.declared.scenario.Scenario.{Scenario}
-use Rattle.scenario_defs.specs.declared.scenario.Vrf.{Vrf}
 use Rattle.scenario_defs.proofs.RuleLemmas.{pair_at}
 use Rattle.choice_defs.specs.Choice as choice
 use Rattle.choice_defs.specs.Choice.{AreOfEdges, IsChosen, IsUncovered, best_route, of_site}
@@ -146,24 +144,28 @@ module _ (place : EdgePlace) (control : Control) (own : OwnVrf) where
   pub of_edges : Rules place.scenario → AreNodes place control → AreOfEdges (known_routes place control own)
   of_edges rules nodes route other a b edge other_edge address other_address rd other_rd e f =
       let here = named route edge address rd (known_is route a) e in
-      let there = named other other_edge other_address other_rd (known_is other b) f in
-      (λ same. here.1 ∙ ap (addr_of place.scenario) same ∙ sym there.1,
-        λ same. one_node place.scenario rules edge other_edge (nodes edge here.0) (nodes other_edge there.0) (sym here.1 ∙ same ∙ there.1))
+      let there = named other other_edge other_address other_rd (known_is other b) f in (
+        λ same. here.1 ∙ ap (addr_of place.scenario) same ∙ sym there.1,
+        λ same. one_node place.scenario rules edge other_edge (nodes edge here.0) (nodes other_edge there.0) (sym here.1 ∙ same ∙ there.1),
+      )
 
   -- ---- the upstream
 
   -- each route that is known tells an upstream
   tells : (route : KnownRoute) → KnownIs place control route → (up : Upstream) × (upstream_by place control route ≡ Some up) × Says route.origin up
-  tells route (inl local) =
-      (Site local.0, ap (λ (o : Origin). upstream_by place control (record { prefix = route.prefix; origin = o })) local.1,
-        subst (λ (o : Origin). Says o (Site local.0)) (sym local.1) refl)
+  tells route (inl local) = (
+    Site local.0,
+    ap (λ (o : Origin). upstream_by place control (record { prefix = route.prefix; origin = o })) local.1,
+    subst (λ (o : Origin). Says o (Site local.0)) (sym local.1) refl,
+  )
   tells route (inr far) =
-      let up : Upstream = Remote far.peer far.rd far.by.import far.by.source_as in
-      (up,
+      let up : Upstream = Remote far.peer far.rd far.by.import far.by.source_as in (
+        up,
         ap (λ (o : Origin). upstream_by place control (record { prefix = route.prefix; origin = o })) far.is
-        ∙ ap (λ (o : Option TakenRoute). o >>? λ taken. join_by (addr_of place.scenario far.peer) taken.value >>? λ by. Some (Remote far.peer far.rd by.import by.source_as)) far.at
-        ∙ ap (λ (o : Option JoinBy). o >>? λ by. Some (Remote far.peer far.rd by.import by.source_as)) far.joins,
-        subst (λ (o : Origin). Says o up) (sym far.is) (far.by.import, far.by.source_as, refl))
+            ∙ ap (λ (o : Option TakenRoute). o >>? λ taken. join_by (addr_of place.scenario far.peer) taken.value >>? λ by. Some (Remote far.peer far.rd by.import by.source_as)) far.at
+            ∙ ap (λ (o : Option JoinBy). o >>? λ by. Some (Remote far.peer far.rd by.import by.source_as)) far.joins,
+        subst (λ (o : Origin). Says o up) (sym far.is) (far.by.import, far.by.source_as, refl),
+      )
 
   module _ (source group : Addr) where
     abbrev routes : List KnownRoute
@@ -178,10 +180,11 @@ module _ (place : EdgePlace) (control : Control) (own : OwnVrf) where
         let found = chained (best_route costs routes source) (upstream_by place control) up h in
         let b : Best costs routes source found.0 = subst (BestIs costs routes source) found.1 (best costs routes source) in
         let told = tells found.0 (known_is found.0 b.among) in
-        let same : told.0 ≡ up = same_some told.0 up (sym told.1 ∙ found.2) in
-        (found.0.origin,
+        let same : told.0 ≡ up = same_some told.0 up (sym told.1 ∙ found.2) in (
+          found.0.origin,
           chosen_when own.vrf.rule (place.core.cost place.me) routes source group found.0.origin (of_edges rules nodes) (ap (option_map (λ (r : KnownRoute). r.origin)) found.1),
-          subst (λ (u : Upstream). Says found.0.origin u) same told.2)
+          subst (λ (u : Upstream). Says found.0.origin u) same told.2,
+        )
       where
         same_some : (a b : Upstream) → Some a ≡ Some b → a ≡ b
         same_some a b e = cc
@@ -193,4 +196,5 @@ module _ (place : EdgePlace) (control : Control) (own : OwnVrf) where
         by None b = (λ h. b, λ u. refl)
         by (Some route) b = (
           λ h. (let told = tells route (known_is route b.among) in absurd (let bad : Some told.0 ≡ None = sym told.1 ∙ h in cc)),
-          λ u. absurd (opposite (covers route.prefix source) b.covering (u route b.among)))
+          λ u. absurd (opposite (covers route.prefix source) b.covering (u route b.among)),
+        )

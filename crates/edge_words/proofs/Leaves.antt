@@ -1,6 +1,6 @@
 -- The trees of which an edge is to be a leaf.
-use Rattle.std.proofs.Common.{◌≡◌, ◌↔◌, ℕ, ◌==◌, Bool, true, ◌⊎◌, inl, inr, List, map, Option, Some, None, refl, sym, ap, subst, ◌∙◌}
-use Rattle.std.specs.List.{filter, flat_map}
+use Rattle.std.proofs.Common.{◌≡◌, ◌↔◌, ◌==◌, true, ◌⊎◌, inl, inr, Option, Some, None, refl, sym, ap, subst}
+use Rattle.std.specs.List.{flat_map}
 use Rattle.std.specs.FinMap as maps
 use Rattle.std.specs.FinSet as sets
 use Rattle.std.proofs.lemmas.Bool.{eq-eqb, eqb-true}
@@ -8,8 +8,8 @@ use Rattle.mv_base.specs.declared.ids.NodeId.{NodeId}
 use Rattle.mv_base.specs.declared.ids.VrfId.{VrfId}
 use Rattle.mldp_fec.specs.declared.fec.Fec.{Fec}
 use Rattle.bgp_attributes.specs.declared.key.Key.{Key}
-use Rattle.label_defs.proofs.KeyLemmas.{fec_cmp_total, fec_cmp_exact, node_cmp_total}
-use Rattle.selective_defs.specs.Selective.{Among, is_wanted, wanted, IsWanted}
+use Rattle.label_defs.proofs.KeyLemmas.{fec_cmp_total, fec_cmp_exact}
+use Rattle.selective_defs.specs.Selective.{Among, wanted}
 use Rattle.selective_defs.specs.declared.learned_route.LearnedRoute.{LearnedRoute}
 use Rattle.selective_defs.proofs.WantedLemmas.{wanted_when}
 use Rattle.edge_defs.specs.Edge.{VrfFlow, Upstream, Site, Remote, TakenRoute, Control}
@@ -88,7 +88,7 @@ module _ (place : EdgePlace) (control : Control) where
       let want = (wanted_when learned is.flow.source is.flow.group is.route).1 is.wanted in
       let there = among_map (λ (route : LearnedRoute). route.fec) is.route (wanted learned is.flow.source is.flow.group) want in
       let of_vrf = among_filter (λ (e : VrfFlow × Option Upstream). e.0.vrf.0 == own.id.0) (is.flow, up) (maps.entries control.flows)
-        (eq-eqb is.flow.vrf.0 own.id.0 (ap (λ (v : VrfId). v.0) (sym is.of_vrf))) (get_entry flow_exact control.flows is.flow up is.upstream) in
+      (eq-eqb is.flow.vrf.0 own.id.0 (ap (λ (v : VrfId). v.0) (sym is.of_vrf))) (get_entry flow_exact control.flows is.flow up is.upstream) in
       among_behind fec (flat_map (inclusive_tunnels place own) (maps.entries control.peers)) (flat_map (flow_tunnels place control own) (flows_of control own.id))
       (among_flat_map (flow_tunnels place control own) (is.flow, up) fec (flows_of control own.id) of_vrf
       (subst (λ (f : Fec). Among f (flow_tunnels place control own (is.flow, up))) is.of_tunnel there))
@@ -154,10 +154,10 @@ module _ (place : EdgePlace) (control : Control) where
       let made : LearnedRoute = record { pattern = record { source = is.imported.route.source; group = is.imported.route.group }; fec = is.imported.fec; since = is.route.since; run = is.route.run } in
       let one : made ≡ learned = λ i. record { pattern = record { source = sym is.source i; group = sym is.group i }; fec = sym is.of_tunnel i; since = sym is.since i; run = sym is.run i } in
       let read : learned_route place own peer (is.key, is.route) ≡ Some made =
-        ap (λ (o : Option ImportedSelective). elim o [
-          | None ↦ None
-          | Some imported ↦ Some (record { pattern = record { source = imported.route.source; group = imported.route.group }; fec = imported.fec; since = is.route.since; run = is.route.run })
-        ]) is.is in
+      ap (λ (o : Option ImportedSelective). elim o [
+        | None ↦ None
+        | Some imported ↦ Some (record { pattern = record { source = imported.route.source; group = imported.route.group }; fec = imported.fec; since = is.route.since; run = is.route.run })
+      ]) is.is in
       subst (λ (r : LearnedRoute). Among r (learned_routes place control own peer)) one
       (among_found (learned_route place own peer) (is.key, is.route) made (maps.entries (taken_from control peer)) (get_entry key_exact (taken_from control peer) is.key is.route is.taken) read)
 

@@ -1,5 +1,5 @@
 -- The number of a selection is the least that no other one of its VRF has.
-use Rattle.std.proofs.Common.{◌≡◌, ℕ, suc, ◌+◌, ◌≤◌, ◌<◌, ◌==◌, ◌&&◌, Bool, true, false, cond, List, [], ◌∷◌, length, map, Option, Some, refl, sym, ap, subst, ◌∙◌, arith}
+use Rattle.std.proofs.Common.{◌≡◌, ℕ, suc, ◌+◌, ◌≤◌, ◌<◌, ◌==◌, Bool, true, false, cond, List, [], ◌∷◌, length, map, Some, refl, ap, subst, ◌∙◌, arith}
 use Rattle.std.specs.List.{filter, list_any}
 use Rattle.std.specs.FinMap as maps
 use Rattle.std.specs.FinMap.{FinMap, get-insert}
@@ -10,7 +10,7 @@ use Rattle.selective_defs.specs.Selective.{Among, free_number}
 use Rattle.selective_defs.specs.declared.selection.Selection.{Selection}
 use Rattle.selective_defs.proofs.NumberLemmas.{least_unused, few_used}
 use Rattle.edge_defs.specs.Edge.{VrfPattern, pattern_cmp, Selected, Control}
-use Rattle.edge_defs.specs.Steps.{is_used, with_selection}
+use Rattle.edge_defs.specs.Steps.{is_used}
 use Rattle.edge_defs.specs.Tunnels.{selection_of, selections_of}
 use Rattle.edge_defs.proofs.KeyLemmas.{pattern_total, pattern_exact}
 use Rattle.calm_laws.proofs.Lists.{among_map, among_filter, any_from, any_among, not_both}

@@ -1,8 +1,8 @@
 -- Which timers are due, and that a run of the timers leaves none due.
 use Rattle.std.specs.Prelude.{count_by, sum_by}
-use Rattle.std.proofs.Common.{◌≡◌, ◌↔◌, ℕ, zero, suc, ◌+◌, ◌<◌, ◌≤◌, ◌&&◌, ◌||◌, nat_le, nat_lt, Bool, true, false, cond, not, ◌⊎◌, inl, inr, List, [], ◌∷◌, map, slice_get, Option, Some, None, is_some, option_map, refl, sym, ap, subst, ◌∙◌, arith}
+use Rattle.std.proofs.Common.{◌≡◌, ◌↔◌, ℕ, zero, suc, ◌+◌, ◌<◌, ◌&&◌, ◌||◌, nat_le, Bool, true, false, cond, not, ◌⊎◌, inl, inr, List, [], ◌∷◌, map, slice_get, Option, Some, None, is_some, option_map, refl, sym, ap, subst, ◌∙◌, arith}
 use Rattle.std.specs.FinMap as maps
-use Rattle.std.specs.FinMap.{FinMap, IsAntisymmetric, find, get-entries, get-from_entries}
+use Rattle.std.specs.FinMap.{FinMap, IsAntisymmetric, get-entries, get-from_entries}
 use Rattle.std.specs.declared.cmp.Ordering.{Ordering}
 use Rattle.std.specs.Cmp.{IsTotalOrder}
 use Rattle.std.proofs.lemmas.Bool.Decides.{nat_tests}
@@ -10,12 +10,10 @@ use Rattle.std.proofs.lemmas.List.Sums.{sum_by-cons}
 use Rattle.mv_base.specs.declared.ids.NodeId.{NodeId}
 use Rattle.bgp_attributes.specs.declared.key.Key.{Key}
 use Rattle.pim_defs.specs.Entries as entries
-use Rattle.pim_defs.specs.Expiry.{is_after, counts, remaining}
+use Rattle.pim_defs.specs.Expiry.{is_after, remaining}
 use Rattle.pim_defs.specs.declared.expiry.Expiry.{Expiry}
 use Rattle.pim_defs.proofs.EntriesLemmas.{get-kept}
 use Rattle.pim_defs.proofs.KeyLemmas.{entry_cmp_total, entry_cmp_exact}
-use Rattle.scenario_defs.specs.declared.event.IfaceEntry.{IfaceEntry}
-use Rattle.label_defs.specs.Keys.{node_cmp}
 use Rattle.label_defs.specs.LabelData as labels
 use Rattle.label_defs.specs.LabelData.{LabelData, is_rested, is_hold_due}
 use Rattle.label_defs.specs.Steps as label_steps
@@ -27,10 +25,10 @@ use Rattle.label_defs.proofs.KeyLemmas.{node_cmp_total, node_cmp_exact}
 use Rattle.label_defs.proofs.MemberLemmas.{count-cons}
 use Rattle.selective_defs.specs.Selective.{Among}
 use Rattle.edge_defs.specs.Due.{is_selection_due, due_delays, due_from, due}
-use Rattle.edge_defs.specs.Edge.{VrfPattern, pattern_cmp, Selected, TakenRoute, Taken, Control, EdgeData}
+use Rattle.edge_defs.specs.Edge.{Selected, TakenRoute, Taken, EdgeData}
 use Rattle.edge_defs.specs.Imported.{ImportedSelective, taken_from, imported_selective}
 use Rattle.edge_defs.specs.Place.{EdgePlace, OwnVrf, addr_of, own_vrfs, label_place}
-use Rattle.edge_defs.specs.Steps.{selection_run, selections_run, is_imported, timed}
+use Rattle.edge_defs.specs.Steps.{selection_run, is_imported, timed}
 use Rattle.edge_defs.proofs.KeyLemmas.{pattern_total, pattern_exact}
 use Rattle.edge_laws.proofs.Taken.{run_at, table_in, get-peers_run, run_taken}
 use Rattle.calm_laws.proofs.Lists.{among_map, map_among, any_from}
@@ -192,7 +190,7 @@ module _ (place : EdgePlace) (now : ℕ) (edge : EdgeData) where
     selections = λ key selected at. run_or_later selected.run (selected.since + delay) now
         (none_passes (is_selection_due delay now) (maps.values edge.control.selections) s selected (to_values pattern_total pattern_exact edge.control.selections key selected at));
     routes = λ peer key route own imported at a is. (let t = table_of edge.control peer key route at in
-      route_quiet peer key route (each_nothing (due_delays place now peer) (maps.entries t.table) (each_nothing (due_from place now) (maps.entries edge.control.peers) r (peer, t.table) t.of_peer) (key, route) t.among) own imported a is);
+        route_quiet peer key route (each_nothing (due_delays place now peer) (maps.entries t.table) (each_nothing (due_from place now) (maps.entries edge.control.peers) r (peer, t.table) t.of_peer) (key, route) t.among) own imported a is);
   }
 
   some_use : (usage : LabelUse) → Among usage edge.part.labels → NoneDue place now edge → is_rested now usage ≡ false
@@ -205,7 +203,7 @@ module _ (place : EdgePlace) (now : ℕ) (edge : EdgeData) where
       let own_entries = passes_none (λ (x : Expiry). not (is_after x now)) (maps.values edge.control.entries) (λ expiry a. (let at = of_values entry_cmp_total entry_cmp_exact edge.control.entries expiry a in not_true (is_after expiry now) (none.entries at.0 expiry at.1))) in
       let own_selections = passes_none (is_selection_due delay now) (maps.values edge.control.selections) (λ selected a. (let at = of_values pattern_total pattern_exact edge.control.selections selected a in not_due selected.run (selected.since + delay) now (none.selections at.0 selected at.1))) in
       let own_routes = nothing_each (due_from place now) (maps.entries edge.control.peers) (λ peer a. nothing_each (due_delays place now peer.0) (maps.entries peer.1) (λ entry b.
-        quiet_route peer.0 entry.0 entry.1 (λ own imported c is. none.routes peer.0 entry.0 entry.1 own imported (taken_of edge.control peer.0 peer.1 entry.0 entry.1 a b) c is))) in
+      quiet_route peer.0 entry.0 entry.1 (λ own imported c is. none.routes peer.0 entry.0 entry.1 own imported (taken_of edge.control peer.0 peer.1 entry.0 entry.1 a b) c is))) in
       omega (arith, rests, holds, own_entries, own_selections, own_routes)
 
   pub due_is : (due place now edge ≡ 0) ↔ NoneDue place now edge
@@ -270,17 +268,17 @@ module _ (place : EdgePlace) (now : ℕ) (edge : EdgeData) where
   none_left = record {
     labels = λ number until at. woken_at edge.part.labels number until at;
     holds = λ node end at. (let by = mapped_from (hold_run place.scenario.life now) (maps.get edge.part.ends node) end (sym (get_mapped node_cmp_total node_cmp_exact (hold_run place.scenario.life now) edge.part.ends node) ∙ at) in
-      subst (λ (e : End). (e.held ≡ true) ⊎ (now < e.raised + place.scenario.life + 1)) (sym by.2) (held_or_later by.0.held (by.0.raised + place.scenario.life + 1)));
+        subst (λ (e : End). (e.held ≡ true) ⊎ (now < e.raised + place.scenario.life + 1)) (sym by.2) (held_or_later by.0.held (by.0.raised + place.scenario.life + 1)));
     entries = λ at expiry here. left (maps.get edge.control.entries at) expiry (sym (get-kept edge.control.entries now at) ∙ here);
     selections = λ key selected at. (let by = mapped_from (selection_run place.scenario.delay now) (maps.get edge.control.selections key) selected
-      (sym (get_mapped pattern_total pattern_exact (selection_run place.scenario.delay now) edge.control.selections key) ∙ at) in
-      subst (λ (s : Selected). (s.run ≡ true) ⊎ (now < s.since + place.scenario.delay)) (sym by.2) (run_over by.0.run (by.0.since + place.scenario.delay)));
+        (sym (get_mapped pattern_total pattern_exact (selection_run place.scenario.delay now) edge.control.selections key) ∙ at) in
+        subst (λ (s : Selected). (s.run ≡ true) ⊎ (now < s.since + place.scenario.delay)) (sym by.2) (run_over by.0.run (by.0.since + place.scenario.delay)));
     routes = λ peer key route own imported at a is. (
-      let got : maps.get (taken_from behind.control peer) key ≡ option_map (run_at place now peer key) (maps.get (taken_from edge.control peer) key) =
+        let got : maps.get (taken_from behind.control peer) key ≡ option_map (run_at place now peer key) (maps.get (taken_from edge.control peer) key) =
         ap (λ (o : Option Taken). maps.get (table_in o) key) (get-peers_run place now edge.control.peers peer) ∙ run_taken place now peer key (maps.get edge.control.peers peer) in
-      let by = mapped_from (run_at place now peer key) (maps.get (taken_from edge.control peer) key) route (sym got ∙ at) in
-      let old : imported_selective own.vrf (addr_of place.scenario peer) (key, by.0) ≡ Some imported = ap (λ (r : TakenRoute). imported_selective own.vrf (addr_of place.scenario peer) (key, r)) (sym by.2) ∙ is in
-      let imports : is_imported place peer (key, by.0) ≡ true =
+        let by = mapped_from (run_at place now peer key) (maps.get (taken_from edge.control peer) key) route (sym got ∙ at) in
+        let old : imported_selective own.vrf (addr_of place.scenario peer) (key, by.0) ≡ Some imported = ap (λ (r : TakenRoute). imported_selective own.vrf (addr_of place.scenario peer) (key, r)) (sym by.2) ∙ is in
+        let imports : is_imported place peer (key, by.0) ≡ true =
         any_from (λ (o : OwnVrf). is_some (imported_selective o.vrf (addr_of place.scenario peer) (key, by.0))) own (own_vrfs place) a (ap (λ (o : Option ImportedSelective). is_some o) old) in
-      subst (λ (r : TakenRoute). (r.run ≡ true) ⊎ (now < r.since + place.scenario.delay)) (sym by.2) (route_later peer key by.0 imports));
+        subst (λ (r : TakenRoute). (r.run ≡ true) ⊎ (now < r.since + place.scenario.delay)) (sym by.2) (route_later peer key by.0 imports));
   }

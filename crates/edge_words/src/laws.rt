@@ -75,8 +75,10 @@ pub fn none_is_due()
 /// A run of the timers leaves none of them due.
 pub fn timers_leave_none_due()
     ensures { (place : EdgePlace) (now : ℕ) (edge : EdgeData) → NoneDue place now
-        (record { control = timed place now edge.control;
-          part = label_steps.timed (label_place place.scenario place.core place.me) now edge.part }) }
+        (record {
+          control = timed place now edge.control;
+          part = label_steps.timed (label_place place.scenario place.core place.me) now edge.part;
+        }) }
 {}
 
 /// A pattern that is selected gets the least number from 1 on that no selection of its VRF has. So it is below 2^20 where these are fewer

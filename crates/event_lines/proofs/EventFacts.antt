@@ -1,5 +1,6 @@
 -- What a line of an event that is without fault keeps to.
 use Rattle.std.proofs.Common.{ℕ, ◌<◌, ◌≤◌, ◌&&◌, List, [], ◌∷◌, length, nat_le}
+use Rattle.std.specs.Prelude.{if◌then◌else◌}
 use Rattle.std.specs.List.{AllByRecursion}
 use Rattle.mv_base.specs.Number.{number_of}
 use Rattle.scenario_defs.specs.declared.event.JoinEntry.{JoinEntry}
@@ -8,7 +9,7 @@ use Rattle.scenario_defs.specs.Built.{IsBuilt}
 use Rattle.line_words.specs.declared.fault.Reason.TheVariants as reasons
 use Rattle.line_words.specs.declared.words.Row.{Row}
 use Rattle.line_words.specs.Words.{Placed}
-use Rattle.line_words.specs.Forms.{or_fault, source_at, group_at, payload_at}
+use Rattle.line_words.specs.Forms.{fault, or_fault, source_at, group_at, payload_at}
 use Rattle.scenario_draft.specs.declared.line.Line.{Line}
 use Rattle.scenario_draft.specs.declared.line.Line.TheVariants as says
 use Rattle.event_lines.specs.declared.dispatch.EventWord.{EventWord}
@@ -17,7 +18,7 @@ use Rattle.scenario_defs.specs.declared.event.IfaceEntry.{IfaceEntry}
 use Rattle.scenario_draft.specs.Drafted.{Drafted}
 use Rattle.scenario_draft.specs.Naming.{node_at, site_at, iface_at}
 use Rattle.event_lines.specs.JoinGrammar.{star_entry, source_entry, if_rpt, rpt_entry, entry_at, three_words, four_words, iface_entry, join_line, prune_line}
-use Rattle.event_lines.specs.EventGrammar.{ticks_of, tick_words, tick_line, timers_words, timers_line, pim_words, pim_line, send_head, send_words, send_line, bare_line, event_word, event_words, event_line}
+use Rattle.event_lines.specs.EventGrammar.{ticks_of, tick_words, tick_line, timers_words, timers_line, pim_words, pim_line, send_head, send_words, send_line, bare_line, event_word, is_unbuilt_form, event_words, event_line}
 use Rattle.scenario_draft.proofs.WordFacts.{Meets, Finds, ok_meets, err_meets, bind_meets, if_meets, then_meets, either_meets, bind_finds, only_finds, or_fault_meets, node_meets, site_meets, iface_meets, source_meets, group_meets, payload_meets, within, below}
 
 -- What a line of an event keeps to.
@@ -153,7 +154,12 @@ event_words_meets draft row event_kinds.State rest h = bare_line_meets (IsTold d
 abbrev pub IsToldBelow : Drafted → Line → Type 0
 IsToldBelow draft said = (length draft.events < 200000) × IsTold draft said
 
+-- a line of a form that is built, where there is room for one more event
+limited_meets : (draft : Drafted) (row : Row) (first : Placed) (rest : List Placed) (kind : EventWord) → AllByRecursion (λ w. length w.text ≤ 4096) rest
+    → Meets (IsToldBelow draft) (if nat_le 200000 (length draft.events) then fault row.number first.column reasons.Limit else event_words draft row kind rest)
+limited_meets draft row first rest kind h = if_meets _ _ _ _ (λ few. record { holds = λ said e. (below 200000 (length draft.events) few, (event_words_meets draft row kind rest h).holds said e) })
+
 pub event_line_meets : (draft : Drafted) (row : Row) (first : Placed) (rest : List Placed) → AllByRecursion (λ w. length w.text ≤ 4096) rest → Meets (IsToldBelow draft) (event_line draft row first rest)
 unfolding event_line
 event_line_meets draft row first rest h =
-    bind_meets _ (event_word row first) _ (λ kind _. if_meets _ _ _ _ (λ few. record { holds = λ said e. (below 200000 (length draft.events) few, (event_words_meets draft row kind rest h).holds said e) }))
+    bind_meets _ (event_word row first) _ (λ kind _. if_meets _ (is_unbuilt_form kind rest) _ _ (λ built. limited_meets draft row first rest kind h))

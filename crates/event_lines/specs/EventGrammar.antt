@@ -1,5 +1,5 @@
 -- The lines of events: what each says, or its first fault.
-use Rattle.std.specs.Prelude.{ℕ, ◌||◌, ◌&&◌, Bool, nat_eq, nat_le, List, [], ◌∷◌, length, Option, Result, Ok, if◌then◌else◌, codes}
+use Rattle.std.specs.Prelude.{ℕ, ◌||◌, ◌&&◌, Bool, false, nat_eq, nat_le, List, [], ◌∷◌, length, Option, Result, Ok, if◌then◌else◌, codes}
 use Rattle.std.specs.Cmp.Lexicographic.{pointwise}
 use Rattle.mv_base.specs.Number.{number_of, only_if, ◌>>?◌}
 use Rattle.scenario_defs.specs.declared.event.Event.TheVariants as events
@@ -8,6 +8,7 @@ use Rattle.line_words.specs.declared.fault.TextFault.{TextFault}
 use Rattle.line_words.specs.declared.words.Row.{Row}
 use Rattle.line_words.specs.Words.{Placed}
 use Rattle.line_words.specs.Forms.{fault, ◌>>=◌, or_fault, source_at, group_at, payload_at}
+use Rattle.line_words.specs.Unbuilt.{is_ipv6}
 use Rattle.scenario_draft.specs.declared.line.Line.{Line}
 use Rattle.scenario_draft.specs.declared.line.Line.TheVariants as says
 use Rattle.event_lines.specs.declared.dispatch.EventWord.{EventWord}
@@ -17,10 +18,10 @@ use Rattle.scenario_draft.specs.Drafted.{Drafted}
 use Rattle.scenario_draft.specs.Naming.{node_at, iface_at, site_at}
 use Rattle.event_lines.specs.JoinGrammar.{join_line, prune_line}
 
--- whether no line of events of clocks, sessions and losses that begins with the word is built yet
+-- whether no line of events of clocks, sessions, losses and costs that begins with the word is built yet
 abbrev pub is_unbuilt_clock : List ℕ → Bool
 is_unbuilt_clock text =
-    pointwise nat_eq text (codes "move") || pointwise nat_eq text (codes "lose") || pointwise nat_eq text (codes "notice") || pointwise nat_eq text (codes "raise") || pointwise nat_eq text (codes "heal") || pointwise nat_eq text (codes "restart")
+    pointwise nat_eq text (codes "move") || pointwise nat_eq text (codes "lose") || pointwise nat_eq text (codes "notice") || pointwise nat_eq text (codes "raise") || pointwise nat_eq text (codes "heal") || pointwise nat_eq text (codes "restart") || pointwise nat_eq text (codes "cost")
 
 -- whether no line of another event that begins with the word is built yet
 abbrev pub is_unbuilt_flow : List ℕ → Bool
@@ -41,6 +42,24 @@ event_word row first =
     if is_unbuilt_clock first.text then fault row.number first.column reasons.Later else
     if is_unbuilt_flow first.text then fault row.number first.column reasons.Later else
     fault row.number first.column reasons.Word
+
+-- whether source or group of a join, a prune or a send is an address of IPv6
+abbrev pub names_ipv6 : List Placed → Bool
+names_ipv6 [] = false
+names_ipv6 (a ∷ []) = false
+names_ipv6 (a ∷ b ∷ []) = is_ipv6 b.text
+names_ipv6 (a ∷ b ∷ c ∷ more) = is_ipv6 b.text || is_ipv6 c.text
+
+-- whether the line is of a form that is not built yet
+abbrev pub is_unbuilt_form : EventWord → List Placed → Bool
+is_unbuilt_form word_kinds.Join rest = names_ipv6 rest
+is_unbuilt_form word_kinds.Prune rest = names_ipv6 rest
+is_unbuilt_form word_kinds.Send rest = names_ipv6 rest
+is_unbuilt_form word_kinds.Tick rest = false
+is_unbuilt_form word_kinds.Timers rest = false
+is_unbuilt_form word_kinds.Pim rest = false
+is_unbuilt_form word_kinds.Drain rest = false
+is_unbuilt_form word_kinds.State rest = false
 
 -- the number of ticks that a text writes
 unfoldable pub ticks_of : List ℕ → Option ℕ
@@ -115,4 +134,6 @@ event_words draft row word_kinds.State rest = bare_line row (says.Event events.S
 -- a line of an event, of which there are at most 200,000
 unfoldable pub event_line : Drafted → Row → Placed → List Placed → Result Line TextFault
 event_line draft row first rest =
-    event_word row first >>= λ kind. if nat_le 200000 (length draft.events) then fault row.number first.column reasons.Limit else event_words draft row kind rest
+    event_word row first >>= λ kind.
+    if is_unbuilt_form kind rest then fault row.number first.column reasons.Later else
+    if nat_le 200000 (length draft.events) then fault row.number first.column reasons.Limit else event_words draft row kind rest

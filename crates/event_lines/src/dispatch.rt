@@ -2,12 +2,12 @@
 ghost use Rattle.std.specs.Prelude.{◌≡◌, map};
 ghost use Rattle.line_words.specs.Answers.{Gives};
 ghost use Rattle.line_words.specs.Words.{placed_word};
-ghost use Rattle.event_lines.specs.EventGrammar.{is_unbuilt_clock, is_unbuilt_flow, event_word, bare_line, event_words, event_line};
+ghost use Rattle.event_lines.specs.EventGrammar.{is_unbuilt_clock, is_unbuilt_flow, event_word, names_ipv6, is_unbuilt_form, bare_line, event_words, event_line};
 
 use crate::clock_lines::{tick_line, timers_line};
 use crate::join_lines::{join_line, prune_line};
 use crate::payload_lines::{pim_line, send_line};
-use line_words::{ReadFault, Reason, Row, TextFault, Word, fault_at};
+use line_words::{ReadFault, Reason, Row, TextFault, Word, fault_at, is_ipv6};
 use scenario_defs::Event;
 use scenario_draft::{Draft, Line};
 use std::alloc::Global;
@@ -36,6 +36,7 @@ fn is_unbuilt_clock(text: &[u8]) -> bool
         || text == b"raise".as_slice()
         || text == b"heal".as_slice()
         || text == b"restart".as_slice()
+        || text == b"cost".as_slice()
 }
 
 fn is_unbuilt_flow(text: &[u8]) -> bool
@@ -77,6 +78,27 @@ fn event_word(row: Row, first: &Word) -> Result<EventWord, TextFault>
         Err(fault_at(row.number, first.column, Reason::Later))
     } else {
         Err(fault_at(row.number, first.column, Reason::Word))
+    }
+}
+
+/// Whether source or group of a join, a prune or a send is an address of IPv6.
+fn names_ipv6(words: &[Word]) -> bool
+    ensures { result ≡ names_ipv6 (map placed_word words.now) }
+{
+    match words {
+        [_, source] => is_ipv6(source.text),
+        [_, source, group, ..] => is_ipv6(source.text) || is_ipv6(group.text),
+        _ => false,
+    }
+}
+
+/// Whether the line is of a form that is not built yet.
+fn is_unbuilt_form(kind: EventWord, rest: &[Word]) -> bool
+    ensures { result ≡ is_unbuilt_form kind (map placed_word rest.now) }
+{
+    match kind {
+        EventWord::Join | EventWord::Prune | EventWord::Send => names_ipv6(rest),
+        _ => false,
     }
 }
 
@@ -136,6 +158,9 @@ pub fn event_line(
     ensures { Gives result (event_line draft.now row (placed_word first.now) (map placed_word rest.now)) }
 {
     let kind = event_word(row, first)?;
+    if is_unbuilt_form(kind, rest) {
+        return Err(ReadFault::Text(fault_at(row.number, first.column, Reason::Later)));
+    }
     if draft.event_count() >= EVENT_LIMIT {
         return Err(ReadFault::Text(fault_at(row.number, first.column, Reason::Limit)));
     }

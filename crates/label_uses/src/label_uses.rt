@@ -22,8 +22,8 @@ use tunnel_bindings::{AnyBinding, Binding, Bindings, Incarnation, LabelSpace, Wa
 
 /// The labels of a node. Contracts see what each is used for, and which trees wait for one. It must be closed.
 ///
-/// Each label that is mapped or leaving has a binding of its own, which was told over the present raise of its session, and so
-/// has each tree that waits.
+/// Each label that is mapped or leaving has a binding of its own, which was told over the present raise of its session. Each
+/// tree that waits has one too.
 pub struct LabelUses {
     alloc: Global,
     space: LabelSpace,

@@ -32,7 +32,7 @@ use Rattle.edge_defs.specs.Steps.{EdgeStepped, LabelStep, learned, taken_change,
 use Rattle.edge_defs.specs.Tunnels.{leaves}
 use Rattle.edge_laws.proofs.Taken.{run_at, get-peers_run, table_in, run_taken}
 use Rattle.world_defs.specs.Nodes.{NodeState, Edge, CoreNode, Nodes, with_node, place_of, label_place_of}
-use Rattle.world_defs.specs.Puts.{bgp_puts, label_puts}
+use Rattle.node_defs.specs.Puts.{bgp_puts, label_puts}
 use Rattle.world_defs.specs.Refusals.{control_of}
 use Rattle.world_defs.specs.System.{node_called, core_called, call_of, unchanged}
 use Rattle.world_laws.proofs.Lists.{each_append}

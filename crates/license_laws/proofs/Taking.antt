@@ -27,7 +27,7 @@ use Rattle.mvpn_model.specs.Sessions.{is_between}
 use Rattle.world_defs.specs.Counts.{direction, directions}
 use Rattle.world_defs.specs.Local.{put_since, taken_since, TakesWhatWasPut}
 use Rattle.world_defs.specs.Nodes.{NodeState, Edge, CoreNode, Nodes, with_node, place_of, label_place_of}
-use Rattle.world_defs.specs.Puts.{bgp_puts, label_puts}
+use Rattle.node_defs.specs.Puts.{bgp_puts, label_puts}
 use Rattle.world_defs.specs.Run.{Traced, Runs}
 use Rattle.world_defs.specs.System.{Own, node_called, core_called, system}
 use Rattle.world_defs.specs.World.{World, start, scenario_of}

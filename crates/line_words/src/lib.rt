@@ -4,6 +4,7 @@
 mod fault;
 mod forms;
 mod lists;
+mod unbuilt;
 mod words;
 
 pub use fault::{ReadFault, Reason, TEXT_LIMIT, TextFault, fault_at, reason_word};
@@ -12,4 +13,5 @@ pub use forms::{
     target_of, vrf_number_of,
 };
 pub use lists::{prefixes_at, targets_at};
+pub use unbuilt::{has_ipv6_prefix, is_ipv6};
 pub use words::{Row, Word, split_line, words_of};

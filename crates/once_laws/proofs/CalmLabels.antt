@@ -169,12 +169,14 @@ module _ (world : World) (rules : Rules (scenario_of world)) (costs : KnowCosts 
         let first = is_core.first n root here within off in
         let ends = All-from_recursion (HasEnds (length (scenario_of world).nodes)) nodes.links (repriced_ends (length (scenario_of world).nodes) (scenario_of world).links nodes.links costs.links own_ends) in
         let prices = All-from_recursion HasCost nodes.links (repriced_costs (length (scenario_of world).nodes) (scenario_of world).links nodes.links costs.links own_ends) in
-        let next = nearer (scenario_of world) nodes.links core ends prices is_core root n first.0 within here first.2 in
-        (first.0, record {
-          toward = towards n ∙ ap (λ (c : Core). c.toward n root) (same_core n here) ∙ first.1;
-          pair = linked_pair world nodes.links present_pairs n first.0 next.cost next.linked;
-          less = next.less;
-        })
+        let next = nearer (scenario_of world) nodes.links core ends prices is_core root n first.0 within here first.2 in (
+          first.0,
+          record {
+            toward = towards n ∙ ap (λ (c : Core). c.toward n root) (same_core n here) ∙ first.1;
+            pair = linked_pair world nodes.links present_pairs n first.0 next.cost next.linked;
+            less = next.less;
+          },
+        )
 
     none_outside : (n : NodeId) (u : NodeId) → length (scenario_of world).nodes ≤ n.0 → (core_at nodes n).toward n root ≡ Some u → ⊥
     none_outside n u out e = none-some u (sym ((costs.core n).outside n root (inl out)).1 ∙ e)

@@ -1,14 +1,12 @@
 -- Behind every run each VRF chooses by its rule.
-use Rattle.std.proofs.Common.{◌≡◌, ℕ, ◌<◌, ◌==◌, ◌/◌, ◌-◌, ◌^◌, Bool, true, List, length, Option, Some, is_some, refl, sym, ap, subst, ◌∙◌}
+use Rattle.std.proofs.Common.{◌≡◌, ℕ, ◌/◌, ◌-◌, ◌^◌, true, List, refl, sym, ap, subst, ◌∙◌}
 use Rattle.std.specs.Int.{w32, w128, from_be_bytes}
-use Rattle.std.specs.FinMap as maps
 use Rattle.std.proofs.lemmas.Bool.{eq-eqb, eqb-true}
 use Rattle.std.proofs.lemmas.Option.{slice_get_within}
 use Rattle.mv_base.specs.Prefix.{same_front, covers}
 use Rattle.mv_base.specs.declared.addr.Addr.{Addr}
 use Rattle.mv_base.specs.declared.addr.Addr.TheVariants.{V4, V6}
 use Rattle.mv_base.specs.declared.ids.NodeId.{NodeId}
-use Rattle.mv_base.specs.declared.ids.SiteId.{SiteId}
 use Rattle.mv_base.specs.declared.prefix.Prefix.{Prefix}
 use Rattle.scenario_defs.specs.Home.{local_routes, routes}
 use Rattle.scenario_defs.specs.Rules.{Rules}
@@ -16,10 +14,8 @@ use Rattle.scenario_defs.specs.Vpn.{is_attached, is_attached_at, targets_of}
 use Rattle.scenario_defs.specs.declared.event.Script.{Script}
 use Rattle.scenario_defs.specs.declared.event.Timed.{Timed}
 use Rattle.scenario_defs.specs.declared.scenario.Route.{Route}
-use Rattle.scenario_defs.specs.declared.scenario.Scenario.{Scenario}
 use Rattle.choice_defs.specs.Choice.{IsOnePrefix, AreOfSites}
 use Rattle.choice_defs.specs.declared.known_route.KnownRoute.{KnownRoute}
-use Rattle.choice_defs.specs.declared.origin.Origin.{Origin}
 use Rattle.choice_defs.specs.declared.origin.Origin.TheVariants as origins
 use Rattle.selective_defs.specs.Selective.{Among}
 use Rattle.edge_defs.specs.Edge.{Control, EdgeData}
@@ -29,9 +25,9 @@ use Rattle.calm_laws.proofs.Targets.{same_itself}
 use Rattle.edge_words.specs.Known.{AreNodes}
 use Rattle.edge_words.proofs.Known.{of_edges, chosen_is, local_is}
 use Rattle.world_defs.specs.Costs.{Cores}
-use Rattle.world_defs.specs.Nodes.{NodeState, Edge, is_edge, place_of}
+use Rattle.world_defs.specs.Nodes.{NodeState, Edge, place_of}
 use Rattle.world_defs.specs.Run.{Traced}
-use Rattle.world_defs.specs.World.{World, scenario_of}
+use Rattle.world_defs.specs.World.{World}
 use Rattle.world_laws.specs.Sound.{HasOctets}
 use Rattle.world_laws.specs.SoundRun.{SoundRun}
 use Rattle.once_laws.specs.Chooses.{ChoosesByTheRule}

@@ -30,4 +30,6 @@ mod tables;
 #[cfg(test)]
 mod tunnels;
 #[cfg(test)]
+mod upstream;
+#[cfg(test)]
 mod walks;

@@ -39,7 +39,7 @@ use Rattle.edge_defs.specs.Steps.{LabelStep, EdgeStepped, control_step, own_labe
 use Rattle.edge_defs.specs.Tunnels.{leaves}
 use Rattle.world_defs.specs.Counts.{direction}
 use Rattle.world_defs.specs.Nodes.{NodeState, Edge, CoreNode, Nodes, with_node, place_of, part_of, core_at}
-use Rattle.world_defs.specs.Puts.{bgp_puts, label_puts}
+use Rattle.node_defs.specs.Puts.{bgp_puts, label_puts}
 use Rattle.world_defs.specs.System.{node_called, core_called, edge_stepped}
 use Rattle.world_defs.specs.Refusals.{control_of}
 use Rattle.world_defs.specs.World.{Datagram}

@@ -310,4 +310,4 @@ scenario_words_meets draft row word_kinds.Events first rest topology = events_li
 -- A line of the scenario that is without fault declares what may be declared.
 pub scenario_line_meets : (draft : Drafted) (row : Row) (first : Placed) (rest : List Placed) → IsTopology (length draft.scenario.nodes) draft.scenario.links → Meets (IsDeclared draft) (scenario_line draft row first rest)
 unfolding scenario_line
-scenario_line_meets draft row first rest topology = bind_meets _ (scenario_word row first) _ (λ kind _. scenario_words_meets draft row kind first rest topology)
+scenario_line_meets draft row first rest topology = bind_meets _ (scenario_word row first) _ (λ kind _. if_meets _ _ _ _ (λ built. scenario_words_meets draft row kind first rest topology))

@@ -99,7 +99,7 @@ module _ (used : ℕ → Bool) (numbers_used : List ℕ) (count : ℕ) (among : 
   up_to : (number : ℕ) → ((k : ℕ) → 1 ≤ k → k ≤ number → used k ≡ true) → number ≤ length numbers_used
   up_to number each =
       let all : (q : ℕ) → q < number → list_any (eqb q) (lowered numbers_used) ≡ true =
-        λ q low. among_lowered q (q + 1) numbers_used (among (q + 1) (each (q + 1) (omega arith) (omega (arith, low)))) refl in
+      λ q low. among_lowered q (q + 1) numbers_used (among (q + 1) (each (q + 1) (omega arith) (omega (arith, low)))) refl in
       let many : number ≤ length (lowered numbers_used) = le-length_from_below (lowered numbers_used) number all in
       let same = length-lowered numbers_used in
       omega (arith, many, same)

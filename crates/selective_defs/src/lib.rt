@@ -7,6 +7,9 @@ mod laws;
 mod learned_route;
 mod selection;
 
-pub use laws::{egress_wants_what_root_transmits, free_number_is, next_number_is, transmitted_is, tunnels_overlap, wanted_is};
+pub use laws::{
+    egress_wants_what_root_transmits, free_number_is, next_number_is, transmitted_is,
+    tunnels_overlap, wanted_is,
+};
 pub use learned_route::LearnedRoute;
 pub use selection::Selection;

@@ -48,7 +48,7 @@ use Rattle.edge_defs.specs.Steps.{LabelStep, EdgeStepped, control_step, own_labe
 use Rattle.edge_defs.specs.Tunnels.{leaves}
 use Rattle.calm_laws.proofs.Lists.{any_from}
 use Rattle.world_defs.specs.Nodes.{NodeState, Edge, CoreNode, Nodes, with_node, place_of, label_place_of, part_of}
-use Rattle.world_defs.specs.Puts.{bgp_put, bgp_puts, label_put, label_puts as puts_of}
+use Rattle.node_defs.specs.Puts.{bgp_put, bgp_puts, label_put, label_puts as puts_of}
 use Rattle.world_defs.specs.System.{edge_stepped, core_called, node_called, call_of}
 use Rattle.world_defs.proofs.Nothing.{flat_none}
 use Rattle.world_laws.proofs.Lists.{each_append, each_of, each_map, each_flat, each_weaker}

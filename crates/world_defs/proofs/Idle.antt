@@ -40,7 +40,7 @@ use Rattle.edge_defs.specs.Steps.{LabelStep, EdgeStepped, edge_step, control_ste
 use Rattle.edge_defs.specs.Tunnels.{leaves, tunnels_of, inclusive_tunnels, flow_tunnels}
 use Rattle.mvpn_model.specs.Sessions.{edges}
 use Rattle.world_defs.specs.Nodes.{NodeState, Edge, CoreNode, Nodes, with_node, place_of, label_place_of}
-use Rattle.world_defs.specs.Puts.{bgp_put, bgp_puts, label_puts}
+use Rattle.node_defs.specs.Puts.{bgp_put, bgp_puts, label_puts}
 use Rattle.world_defs.specs.System.{node_called, core_called}
 use Rattle.world_defs.proofs.Nothing.{flat_none, no_entries, empty_by, no_union, none_retained}
 

@@ -1,4 +1,3 @@
-pub mod Puts
 pub mod Costs
 pub mod Nodes
 pub mod System

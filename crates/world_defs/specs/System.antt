@@ -7,14 +7,15 @@ use Rattle.core_walks.specs.Costs.{with_cost}
 use Rattle.label_defs.specs.LabelData.{LabelData}
 use Rattle.label_defs.specs.Steps as labels
 use Rattle.label_defs.specs.Steps.{label_step}
-use Rattle.session_defs.specs.Message.{SessionMessage, Bgp, Label}
 use Rattle.session_defs.specs.System.{Stepped, System}
 use Rattle.edge_defs.specs.Edge.{EdgeData}
 use Rattle.edge_defs.specs.Place.{addr_of}
 use Rattle.edge_defs.specs.Steps as steps
 use Rattle.edge_defs.specs.Steps.{LabelStep, edge_step, own_label_call}
 use Rattle.world_defs.specs.Nodes.{NodeState, Edge, CoreNode, Nodes, fresh_node, with_node, following, place_of, label_place_of}
-use Rattle.world_defs.specs.Puts.{bgp_puts, label_puts}
+use Rattle.node_defs.specs.Puts.{label_puts}
+pub use Rattle.node_defs.specs.EdgeState.{call_of}
+use Rattle.node_defs.specs.EdgeState.{edge_puts}
 
 -- ---- steps of a node
 
@@ -22,11 +23,7 @@ use Rattle.world_defs.specs.Puts.{bgp_puts, label_puts}
 abbrev pub edge_stepped : Nodes → NodeId → EdgeData → steps.Call → Option (Stepped Nodes)
 edge_stepped nodes n edge call =
     edge_step (place_of nodes n) nodes.clock edge call >>? λ new.
-    Some (record {
-      state = with_node nodes n (Edge new.edge);
-      puts = bgp_puts (place_of nodes n) edge.control new.edge.control
-          ++ flat_map (label_puts n (addr_of nodes.scenario n) (label_place_of nodes n) nodes.clock) new.row;
-    })
+    Some (record { state = with_node nodes n (Edge new.edge); puts = edge_puts (place_of nodes n) nodes.clock edge new })
 
 -- a core node makes one label step
 abbrev pub core_stepped : Nodes → NodeId → LabelData → labels.Call → Option (Stepped Nodes)
@@ -48,11 +45,6 @@ core_called nodes n part (Some call) = core_stepped nodes n part call
 abbrev pub node_called : Nodes → NodeId → NodeState → steps.Call → Option (Stepped Nodes)
 node_called nodes n (Edge edge) call = edge_stepped nodes n edge call
 node_called nodes n (CoreNode part) call = core_called nodes n part (own_label_call call)
-
--- the call that takes a message from a neighbour
-abbrev pub call_of : NodeId → SessionMessage → steps.Call
-call_of from (Bgp message) = steps.Update from message
-call_of from (Label message) = steps.Label from message
 
 -- ---- the system
 

@@ -16,7 +16,7 @@ use Rattle.edge_defs.specs.Held.{held_for, told, put_to}
 use Rattle.edge_defs.specs.Keys.{key_cmp, Value, Table, same_value}
 use Rattle.edge_defs.specs.Place.{EdgePlace}
 use Rattle.mvpn_model.specs.Sessions.{edges}
-use Rattle.world_defs.specs.Puts.{bgp_put, bgp_puts}
+use Rattle.node_defs.specs.Puts.{bgp_put, bgp_puts}
 use Rattle.world_laws.specs.Sound.{SoundScenario, SoundControl}
 use Rattle.world_laws.proofs.BgpHeld.{held_fits}
 use Rattle.edge_defs.proofs.KeyLemmas.{key_total, key_exact}

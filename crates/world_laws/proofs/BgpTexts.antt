@@ -26,7 +26,7 @@ use Rattle.scenario_defs.specs.declared.event.Kind.TheVariants as kinds
 use Rattle.session_defs.specs.Message.{IsPut}
 use Rattle.edge_defs.specs.Keys.{Value}
 use Rattle.edge_defs.specs.Messages.{as_update}
-use Rattle.world_defs.specs.Puts.{update_unit}
+use Rattle.node_defs.specs.Puts.{update_unit}
 use Rattle.world_laws.specs.Sound.{IsHost, AreEight}
 use Rattle.world_laws.proofs.BgpOctets.{no_octets, octets_cons, octets_append, one_octet, repeated_octets, octets_of_16, octets_of_32, host_octets, host_length, comms_fit, comms_length, attribute_fits, attribute_length}
 

@@ -24,7 +24,7 @@ use Rattle.edge_defs.specs.Place.{EdgePlace, label_place}
 use Rattle.edge_defs.specs.Steps as steps
 use Rattle.edge_defs.specs.Steps.{own_label_call, changed_leaves, one_call, LabelStep, label_row, part_after}
 use Rattle.edge_defs.specs.Tunnels.{leaves}
-use Rattle.world_defs.specs.Puts.{label_puts}
+use Rattle.node_defs.specs.Puts.{label_puts}
 use Rattle.world_laws.specs.Sound.{IsSoundFec, SoundControl}
 use Rattle.world_laws.proofs.LabelEnds.{IsNoRaise, own_ends_stay_empty, ends_stay_empty, no_ends_no_puts}
 use Rattle.world_laws.proofs.LabelLeaves.{leaves_are_sound}

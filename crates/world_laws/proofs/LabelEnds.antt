@@ -23,7 +23,7 @@ use Rattle.label_defs.proofs.KeyLemmas.{node_cmp_total, node_cmp_exact}
 use Rattle.label_defs.proofs.SettleLemmas.{bind_some}
 use Rattle.label_defs.proofs.UseLemmas.{map_some}
 use Rattle.edge_defs.specs.Steps.{LabelStep}
-use Rattle.world_defs.specs.Puts.{label_put, label_puts}
+use Rattle.node_defs.specs.Puts.{label_put, label_puts}
 use Rattle.world_defs.proofs.Nothing.{no_entries}
 
 -- the call is none of an end that comes up

@@ -24,7 +24,7 @@ use Rattle.session_defs.specs.Message.{IsPut}
 use Rattle.session_defs.specs.System.{Put}
 use Rattle.edge_defs.specs.Place.{EdgePlace, addr_of, label_place}
 use Rattle.edge_defs.specs.Steps.{LabelStep, label_row, part_after}
-use Rattle.world_defs.specs.Puts.{label_put, label_puts}
+use Rattle.node_defs.specs.Puts.{label_put, label_puts}
 use Rattle.world_laws.specs.Sound.{SoundScenario, SoundUse, SoundPart}
 use Rattle.world_laws.proofs.BgpOctets.{host_length, host_octets}
 use Rattle.world_laws.proofs.BgpPlaces.{addr_host}

@@ -63,7 +63,7 @@ use Rattle.bgp_attributes.specs.declared.update.Message.{Message}
 use Rattle.bgp_update.specs.Table.{changes_of}
 use Rattle.selective_defs.specs.Selective.{free_number}
 use Rattle.label_defs.specs.LabelData as parts
-use Rattle.world_defs.specs.Puts.{bgp_puts, label_puts}
+use Rattle.node_defs.specs.Puts.{bgp_puts, label_puts}
 use Rattle.world_laws.specs.Limits.{IsWithin, AreWithin}
 use Rattle.edge_defs.proofs.KeyLemmas.{note_total, pattern_total}
 use Rattle.world_laws.proofs.SteadyEvents.{IsPlain, IsRoutine, routine_event}

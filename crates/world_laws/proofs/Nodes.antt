@@ -20,7 +20,7 @@ use Rattle.edge_defs.specs.Tunnels.{leaves}
 use Rattle.world_defs.specs.Costs.{AreRepriced}
 use Rattle.world_defs.proofs.CostLemmas.{repriced_more}
 use Rattle.world_defs.specs.Nodes.{NodeState, Edge, CoreNode, Nodes, fresh_node, with_node, following, place_of, label_place_of}
-use Rattle.world_defs.specs.Puts.{bgp_puts, label_puts}
+use Rattle.node_defs.specs.Puts.{bgp_puts, label_puts}
 use Rattle.world_defs.specs.System.{Own, Elapse, Reset, Price, Follow, NodeCall, nodes_called, node_called, core_called, core_stepped, edge_stepped, call_of}
 use Rattle.world_laws.specs.Sound.{SoundScenario, SoundControl, SoundPart, SoundNode, IsBare, Sound}
 use Rattle.world_laws.specs.Honest.{IsSoundNodeCall, sound_system}

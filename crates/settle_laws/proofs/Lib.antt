@@ -12,5 +12,6 @@ pub mod Rounds
 pub mod Depth
 pub mod Settled
 pub mod Ttl
+pub mod Times
 pub mod Drained
 pub mod Behind

@@ -7,12 +7,15 @@ use Rattle.world_defs.specs.Costs.{Cores}
 use Rattle.world_defs.specs.Run.{Traced, Run}
 use Rattle.world_defs.specs.World.{World}
 
--- `settle` and `drain` on that line of a script
+-- `settle`, `drain` and `tick` on that line of a script
 abbrev pub settle_at : ℕ → Timed
 settle_at line = record { line = line; event = events.Settle }
 
 abbrev pub drain_at : ℕ → Timed
 drain_at line = record { line = line; event = events.Drain }
+
+abbrev pub tick_at : ℕ → ℕ → Timed
+tick_at line count = record { line = line; event = events.Tick count }
 
 -- A run of these events is the beginning of what happened, and the network behind it has a property.
 pub record IsBehind (cores : Cores) (script : Script) (events : List Timed) (trace : List Traced) (P : World → Type 0) : Type 0 where

@@ -1,5 +1,5 @@
 //! What `settle` and `drain` leave behind.
-ghost use Rattle.std.specs.Prelude.{◌≡◌, true, ◌++◌, ℕ, List, [], ◌∷◌, length};
+ghost use Rattle.std.specs.Prelude.{◌≡◌, ◌<◌, true, ◌++◌, ℕ, List, [], ◌∷◌, length};
 ghost use Rattle.std.specs.List.{AllByRecursion};
 ghost use Rattle.mv_base.specs.declared.ids.NodeId.{NodeId};
 ghost use Rattle.mldp_msgs.specs.declared.message.LabelMessage.{LabelMessage};
@@ -18,7 +18,7 @@ ghost use Rattle.world_defs.specs.Events.{Happened, Done};
 ghost use Rattle.world_defs.specs.Run.{Traced, IsSettled, IsDrained, outcome, Run};
 ghost use Rattle.world_defs.specs.World.{World};
 ghost use Rattle.world_laws.specs.SoundRun.{SoundRun};
-ghost use Rattle.settle_laws.specs.Behind.{IsBehind, settle_at, drain_at};
+ghost use Rattle.settle_laws.specs.Behind.{IsBehind, settle_at, drain_at, tick_at};
 ghost use Rattle.settle_laws.specs.Ranks.{IsFresh, IsQuietAt, joins_only, IsJoin};
 
 /// Behind a `settle` that comes next after a run of a sound scenario, by its cores and by sound events, no octet is in transit and no
@@ -36,9 +36,20 @@ pub fn drain_drains()
     ensures next { (cores : Cores) (script : Script) (events : List Timed) (trace : List Traced) (old new : World) (line : ℕ) →
         (acts : List Happened) → Run cores script events trace old → outcome old (drain_at line) ≡ Done acts new → IsDrained new }
     ensures within { (cores : Cores) (script : Script) (before after : List Timed) (line : ℕ) (trace : List Traced) (new : World) →
-        Run cores script (before ++ drain_at line ∷ after) trace new → IsBehind cores script (before ++ drain_at line ∷ []) trace IsDrained }
+        Run cores script (before ++ drain_at line ∷ after) trace new →
+        IsBehind cores script (before ++ drain_at line ∷ []) trace IsDrained }
     ensures settled { (old new : World) (line : ℕ) (acts : List Happened) →
         IsSettled old → outcome old (drain_at line) ≡ Done acts new → IsSettled new }
+{}
+
+/// Copies do not outlive their life. Behind a `tick` of more than it that comes next after any run, no copy is on a link, and `settle`
+/// puts none there.
+pub fn time_drains()
+    ensures next { (cores : Cores) (script : Script) (events : List Timed) (trace : List Traced) (old new : World) (line count : ℕ) →
+        (acts : List Happened) → Run cores script events trace old → script.scenario.life < count →
+        outcome old (tick_at line count) ≡ Done acts new → IsDrained new }
+    ensures settled { (old new : World) (line : ℕ) (acts : List Happened) →
+        IsDrained old → outcome old (settle_at line) ≡ Done acts new → IsDrained new }
 {}
 
 /// What `state` tells of a settled network, and of a drained one.

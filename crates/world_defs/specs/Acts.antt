@@ -63,7 +63,8 @@ put_lines scenario puts = flat_map (put_line puts) (directions scenario)
 -- the act's lines and the network behind it, where there is one
 abbrev pub with_network : World → List ReportLine → Option (Behind (octets.OctetNetwork Nodes)) → NodeId → Result Acted NodeId
 with_network world before None node = Err node
-with_network world before (Some new) node = Ok (record { world = record world { network = new.network }; lines = before ++ put_lines (scenario_of world) new.puts })
+with_network world before (Some new) node =
+    Ok (record { world = record world { network = new.network }; lines = before ++ put_lines (scenario_of world) new.puts })
 
 -- Acts on sessions and nodes, at a node: where one of its label steps needs more labels than are free, the act fails there.
 abbrev pub at_node : World → NodeId → List ReportLine → List (OctetAct NodeCall) → Result Acted NodeId
@@ -93,7 +94,8 @@ copy_on world ttl number branch = record { label = branch.label; ttl = ttl; put_
 abbrev pub with_branches : NodeId → ℕ → ℕ → List Branch → World → World
 with_branches node ttl number [] world = world
 with_branches node ttl number (branch ∷ more) world =
-    with_branches node ttl number more (with_copies node branch.node (world.copies node branch.node ++ copy_on world ttl number branch ∷ []) world)
+    with_branches node ttl number more
+    (with_copies node branch.node (world.copies node branch.node ++ copy_on world ttl number branch ∷ []) world)
 
 abbrev pub hop_line : NodeId → ℕ → ℕ → Branch → ReportLine
 hop_line node ttl number branch = lines.Hop node branch.node branch.label ttl number
@@ -112,7 +114,8 @@ datagram_at world number = numbered world.datagrams number
 -- the last datagram enters at a VRF of an edge
 abbrev pub enters_at : World → OwnVrf → NodeState → Datagram → Acted
 enters_at world own (Edge edge) datagram =
-    fated world own.vrf.edge 255 (length world.datagrams) datagram.octets [] (entering_fate (place_of world.network.state own.vrf.edge) (clock_of world) edge own datagram.site datagram.source datagram.group)
+    fated world own.vrf.edge 255 (length world.datagrams) datagram.octets []
+    (entering_fate (place_of world.network.state own.vrf.edge) (clock_of world) edge own datagram.site datagram.source datagram.group)
 enters_at world own (CoreNode part) datagram = record { world = world; lines = [] }
 
 abbrev pub entering : World → VrfId → Option Vrf → Option Datagram → Acted
@@ -121,8 +124,10 @@ entering world id vrf datagram = record { world = world; lines = [] }
 
 -- what a node does with a copy of a datagram that comes from a neighbour under a label
 abbrev pub fate_at : World → NodeId → NodeState → NodeId → ℕ → Datagram → Fate
-fate_at world n (Edge edge) from label datagram = arriving_fate (place_of world.network.state n) (clock_of world) edge from label datagram.source datagram.group
-fate_at world n (CoreNode part) from label datagram = elim (tree_of from (use_of part label)) [ None ↦ discarded | Some fec ↦ record { outs = []; branches = branches_of part fec } ]
+fate_at world n (Edge edge) from label datagram =
+    arriving_fate (place_of world.network.state n) (clock_of world) edge from label datagram.source datagram.group
+fate_at world n (CoreNode part) from label datagram =
+    elim (tree_of from (use_of part label)) [ None ↦ discarded | Some fec ↦ record { outs = []; branches = branches_of part fec } ]
 
 -- a copy whose TTL is 1 is not sent on
 abbrev pub with_ttl : ℕ → Fate → Fate
@@ -131,7 +136,8 @@ with_ttl ttl fate = if nat_le ttl 1 then record fate { branches = [] } else fate
 abbrev pub landed : World → NodeId → NodeId → LinkCopy → Option Datagram → Acted
 landed world from to copy None = record { world = world; lines = [] }
 landed world from to copy (Some datagram) =
-    fated world to (copy.ttl - 1) copy.number datagram.octets (lines.Land from to copy.label copy.number ∷ []) (with_ttl copy.ttl (fate_at world to (world.network.state.node to) from copy.label datagram))
+    fated world to (copy.ttl - 1) copy.number datagram.octets (lines.Land from to copy.label copy.number ∷ [])
+    (with_ttl copy.ttl (fate_at world to (world.network.state.node to) from copy.label datagram))
 
 -- the copy at that place, counted from 1, leaves its link
 abbrev pub without_copy : World → NodeId → NodeId → ℕ → World
@@ -145,7 +151,8 @@ landing world from to place (Some copy) = landed (without_copy world from to pla
 
 -- the copies that have been on their links for longer than they may are removed
 abbrev pub aged : World → World
-aged world = record world { copies = λ u n. filter (λ copy. nat_le (clock_of world) (copy.put_at + (scenario_of world).life)) (world.copies u n) }
+aged world =
+    record world { copies = λ u n. filter (λ copy. nat_le (clock_of world) (copy.put_at + (scenario_of world).life)) (world.copies u n) }
 
 abbrev pub with_aged : Result Acted NodeId → Result Acted NodeId
 with_aged (Err node) = Err node
@@ -155,7 +162,9 @@ with_aged (Ok new) = Ok (record new { world = aged new.world })
 abbrev pub act : World → Act → Result Acted NodeId
 act world (Tick ticks) = with_aged (at_node world (record { 0 = 0 }) [] (octets.Call (Elapse ticks) ∷ []))
 act world (Timers n) = at_node world n [] (octets.Call (Own n steps.Timers) ∷ [])
-act world (Move kind from to count) = at_node world to (lines.Take kind from to (take count (world.network.transit (direction kind from to))) ∷ []) (octets.Move (direction kind from to) count ∷ [])
+act world (Move kind from to count) =
+    at_node world to (lines.Take kind from to (take count (world.network.transit (direction kind from to))) ∷ [])
+    (octets.Move (direction kind from to) count ∷ [])
 act world (Lose kind a b) = at_node world a [] (octets.Lose (is_of_session kind a b) ∷ [])
 act world (Notice kind a b) = at_node world a [] (octets.Forget (is_from_peer kind a b) ∷ octets.Call (Own a (steps.Noticed kind b)) ∷ [])
 act world (RaiseFirst kind a b) = at_node world a [] (octets.Join (is_of_session kind a b) ∷ octets.Call (Own a (steps.Raised kind b)) ∷ [])

@@ -48,7 +48,9 @@ is_up world kind n peer = is_end_up kind (world.network.state.node n) peer
 
 -- whether the hold of both ends of an LDP session was run
 abbrev pub are_held : World → Session → Bool
-are_held world session = labels.is_ready (part_of (world.network.state.node session.a)) session.b && labels.is_ready (part_of (world.network.state.node session.b)) session.a
+are_held world session =
+    labels.is_ready (part_of (world.network.state.node session.a)) session.b
+    && labels.is_ready (part_of (world.network.state.node session.b)) session.a
 
 -- whether a session is ready: it is joined, and the holds of an LDP session were run
 abbrev pub is_ready : World → Session → Bool
@@ -71,7 +73,8 @@ all_copies world = flat_map (λ way. world.copies way.0 way.1) (link_ways (scena
 -- how many of the datagrams up to that number have a copy on a link
 abbrev pub datagrams_with_copy : List LinkCopy → ℕ → ℕ
 datagrams_with_copy copies zero = 0
-datagrams_with_copy copies (suc number) = datagrams_with_copy copies number + (if list_any (λ copy. copy.number == suc number) copies then 1 else 0)
+datagrams_with_copy copies (suc number) =
+    datagrams_with_copy copies number + (if list_any (λ copy. copy.number == suc number) copies then 1 else 0)
 
 -- the timers of a node that are due
 abbrev pub node_due : Nodes → NodeId → ℕ
@@ -97,4 +100,6 @@ unready world = count_by (λ session. not (is_ready world session)) (sessions (s
 
 -- the line of `state`
 abbrev pub state_line : World → ReportLine
-state_line world = lines.State (octets_in_transit world) (length (all_copies world)) (datagrams_with_copy (all_copies world) (length world.datagrams)) (due_timers world) (unready world)
+state_line world =
+    lines.State (octets_in_transit world) (length (all_copies world))
+    (datagrams_with_copy (all_copies world) (length world.datagrams)) (due_timers world) (unready world)

@@ -44,7 +44,8 @@ and_then (Done before world) next = elim (next world) [
 ]
 
 abbrev pub one_act : World → Act → Outcome
-one_act world first = elim (act world first) [ Ok new ↦ Done (record { act = Some first; lines = new.lines } ∷ []) new.world | Err node ↦ Halted [] node ]
+one_act world first =
+    elim (act world first) [ Ok new ↦ Done (record { act = Some first; lines = new.lines } ∷ []) new.world | Err node ↦ Halted [] node ]
 
 -- a row of acts
 abbrev pub row : List Act → World → Outcome
@@ -90,7 +91,11 @@ healed session world =
 
 -- a direction moves all octets that are in transit there; without any it is passed over
 abbrev pub turn : Direction → World → Outcome
-turn over world = elim (world.network.transit over) [ [] ↦ Done [] world | octet ∷ more ↦ row (Move over.kind over.from over.to (length (octet ∷ more)) ∷ []) world ]
+turn over world =
+    elim (world.network.transit over) [
+      | [] ↦ Done [] world
+      | octet ∷ more ↦ row (Move over.kind over.from over.to (length (octet ∷ more)) ∷ []) world
+    ]
 
 abbrev pub settled : World → Outcome
 settled world =
@@ -116,7 +121,8 @@ drained world = times drain_round 255 world
 -- the datagram is accepted, and enters at each VRF at which its site is attached, in order of VRFs
 abbrev pub sent : SiteId → Addr → Addr → List ℕ → World → Outcome
 sent site source group octets world =
-    row (map (λ vrf. Enter vrf) (entered (scenario_of world) site)) (record world { datagrams = world.datagrams ++ record { site = site; source = source; group = group; octets = octets } ∷ [] })
+    row (map (λ vrf. Enter vrf) (entered (scenario_of world) site))
+    (record world { datagrams = world.datagrams ++ record { site = site; source = source; group = group; octets = octets } ∷ [] })
 
 -- ---- costs
 

@@ -54,7 +54,9 @@ state due unready = lines.State 0 0 0 due unready ∷ []
 
 -- Nothing is ready at the start. Both LDP sessions are raised, without lines, and are not ready.
 abbrev pub raises : List Timed
-raises = at 1 events.State ∷ at 2 (events.Raise Ldp first_edge core_node) ∷ at 3 (events.Raise Ldp second_edge core_node) ∷ at 4 events.State ∷ []
+raises =
+    at 1 events.State
+    ∷ at 2 (events.Raise Ldp first_edge core_node) ∷ at 3 (events.Raise Ldp second_edge core_node) ∷ at 4 events.State ∷ []
 
 abbrev pub raised : List Traced
 raised =

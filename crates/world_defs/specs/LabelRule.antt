@@ -60,9 +60,12 @@ end_at world n peer = maps.get (part_at world n).ends peer
 -- or it rests until no copy of that moment is on a link; or the end of n towards u is down; or that end came up when the copy was put
 -- or later, and its hold was not run.
 pub data CopyCase (world : World) (u n : NodeId) (copy : LinkCopy) : Type 0 where
-  is_mapped : (fec : Fec) → is_some (end_at world n u) ≡ true → use_of (part_at world n) copy.label ≡ Some (uses.Mapped fec u) → IsTunnelFor world copy.number fec → CopyCase world u n copy
-  is_leaving : (fec : Fec) → is_some (end_at world n u) ≡ true → use_of (part_at world n) copy.label ≡ Some (uses.Leaving fec u) → CopyCase world u n copy
-  is_resting : (until : ℕ) → use_of (part_at world n) copy.label ≡ Some (uses.Resting until) → copy.put_at + (scenario_of world).life + 1 ≤ until → CopyCase world u n copy
+  is_mapped : (fec : Fec) → is_some (end_at world n u) ≡ true → use_of (part_at world n) copy.label ≡ Some (uses.Mapped fec u)
+      → IsTunnelFor world copy.number fec → CopyCase world u n copy
+  is_leaving : (fec : Fec) → is_some (end_at world n u) ≡ true → use_of (part_at world n) copy.label ≡ Some (uses.Leaving fec u)
+      → CopyCase world u n copy
+  is_resting : (until : ℕ) → use_of (part_at world n) copy.label ≡ Some (uses.Resting until)
+      → copy.put_at + (scenario_of world).life + 1 ≤ until → CopyCase world u n copy
   is_down : end_at world n u ≡ None → CopyCase world u n copy
   is_unheld : (end : End) → end_at world n u ≡ Some end → copy.put_at ≤ end.raised → end.held ≡ false → CopyCase world u n copy
 
@@ -75,7 +78,8 @@ Holds fec u usage = (usage ≡ Some (uses.Mapped fec u)) ⊎ (usage ≡ Some (us
 -- the withdraw of the label is among what u's stream holds back from n, followed by what is in transit there
 pub record IsWithdrawnTo (world : World) (u n : NodeId) (fec : Fec) (label : ℕ) : Type 0 where
   pub all : List LabelMessage
-  pub octets : Yields SpellsPdu PduFault ((world.network.stream (direction kinds.Ldp n u)).held ++ world.network.transit (direction kinds.Ldp n u)) all
+  pub octets : Yields SpellsPdu PduFault
+      ((world.network.stream (direction kinds.Ldp n u)).held ++ world.network.transit (direction kinds.Ldp n u)) all
   pub among : Contains all (messages.Withdraw fec label)
 
 abbrev pub HasBranch : World → NodeId → NodeId → Fec → ℕ → Type 0
@@ -91,9 +95,12 @@ IsJoined world u n = world.network.joined (direction kinds.Ldp u n) ≡ true
 -- leaving and its withdraw is on its way. If the session is not joined, the end of n is down, or n holds the label so.
 pub record LabelRule (world : World) : Type 0 where
   pub copies : (u n : NodeId) → u ≢ n → AllByRecursion (CopyCase world u n) (world.copies u n)
-  pub young : (u n : NodeId) → u ≢ n → AllByRecursion (λ (copy : LinkCopy). clock_of world ≤ copy.put_at + (scenario_of world).life) (world.copies u n)
+  pub young : (u n : NodeId) → u ≢ n
+      → AllByRecursion (λ (copy : LinkCopy). clock_of world ≤ copy.put_at + (scenario_of world).life) (world.copies u n)
   pub branch_up : (u n : NodeId) (fec : Fec) (label : ℕ) → u ≢ n → HasBranch world u n fec label → is_some (end_at world u n) ≡ true
   pub joined : (u n : NodeId) (fec : Fec) (label : ℕ) → u ≢ n → IsJoined world u n → HasBranch world u n fec label
-      → (use_of (part_at world n) label ≡ Some (uses.Mapped fec u)) ⊎ ((use_of (part_at world n) label ≡ Some (uses.Leaving fec u)) × IsWithdrawnTo world u n fec label)
-  pub unjoined : (u n : NodeId) (fec : Fec) (label : ℕ) → u ≢ n → world.network.joined (direction kinds.Ldp u n) ≡ false → HasBranch world u n fec label
+      → (use_of (part_at world n) label ≡ Some (uses.Mapped fec u))
+      ⊎ ((use_of (part_at world n) label ≡ Some (uses.Leaving fec u)) × IsWithdrawnTo world u n fec label)
+  pub unjoined : (u n : NodeId) (fec : Fec) (label : ℕ) → u ≢ n → world.network.joined (direction kinds.Ldp u n) ≡ false
+      → HasBranch world u n fec label
       → (end_at world n u ≡ None) ⊎ Holds fec u (use_of (part_at world n) label)

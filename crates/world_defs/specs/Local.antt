@@ -73,7 +73,8 @@ is_up_in kind n peer trace = fold (λ before step. is_up_after kind n peer befor
 
 -- What a node takes is a first part of what its neighbour put, since the last raise.
 abbrev pub TakesWhatWasPut : List Traced → Type 0
-TakesWhatWasPut trace = (before after : List Traced) (kind : Kind) (from to : NodeId) → trace ≡ before ++ after → (rest : List ℕ) × (put_since kind from to before ≡ taken_since kind from to before ++ rest)
+TakesWhatWasPut trace = (before after : List Traced) (kind : Kind) (from to : NodeId) → trace ≡ before ++ after
+    → (rest : List ℕ) × (put_since kind from to before ≡ taken_since kind from to before ++ rest)
 
 -- A node may put a copy on a branch: its end towards the neighbour is up, and the neighbour has mapped the label to the tree.
 pub record MayHop (before : List Traced) (u n : NodeId) (label : ℕ) (fec : Fec) : Type 0 where
@@ -97,7 +98,9 @@ pub record MayDeliver (scenario : Scenario) (before : List Traced) (n : NodeId) 
   pub at_root : fec.root ≡ addr_of scenario root
   pub afi : Afi
   pub key : Key
-  pub of_tunnel : ((rd : _) × (originator : _) × (key ≡ Mcast afi (routes.Intra rd originator))) ⊎ ((rd : _) × (pattern : Pattern) × (originator : _) × (key ≡ Mcast afi (routes.Selective rd pattern.source pattern.group originator)))
+  pub of_tunnel : ((rd : _) × (originator : _) × (key ≡ Mcast afi (routes.Intra rd originator)))
+      ⊎ ((rd : _) × (pattern : Pattern) × (originator : _)
+      × (key ≡ Mcast afi (routes.Selective rd pattern.source pattern.group originator)))
   pub advert : Advert
   pub taken : HasRoute (taken_since kinds.Bgp root n before) key advert
   pub tunnel : lsp_of advert.pmsi ≡ Some fec
@@ -123,7 +126,8 @@ pub record MayLand (scenario : Scenario) (before : List Traced) (from n : NodeId
   pub outs : AllByRecursion (OutsOf scenario before n fec) all
 
 -- A datagram that enters at a VRF and goes on a branch does so for a tunnel of that VRF, and another edge has joined its flow there.
-pub record MayEnter (scenario : Scenario) (before : List Traced) (id : VrfId) (datagram : Datagram) (u n : NodeId) (label : ℕ) : Type 0 where
+pub record MayEnter (scenario : Scenario) (before : List Traced) (id : VrfId) (datagram : Datagram) (u n : NodeId)
+    (label : ℕ) : Type 0 where
   pub vrf : Vrf
   pub known : slice_get scenario.vrfs id.0 ≡ Some vrf
   pub at_edge : u ≡ vrf.edge
@@ -133,17 +137,21 @@ pub record MayEnter (scenario : Scenario) (before : List Traced) (id : VrfId) (d
   pub peer : NodeId
   pub afi : Afi
   pub advert : Advert
-  pub joined : HasRoute (taken_since kinds.Bgp peer u before) (Mcast afi (routes.SourceJoin vrf.rd scenario.system datagram.source datagram.group)) advert
+  pub joined : HasRoute (taken_since kinds.Bgp peer u before)
+      (Mcast afi (routes.SourceJoin vrf.rd scenario.system datagram.source datagram.group)) advert
   pub named : has_comm (import_target (record { addr = addr_of scenario vrf.edge; number = vrf.number })) advert.comms ≡ true
 
 abbrev pub EntersBy : Scenario → List Traced → List Datagram → VrfId → ReportLine → Type 0
-EntersBy scenario before datagrams id (lines.Hop u n label ttl number) = (datagram : Datagram) × (numbered datagrams number ≡ Some datagram) × MayEnter scenario before id datagram u n label
+EntersBy scenario before datagrams id (lines.Hop u n label ttl number) =
+    (datagram : Datagram) × (numbered datagrams number ≡ Some datagram) × MayEnter scenario before id datagram u n label
 EntersBy scenario before datagrams id other = Unit {0}
 
 -- What an act needs for its lines, by what happened before it. The lines of a copy that lands begin with that. No other act lets a
 -- copy or a datagram go on.
 abbrev pub IsLicensed : Scenario → List Datagram → List Traced → Option Act → List ReportLine → Type 0
-IsLicensed scenario datagrams before (Some (Land from n place)) (lines.Land own_from own_n label number ∷ all) = (own_from ≡ from) × (own_n ≡ n) × (list_any goes_on all ≡ true → MayLand scenario before from n label all)
+IsLicensed scenario datagrams before (Some (Land from n place)) (lines.Land own_from own_n label number ∷ all) =
+    (own_from ≡ from) × (own_n ≡ n)
+    × (list_any goes_on all ≡ true → MayLand scenario before from n label all)
 IsLicensed scenario datagrams before (Some (Enter id)) all = AllByRecursion (EntersBy scenario before datagrams id) all
 IsLicensed scenario datagrams before other all = list_any goes_on all ≡ false
 
@@ -151,4 +159,5 @@ IsLicensed scenario datagrams before other all = list_any goes_on all ≡ false
 -- datagrams that were accepted in it.
 pub record Local (last : World) (trace : List Traced) : Type 0 where
   pub takes : TakesWhatWasPut trace
-  pub licensed : (before after : List Traced) (step : Traced) → trace ≡ before ++ step ∷ after → IsLicensed (scenario_of last) last.datagrams before step.happened.act step.happened.lines
+  pub licensed : (before after : List Traced) (step : Traced) → trace ≡ before ++ step ∷ after
+      → IsLicensed (scenario_of last) last.datagrams before step.happened.act step.happened.lines

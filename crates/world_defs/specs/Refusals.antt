@@ -70,7 +70,9 @@ message_refusal world None = None
 message_refusal world (Some given) =
     if not (is_ours (scenario_of world) given) then Some refusals.Ours else
     if are_sessions_full world then Some refusals.Full else
-    refused_if (are_too_many (applied (control_at world (edge_of (scenario_of world) given.iface)).entries given.iface given.message (clock_of world))) refusals.Full
+    refused_if
+    (are_too_many (applied (control_at world (edge_of (scenario_of world) given.iface)).entries given.iface given.message (clock_of world)))
+    refusals.Full
 
 -- a note is made anew, and there is no room for it
 abbrev pub note_refusal : World → Note → Option Refusal
@@ -80,7 +82,8 @@ note_refusal world note =
 
 -- whether the VRF has selected the pattern, and how many selections its edge has
 abbrev pub is_selected : World → VrfId → Pattern → Bool
-is_selected world vrf pattern = maps.contains_key (control_at world (edge_of_vrf (scenario_of world) vrf)).selections (record { vrf = vrf; pattern = pattern })
+is_selected world vrf pattern =
+    maps.contains_key (control_at world (edge_of_vrf (scenario_of world) vrf)).selections (record { vrf = vrf; pattern = pattern })
 
 abbrev pub selections_at : World → VrfId → ℕ
 selections_at world vrf = maps.len (control_at world (edge_of_vrf (scenario_of world) vrf)).selections
@@ -96,20 +99,24 @@ abbrev pub lacks_copy : World → NodeId → NodeId → ℕ → Bool
 lacks_copy world from to place = nat_lt (length (world.copies from to)) place
 
 abbrev pub refusal : World → Event → Option Refusal
-refusal world (events.Move kind from to count) = refused_if (no_octets world kind from to || not (is_session_joined world kind from to)) refusals.Empty
+refusal world (events.Move kind from to count) =
+    refused_if (no_octets world kind from to || not (is_session_joined world kind from to)) refusals.Empty
 refusal world (events.Lose kind a b) = refused_if (not (is_session_joined world kind a b)) refusals.State
 refusal world (events.Notice kind a b) = refused_if (is_session_joined world kind a b || not (is_up world kind a b)) refusals.State
 refusal world (events.Raise kind a b) = refused_if (is_up world kind a b || is_up world kind b a) refusals.State
 refusal world (events.Join iface entry) = message_refusal world (message_of (scenario_of world) (events.Join iface entry))
 refusal world (events.Prune iface entry) = message_refusal world (message_of (scenario_of world) (events.Prune iface entry))
-refusal world (events.Pim iface octets) = option_or (octets_refusal octets) (message_refusal world (message_of (scenario_of world) (events.Pim iface octets)))
+refusal world (events.Pim iface octets) =
+    option_or (octets_refusal octets) (message_refusal world (message_of (scenario_of world) (events.Pim iface octets)))
 refusal world (events.Active iface source group) = note_refusal world (record { iface = iface; source = source; group = group })
 refusal world (events.Idle iface source group) = refused_if (are_sessions_full world) refusals.Full
 refusal world (events.Send site source group payload) = refused_if (are_links_full world) refusals.Full
 refusal world (events.Packet site octets) = option_or (packet_fault octets) (refused_if (are_links_full world) refusals.Full)
 refusal world (events.Select vrf pattern) =
-    option_or (refused_if (is_selected world vrf pattern) refusals.State) (refused_if (are_sessions_full world || nat_le selection_limit (selections_at world vrf)) refusals.Full)
-refusal world (events.Unselect vrf pattern) = option_or (refused_if (not (is_selected world vrf pattern)) refusals.State) (refused_if (are_sessions_full world) refusals.Full)
+    option_or (refused_if (is_selected world vrf pattern) refusals.State)
+    (refused_if (are_sessions_full world || nat_le selection_limit (selections_at world vrf)) refusals.Full)
+refusal world (events.Unselect vrf pattern) =
+    option_or (refused_if (not (is_selected world vrf pattern)) refusals.State) (refused_if (are_sessions_full world) refusals.Full)
 refusal world (events.Hop from to place) = refused_if (lacks_copy world from to place) refusals.Place
 refusal world (events.DropCopy from to place) = refused_if (lacks_copy world from to place) refusals.Place
 refusal world other = None

@@ -13,7 +13,11 @@ use Rattle.world_defs.specs.World.{World, start}
 
 -- what comes of an event: a refused one gives the line that says so, and changes nothing
 abbrev pub outcome : World → Timed → Outcome
-outcome world timed = elim (refusal world timed.event) [ None ↦ done world timed.event | Some reason ↦ Done (record { act = None; lines = lines.Refused timed.line reason ∷ [] } ∷ []) world ]
+outcome world timed =
+    elim (refusal world timed.event) [
+      | None ↦ done world timed.event
+      | Some reason ↦ Done (record { act = None; lines = lines.Refused timed.line reason ∷ [] } ∷ []) world
+    ]
 
 -- What happened in a run, act by act, each with the number of its event in the script, counted from 0.
 pub record Traced : Type 0 where
@@ -31,7 +35,8 @@ report_of trace = map (λ step. record { event = step.event; lines = step.happen
 abbrev pub Runs : World → ℕ → List Timed → List Traced → World → Type 0
 Runs old number [] trace new = (trace ≡ []) × (new ≡ old)
 Runs old number (timed ∷ more) trace new =
-    (acts : List Happened) × (next : World) × (rest : List Traced) × (outcome old timed ≡ Done acts next) × (trace ≡ traced number acts ++ rest) × Runs next (number + 1) more rest new
+    (acts : List Happened) × (next : World) × (rest : List Traced) × (outcome old timed ≡ Done acts next)
+    × (trace ≡ traced number acts ++ rest) × Runs next (number + 1) more rest new
 
 -- Events, from the state in which nothing has happened in the network of the script.
 abbrev pub Run : Cores → Script → List Timed → List Traced → World → Type 0
@@ -56,7 +61,8 @@ pub record Halts (cores : Cores) (script : Script) (report : List Entry) (node :
   pub run : Run cores script before trace world
   pub acts : List Happened
   pub lacks : outcome world timed ≡ Halted acts node
-  pub whole : report ≡ report_of (trace ++ traced (length before) acts) ++ record { event = length before; lines = lines.Halt timed.line node ∷ [] } ∷ []
+  pub whole : report
+      ≡ report_of (trace ++ traced (length before) acts) ++ record { event = length before; lines = lines.Halt timed.line node ∷ [] } ∷ []
 
 -- ---- behind some events
 

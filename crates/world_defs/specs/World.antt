@@ -33,7 +33,12 @@ pub record World : Type 0 where
 -- nothing has happened yet
 abbrev pub start : Scenario → Cores → World
 start scenario cores = record {
-  network = record { state = start_nodes scenario cores; joined = λ direction. false; transit = λ direction. []; stream = λ direction. unfed };
+  network = record {
+    state = start_nodes scenario cores;
+    joined = λ direction. false;
+    transit = λ direction. [];
+    stream = λ direction. unfed;
+  };
   copies = λ u n. [];
   datagrams = [];
 }

@@ -12,7 +12,8 @@ ghost use Rattle.world_defs.specs.World.{World};
 
 /// The first events of a script have at most one run: the script tells what happens in them, and the network behind them.
 pub fn a_script_has_one_run()
-    ensures { (script : Script) (count : ℕ) (trace other : List Traced) (new last : World) → RunOf script count trace new → RunOf script count other last → (trace ≡ other) × (new ≡ last) }
+    ensures { (script : Script) (count : ℕ) (trace other : List Traced) (new last : World) → RunOf script count trace new →
+        RunOf script count other last → (trace ≡ other) × (new ≡ last) }
 {}
 
 /// A refused event changes nothing and gives the one line that says so.

@@ -67,8 +67,8 @@ pub record IsLinkPlace (scenario : Scenario) (from to : NodeId) (place : ℕ) : 
   pub linked : IsLinked scenario.links from.0 to.0 cost
   pub counted : 1 ≤ place
 
--- An event of sound values. The costs of links are 1 to 65535. The node whose timers are run, or whose end notices a loss, and the interface of a join or a prune are those
--- of the scenario; a copy hops or is dropped on a link.
+-- An event of sound values. The costs of links are 1 to 65535. The node whose timers are run, or whose end notices a loss, and the
+-- interface of a join or a prune are those of the scenario; a copy hops or is dropped on a link.
 abbrev pub IsSoundEvent : Scenario → Event → Type 0
 IsSoundEvent scenario (events.Timers node) = node.0 < length scenario.nodes
 IsSoundEvent scenario (events.Notice kind a b) = a.0 < length scenario.nodes

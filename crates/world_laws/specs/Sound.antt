@@ -98,7 +98,8 @@ SoundUpstream other = Unit {0}
 -- of the keys that were taken, those that a step reads: the RD of a unicast route, and the flow of a Source Active route
 abbrev pub SoundKey : Key → Type 0
 SoundKey (Unicast rd prefix) = AreEight rd.0
-SoundKey (Mcast afi (routes.Active rd source group)) = IsSource afi source × IsGroup afi group × IsOctets (addr_octets source) × IsOctets (addr_octets group)
+SoundKey (Mcast afi (routes.Active rd source group)) =
+    IsSource afi source × IsGroup afi group × IsOctets (addr_octets source) × IsOctets (addr_octets group)
 SoundKey other = Unit {0}
 
 pub record SoundValue (value : Value) : Type 0 where
@@ -112,7 +113,8 @@ pub record SoundControl (control : Control) : Type 0 where
   pub entries : (at : IfaceEntry) → (expiry : _) → maps.get control.entries at ≡ Some expiry → SoundEntry at.entry
   pub notes : (note : Note) → sets.contains control.notes note ≡ true → IsFlow note.source note.group
   pub selections : (key : VrfPattern) (selected : Selected) → maps.get control.selections key ≡ Some selected → SoundPattern key.pattern
-  pub flows : (flow : VrfFlow) (found : Option Upstream) → maps.get control.flows flow ≡ Some found → IsFlow flow.source flow.group × SoundUpstream found
+  pub flows : (flow : VrfFlow) (found : Option Upstream) → maps.get control.flows flow ≡ Some found
+      → IsFlow flow.source flow.group × SoundUpstream found
   pub peers : (peer : NodeId) (taken : Taken) → maps.get control.peers peer ≡ Some taken → SoundTaken taken
 
 -- ---- the label part

@@ -33,17 +33,22 @@ pub fn nodes_are_honest()
 /// A move over a joined session of the network delivers some first messages of those that are pending, in order: all where all octets
 /// are moved.
 pub fn moves_of_the_network_deliver()
-    ensures { (scenario : Scenario) (old : OctetNetwork Nodes) (pending : Direction → List SessionMessage) (direction : Direction) (count : ℕ) (new : Behind (OctetNetwork Nodes)) → Sound scenario old.state → AreLines old pending →
-        old.joined direction ≡ true → moved (sound_system scenario) old direction count ≡ Some new → MovesFirst (sound_system scenario) old pending direction count new }
+    ensures { (scenario : Scenario) (old : OctetNetwork Nodes) (pending : Direction → List SessionMessage) (direction : Direction)
+        (count : ℕ) (new : Behind (OctetNetwork Nodes)) → Sound scenario old.state → AreLines old pending →
+        old.joined direction ≡ true → moved (sound_system scenario) old direction count ≡ Some new →
+        MovesFirst (sound_system scenario) old pending direction count new }
 {}
 
 /// However the octets of the network's sessions are moved, lost and cut, a run in octets is a run in messages that puts the same.
 /// Where it ends for want of a label, it does so at one of its acts, and a run in messages ends at what that act is: the same call, or
 /// a delivery over the same direction. No stream of a joined session has a fault, and the nodes stay sound.
 pub fn octets_of_the_network_carry_messages()
-    ensures refined { (scenario : Scenario) (old : OctetNetwork Nodes) (pending : Direction → List SessionMessage) (acts : List (OctetAct (SoundCall scenario))) (new : Behind (OctetNetwork Nodes)) → Sound scenario old.state → AreLines old pending →
-        octet_run (sound_system scenario) old acts ≡ Some new → Refined (sound_system scenario) old pending new × Sound scenario new.network.state }
-    ensures ended { (scenario : Scenario) (old : OctetNetwork Nodes) (pending : Direction → List SessionMessage) (acts : List (OctetAct (SoundCall scenario))) → Sound scenario old.state → AreLines old pending →
+    ensures refined { (scenario : Scenario) (old : OctetNetwork Nodes) (pending : Direction → List SessionMessage)
+        (acts : List (OctetAct (SoundCall scenario))) (new : Behind (OctetNetwork Nodes)) →
+        Sound scenario old.state → AreLines old pending → octet_run (sound_system scenario) old acts ≡ Some new →
+        Refined (sound_system scenario) old pending new × Sound scenario new.network.state }
+    ensures ended { (scenario : Scenario) (old : OctetNetwork Nodes) (pending : Direction → List SessionMessage)
+        (acts : List (OctetAct (SoundCall scenario))) → Sound scenario old.state → AreLines old pending →
         octet_run (sound_system scenario) old acts ≡ None → Ends (sound_system scenario) old pending acts }
 {}
 
@@ -63,5 +68,6 @@ pub fn nodes_know_the_present_costs()
 
 /// In every run, by whatever events, no edge holds more entries of its interfaces, notes or selections than its limits: 1,024, 256 and 256.
 pub fn limits_hold()
-    ensures { (cores : Cores) (script : Script) (events : List Timed) (trace : List Traced) (new : World) → Run cores script events trace new → AreWithin new }
+    ensures { (cores : Cores) (script : Script) (events : List Timed) (trace : List Traced) (new : World) →
+        Run cores script events trace new → AreWithin new }
 {}

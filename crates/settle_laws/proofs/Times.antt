@@ -221,8 +221,11 @@ module _ (from : World) where
     where
       by : (transit : List ℕ) → Comes (SameLinks from) (elim transit [ [] ↦ Done [] world | octet ∷ others ↦ row (Move over.kind over.from over.to (length (octet ∷ others)) ∷ []) world ])
       by [] = s
-      by (octet ∷ others) = row_keeps (SameLinks from) (Move over.kind over.from over.to (length (octet ∷ others)) ∷ []) ((λ old p. keeps (Move over.kind over.from over.to (length (octet ∷ others))) old
-          (network_same old (lines.Take over.kind over.from over.to (take (length (octet ∷ others)) (old.network.transit (direction over.kind over.from over.to))) ∷ []) (octet_run system old.network (octets.Move (direction over.kind over.from over.to) (length (octet ∷ others)) ∷ [])) over.to) p), tt) world s
+      by (octet ∷ others) = row_keeps (SameLinks from) (Move over.kind over.from over.to (length (octet ∷ others)) ∷ []) (
+        (λ old p. keeps (Move over.kind over.from over.to (length (octet ∷ others))) old
+            (network_same old (lines.Take over.kind over.from over.to (take (length (octet ∷ others)) (old.network.transit (direction over.kind over.from over.to))) ∷ []) (octet_run system old.network (octets.Move (direction over.kind over.from over.to) (length (octet ∷ others)) ∷ [])) over.to) p),
+        tt,
+      ) world s
 
   settle_keeps : (world : World) → SameLinks from world → Comes (SameLinks from) (settled world)
   settle_keeps world s =

@@ -97,8 +97,8 @@ module _ {K X : Type 0} {R : K → K → Ordering} (total : IsTotalOrder R) wher
       omega (arith, le, same)
   keys_few (k ∷ ks) m among =
       let rest = keys_few ks (maps.remove m k) (λ q is.
-          let x = without (eq_by_cmp R q k) (maps.get m q) (sym (ap is_some (maps.get-remove total m k q)) ∙ is) in
-          with_key (eq_by_cmp R q k) (list_any (eq_by_cmp R q) ks) (maps.contains_key m q) (among q) x.0 x.1) in
+      let x = without (eq_by_cmp R q k) (maps.get m q) (sym (ap is_some (maps.get-remove total m k q)) ∙ is) in
+      with_key (eq_by_cmp R q k) (list_any (eq_by_cmp R q) ks) (maps.contains_key m q) (among q) x.0 x.1) in
       let le : cond (maps.contains_key m k) (maps.len m - 1) (maps.len m) ≤ length ks = (let same = maps.len-remove total m k in omega (arith, rest, same)) in
       let few = taken_one (maps.contains_key m k) (maps.len m) (length ks) le in
       omega (arith, few)

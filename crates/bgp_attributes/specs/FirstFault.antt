@@ -18,10 +18,14 @@ use Rattle.bgp_attributes.specs.Spelling.{pair, SpellsNextHop, addr_bits, octets
 
 -- the first octets, of which there are some, are no key
 pub data KeyFault (f : Family) (octets : List ℕ) (offset : ℕ) (e : StreamFault) : Type 0 where
-  in_route : (afi : Afi) (g : RouteFault) → f ≡ Mcast afi → route_faults.FirstFault afi octets g → offset ≡ g.place → e ≡ Route g.reason → KeyFault f octets offset e
-  bits_few : (afi : Afi) (bits : ℕ) (rest : List ℕ) → f ≡ Vpn afi → octets ≡ bits ∷ rest → bits < 88 → offset ≡ 0 → e ≡ Prefix → KeyFault f octets offset e
-  bits_many : (afi : Afi) (bits : ℕ) (rest : List ℕ) → f ≡ Vpn afi → octets ≡ bits ∷ rest → 88 + addr_bits afi < bits → offset ≡ 0 → e ≡ Prefix → KeyFault f octets offset e
-  octets_few : (afi : Afi) (bits : ℕ) (rest : List ℕ) → f ≡ Vpn afi → octets ≡ bits ∷ rest → length rest < octets_for bits → offset ≡ 0 → e ≡ Prefix → KeyFault f octets offset e
+  in_route : (afi : Afi) (g : RouteFault) → f ≡ Mcast afi → route_faults.FirstFault afi octets g → offset ≡ g.place →
+      e ≡ Route g.reason → KeyFault f octets offset e
+  bits_few : (afi : Afi) (bits : ℕ) (rest : List ℕ) → f ≡ Vpn afi → octets ≡ bits ∷ rest → bits < 88 → offset ≡ 0 → e ≡ Prefix →
+      KeyFault f octets offset e
+  bits_many : (afi : Afi) (bits : ℕ) (rest : List ℕ) → f ≡ Vpn afi → octets ≡ bits ∷ rest → 88 + addr_bits afi < bits →
+      offset ≡ 0 → e ≡ Prefix → KeyFault f octets offset e
+  octets_few : (afi : Afi) (bits : ℕ) (rest : List ℕ) → f ≡ Vpn afi → octets ≡ bits ∷ rest → length rest < octets_for bits →
+      offset ≡ 0 → e ≡ Prefix → KeyFault f octets offset e
 
 -- whole keys stand first, and the next one has a fault
 pub record KeysFault (f : Family) (nlri : List ℕ) (offset : ℕ) (e : StreamFault) : Type 0 where
@@ -43,14 +47,19 @@ IsHopLen (Vpn afi) len = (len ≡ 12) ⊎ (len ≡ 24)
 pub data ValueFault (kind : ℕ) (value : List ℕ) (place : ℕ) (offset : ℕ) (e : StreamFault) : Type 0 where
   no_family : (kind ≡ 14) ⊎ (kind ≡ 15) → length value < 3 → offset ≡ 0 → e ≡ AttributeLength → ValueFault kind value place offset e
   no_hop_len : (f : Family) → kind ≡ 14 → value ≡ pair f → offset ≡ 0 → e ≡ AttributeLength → ValueFault kind value place offset e
-  hop_len : (f : Family) (len : ℕ) (rest : List ℕ) → kind ≡ 14 → value ≡ pair f ++ (len ∷ rest) → ¬ (IsHopLen f len) → offset ≡ place + 3 → e ≡ NextHop → ValueFault kind value place offset e
+  hop_len : (f : Family) (len : ℕ) (rest : List ℕ) → kind ≡ 14 → value ≡ pair f ++ (len ∷ rest) → ¬ (IsHopLen f len) →
+      offset ≡ place + 3 → e ≡ NextHop → ValueFault kind value place offset e
   -- next hop and reserved octet
-  hop_cut : (f : Family) (len : ℕ) (rest : List ℕ) → kind ≡ 14 → value ≡ pair f ++ (len ∷ rest) → IsHopLen f len → length rest < len + 1 → offset ≡ 0 → e ≡ AttributeLength → ValueFault kind value place offset e
-  in_reach : (f : Family) (addr : Addr) (hop : List ℕ) (reserved : ℕ) (nlri : List ℕ) (inner : ℕ) → kind ≡ 14 → SpellsNextHop f addr hop → value ≡ pair f ++ (length hop ∷ (hop ++ (reserved ∷ nlri))) → KeysFault f nlri inner e
+  hop_cut : (f : Family) (len : ℕ) (rest : List ℕ) → kind ≡ 14 → value ≡ pair f ++ (len ∷ rest) → IsHopLen f len →
+      length rest < len + 1 → offset ≡ 0 → e ≡ AttributeLength → ValueFault kind value place offset e
+  in_reach : (f : Family) (addr : Addr) (hop : List ℕ) (reserved : ℕ) (nlri : List ℕ) (inner : ℕ) → kind ≡ 14 →
+      SpellsNextHop f addr hop → value ≡ pair f ++ (length hop ∷ (hop ++ (reserved ∷ nlri))) → KeysFault f nlri inner e
       → offset ≡ place + 5 + length hop + inner → ValueFault kind value place offset e
-  in_unreach : (f : Family) (nlri : List ℕ) (inner : ℕ) → kind ≡ 15 → value ≡ pair f ++ nlri → KeysFault f nlri inner e → offset ≡ place + 3 + inner → ValueFault kind value place offset e
+  in_unreach : (f : Family) (nlri : List ℕ) (inner : ℕ) → kind ≡ 15 → value ≡ pair f ++ nlri → KeysFault f nlri inner e →
+      offset ≡ place + 3 + inner → ValueFault kind value place offset e
   communities : kind ≡ 16 → length value % 8 ≢ 0 → offset ≡ 0 → e ≡ AttributeLength → ValueFault kind value place offset e
-  in_tunnel : (g : PmsiFault) → kind ≡ 22 → tunnel_faults.FirstFault value g → offset ≡ place + g.place → e ≡ Pmsi g.reason → ValueFault kind value place offset e
+  in_tunnel : (g : PmsiFault) → kind ≡ 22 → tunnel_faults.FirstFault value g → offset ≡ place + g.place → e ≡ Pmsi g.reason →
+      ValueFault kind value place offset e
 
 -- the octets behind the type are no length with a value of that length behind it
 abbrev pub IsCut : ℕ → List ℕ → Type 0
@@ -60,9 +69,12 @@ IsCut flags rest = (value after : List ℕ) → FitsLen flags (length value) →
 pub data AttributeFault (before : List Attribute) (octets : List ℕ) (offset : ℕ) (e : StreamFault) : Type 0 where
   type_cut : (flags : ℕ) → octets ≡ flags ∷ [] → offset ≡ 0 → e ≡ AttributeLength → AttributeFault before octets offset e
   -- a type that is read stands a second time
-  again : (flags kind : ℕ) (rest : List ℕ) → octets ≡ flags ∷ (kind ∷ rest) → ¬ (IsNewType before kind) → offset ≡ 0 → e ≡ AttributeList → AttributeFault before octets offset e
-  cut : (flags kind : ℕ) (rest : List ℕ) → octets ≡ flags ∷ (kind ∷ rest) → IsNewType before kind → IsCut flags rest → offset ≡ 0 → e ≡ AttributeLength → AttributeFault before octets offset e
-  in_value : (flags kind : ℕ) (value after : List ℕ) → octets ≡ flags ∷ (kind ∷ (len_field flags (length value) ++ (value ++ after))) → IsNewType before kind → FitsLen flags (length value)
+  again : (flags kind : ℕ) (rest : List ℕ) → octets ≡ flags ∷ (kind ∷ rest) → ¬ (IsNewType before kind) → offset ≡ 0 →
+      e ≡ AttributeList → AttributeFault before octets offset e
+  cut : (flags kind : ℕ) (rest : List ℕ) → octets ≡ flags ∷ (kind ∷ rest) → IsNewType before kind → IsCut flags rest →
+      offset ≡ 0 → e ≡ AttributeLength → AttributeFault before octets offset e
+  in_value : (flags kind : ℕ) (value after : List ℕ) →
+      octets ≡ flags ∷ (kind ∷ (len_field flags (length value) ++ (value ++ after))) → IsNewType before kind → FitsLen flags (length value)
       → ValueFault kind value (2 + length (len_field flags (length value))) offset e → AttributeFault before octets offset e
 
 -- whole attributes stand before the place, and the next one has the fault

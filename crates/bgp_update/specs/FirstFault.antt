@@ -13,7 +13,8 @@ pub data BodyFault (body : List ℕ) (offset : ℕ) (e : StreamFault) : Type 0 w
   withdrawn_long : (len : ℕ) (rest : List ℕ) → len < 2 ^ 16 → body ≡ to_be_bytes w16 len ++ rest → length rest < len
       → offset ≡ 0 → e ≡ faults.AttributeList → BodyFault body offset e
   -- the length of the attributes doesn't fit
-  length_cut : (withdrawn rest : List ℕ) → length withdrawn < 2 ^ 16 → body ≡ to_be_bytes w16 (length withdrawn) ++ (withdrawn ++ rest) → length rest < 2
+  length_cut : (withdrawn rest : List ℕ) → length withdrawn < 2 ^ 16 →
+      body ≡ to_be_bytes w16 (length withdrawn) ++ (withdrawn ++ rest) → length rest < 2
       → offset ≡ 2 + length withdrawn → e ≡ faults.AttributeList → BodyFault body offset e
   -- the attributes pass the message
   attributes_long : (withdrawn : List ℕ) (len : ℕ) (rest : List ℕ) → length withdrawn < 2 ^ 16 → len < 2 ^ 16
@@ -21,7 +22,8 @@ pub data BodyFault (body : List ℕ) (offset : ℕ) (e : StreamFault) : Type 0 w
       → offset ≡ 2 + length withdrawn → e ≡ faults.AttributeList → BodyFault body offset e
   -- the attributes fail at their place
   in_attributes : (withdrawn list rest : List ℕ) (place : ℕ) → length withdrawn < 2 ^ 16 → length list < 2 ^ 16
-      → body ≡ to_be_bytes w16 (length withdrawn) ++ (withdrawn ++ (to_be_bytes w16 (length list) ++ (list ++ rest))) → AttributesFault list place e
+      → body ≡ to_be_bytes w16 (length withdrawn) ++ (withdrawn ++ (to_be_bytes w16 (length list) ++ (list ++ rest))) →
+      AttributesFault list place e
       → offset ≡ 4 + length withdrawn + place → BodyFault body offset e
 
 -- the octets of a message, of which the 19 of the header are there
@@ -33,9 +35,11 @@ pub data MessageFault (octets : List ℕ) (offset : ℕ) (e : StreamFault) : Typ
   wrong_type : (len kind : ℕ) (rest : List ℕ) → 19 ≤ len → len ≤ 4096 → octets ≡ header len kind ++ rest → (kind ≡ 0) ⊎ (5 < kind)
       → offset ≡ 18 → e ≡ faults.MessageType → MessageFault octets offset e
   -- an UPDATE has two lengths, and a KEEPALIVE is a header alone
-  length_by_type : (len kind : ℕ) (rest : List ℕ) → 19 ≤ len → len ≤ 4096 → octets ≡ header len kind ++ rest → ((kind ≡ 2) × (len < 23)) ⊎ ((kind ≡ 4) × (len ≢ 19))
+  length_by_type : (len kind : ℕ) (rest : List ℕ) → 19 ≤ len → len ≤ 4096 → octets ≡ header len kind ++ rest →
+      ((kind ≡ 2) × (len < 23)) ⊎ ((kind ≡ 4) × (len ≢ 19))
       → offset ≡ 16 → e ≡ faults.MessageLength → MessageFault octets offset e
-  in_body : (body rest : List ℕ) (place : ℕ) → 23 ≤ 19 + length body → 19 + length body ≤ 4096 → octets ≡ header (19 + length body) 2 ++ (body ++ rest) → BodyFault body place e
+  in_body : (body rest : List ℕ) (place : ℕ) → 23 ≤ 19 + length body → 19 + length body ≤ 4096 →
+      octets ≡ header (19 + length body) 2 ++ (body ++ rest) → BodyFault body place e
       → offset ≡ 19 + place → MessageFault octets offset e
 
 -- the message at the front of a stream fails, and no message stands in it before the fault

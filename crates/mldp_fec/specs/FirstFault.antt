@@ -27,20 +27,25 @@ pub data KindFault (c : Cursor) (f : FecFault) : Type 0 where
 -- the family, the address length or the address fails
 pub data RootFault (c : Cursor) (f : FecFault) : Type 0 where
   family_short : Lacks c 2 f → RootFault c f
-  family_wrong : (n : ℕ) (d : Cursor) → Passes c (to_be_bytes w16 n) d → n < 2 ^ 16 → ((v : Version) → n ≢ family v) → Is f c.place Family → RootFault c f
+  family_wrong : (n : ℕ) (d : Cursor) → Passes c (to_be_bytes w16 n) d → n < 2 ^ 16 → ((v : Version) → n ≢ family v) →
+      Is f c.place Family → RootFault c f
   len_short : (v : Version) (d : Cursor) → Passes c (to_be_bytes w16 (family v)) d → Lacks d 1 f → RootFault c f
-  len_wrong : (v : Version) (d : Cursor) (octet : ℕ) (e : Cursor) → Passes c (to_be_bytes w16 (family v)) d → Passes d (octet ∷ []) e → octet ≢ address_len v → Is f d.place AddressLength → RootFault c f
-  address_short : (v : Version) (d e : Cursor) → Passes c (to_be_bytes w16 (family v)) d → Passes d (address_len v ∷ []) e → Lacks e (address_len v) f → RootFault c f
+  len_wrong : (v : Version) (d : Cursor) (octet : ℕ) (e : Cursor) → Passes c (to_be_bytes w16 (family v)) d →
+      Passes d (octet ∷ []) e → octet ≢ address_len v → Is f d.place AddressLength → RootFault c f
+  address_short : (v : Version) (d e : Cursor) → Passes c (to_be_bytes w16 (family v)) d → Passes d (address_len v ∷ []) e →
+      Lacks e (address_len v) f → RootFault c f
 
 -- the opaque length or the opaque value fails; a length above 64 is a fault before the value's octets are asked for
 pub data OpaqueFault (c : Cursor) (f : FecFault) : Type 0 where
   len_short : Lacks c 2 f → OpaqueFault c f
   too_long : (n : ℕ) (d : Cursor) → Passes c (to_be_bytes w16 n) d → n < 2 ^ 16 → 64 < n → Is f c.place OpaqueTooLong → OpaqueFault c f
   short : (n : ℕ) (d : Cursor) → Passes c (to_be_bytes w16 n) d → n ≤ 64 → Lacks d n f → OpaqueFault c f
-  misshapen : (value : List ℕ) (d e : Cursor) (offset : ℕ) → Passes c (to_be_bytes w16 (length value)) d → length value ≤ 64 → Passes d value e → StopsAt tlv IsTlv value offset → Is f (d.place + offset) OpaqueShape → OpaqueFault c f
+  misshapen : (value : List ℕ) (d e : Cursor) (offset : ℕ) → Passes c (to_be_bytes w16 (length value)) d → length value ≤ 64 →
+      Passes d value e → StopsAt tlv IsTlv value offset → Is f (d.place + offset) OpaqueShape → OpaqueFault c f
 
 -- the first fault of what stands at the cursor
 pub data FirstFault (c : Cursor) (f : FecFault) : Type 0 where
   in_kind : KindFault c f → FirstFault c f
   in_root : (k : FecKind) (d : Cursor) → Passes c (kind_octet k ∷ []) d → RootFault d f → FirstFault c f
-  in_opaque : (k : FecKind) (a : Addr) (d e : Cursor) → Passes c (kind_octet k ∷ []) d → IsAddr a → Passes d (root a) e → OpaqueFault e f → FirstFault c f
+  in_opaque : (k : FecKind) (a : Addr) (d e : Cursor) → Passes c (kind_octet k ∷ []) d → IsAddr a → Passes d (root a) e →
+      OpaqueFault e f → FirstFault c f

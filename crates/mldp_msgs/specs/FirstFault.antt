@@ -22,7 +22,8 @@ IsUnknown bits kind = IsOther kind × (¬ IsPassedType kind) × (bits < 2)
 
 -- fewer than the two octets of the length, or fewer octets of the value than it says
 abbrev pub IsCut : List ℕ → Type 0
-IsCut after = (length after < 2) ⊎ ((len : ℕ) × (value : List ℕ) × (len < 2 ^ 16) × (after ≡ to_be_bytes w16 len ++ value) × (length value < len))
+IsCut after = (length after < 2)
+    ⊎ ((len : ℕ) × (value : List ℕ) × (len < 2 ^ 16) × (after ≡ to_be_bytes w16 len ++ value) × (length value < len))
 
 -- a FEC or label TLV, and one of its kind is among those before
 abbrev pub IsAgain : List Tlv → ℕ → Type 0
@@ -32,18 +33,25 @@ IsAgain before kind = ((kind ≡ 0x0100) × (¬ NoneTells fec_of before)) ⊎ ((
 pub data ValueFault (before : List Tlv) (kind : ℕ) (value : List ℕ) (offset : ℕ) (e : LdpFault) : Type 0 where
   again : IsAgain before kind → offset ≡ 0 → e ≡ faults.TlvLength → ValueFault before kind value offset e
   -- the element fails at its own place; none has no octet
-  in_fec : kind ≡ 0x0100 → NoneTells fec_of before → (¬ IsUnlikeValue value) → (f : FecFault) → fec_faults.FirstFault (start value) f → offset ≡ 4 + f.place → e ≡ faults.Fec f.reason → ValueFault before kind value offset e
-  behind_fec : kind ≡ 0x0100 → NoneTells fec_of before → (f : Fec) (text more : List ℕ) → fec.Spells f text → value ≡ text ++ more → 0 < length more → offset ≡ 0 → e ≡ faults.TlvLength → ValueFault before kind value offset e
-  label_length : kind ≡ 0x0200 → NoneTells label_of before → length value ≢ 4 → offset ≡ 0 → e ≡ faults.TlvLength → ValueFault before kind value offset e
-  label_low : kind ≡ 0x0200 → NoneTells label_of before → (high label : ℕ) → high < 2 ^ 12 → label < 16 → value ≡ to_be_bytes w32 (high * 2 ^ 20 + label) → offset ≡ 4 → e ≡ faults.Label → ValueFault before kind value offset e
+  in_fec : kind ≡ 0x0100 → NoneTells fec_of before → (¬ IsUnlikeValue value) → (f : FecFault) →
+      fec_faults.FirstFault (start value) f → offset ≡ 4 + f.place → e ≡ faults.Fec f.reason → ValueFault before kind value offset e
+  behind_fec : kind ≡ 0x0100 → NoneTells fec_of before → (f : Fec) (text more : List ℕ) → fec.Spells f text →
+      value ≡ text ++ more → 0 < length more → offset ≡ 0 → e ≡ faults.TlvLength → ValueFault before kind value offset e
+  label_length : kind ≡ 0x0200 → NoneTells label_of before → length value ≢ 4 → offset ≡ 0 → e ≡ faults.TlvLength →
+      ValueFault before kind value offset e
+  label_low : kind ≡ 0x0200 → NoneTells label_of before → (high label : ℕ) → high < 2 ^ 12 → label < 16 →
+      value ≡ to_be_bytes w32 (high * 2 ^ 20 + label) → offset ≡ 4 → e ≡ faults.Label → ValueFault before kind value offset e
 
 -- the TLV at the front fails, behind those before
 pub data TlvFault (before : List Tlv) (octets : List ℕ) (offset : ℕ) (e : LdpFault) : Type 0 where
   kind_cut : length octets ≡ 1 → offset ≡ 0 → e ≡ faults.TlvLength → TlvFault before octets offset e
-  unknown : (bits kind : ℕ) (after : List ℕ) → IsType bits kind → IsUnknown bits kind → octets ≡ tlv_type bits kind ++ after → offset ≡ 0 → e ≡ faults.UnknownTlv → TlvFault before octets offset e
+  unknown : (bits kind : ℕ) (after : List ℕ) → IsType bits kind → IsUnknown bits kind → octets ≡ tlv_type bits kind ++ after →
+      offset ≡ 0 → e ≡ faults.UnknownTlv → TlvFault before octets offset e
   -- of a known type, or its U bit is set
-  cut : (bits kind : ℕ) (after : List ℕ) → IsType bits kind → (¬ IsUnknown bits kind) → octets ≡ tlv_type bits kind ++ after → IsCut after → offset ≡ 0 → e ≡ faults.TlvLength → TlvFault before octets offset e
-  in_value : (bits kind : ℕ) (value after : List ℕ) → IsType bits kind → length value < 2 ^ 16 → octets ≡ tlv bits kind value ++ after → ValueFault before kind value offset e → TlvFault before octets offset e
+  cut : (bits kind : ℕ) (after : List ℕ) → IsType bits kind → (¬ IsUnknown bits kind) → octets ≡ tlv_type bits kind ++ after →
+      IsCut after → offset ≡ 0 → e ≡ faults.TlvLength → TlvFault before octets offset e
+  in_value : (bits kind : ℕ) (value after : List ℕ) → IsType bits kind → length value < 2 ^ 16 →
+      octets ≡ tlv bits kind value ++ after → ValueFault before kind value offset e → TlvFault before octets offset e
 
 -- ---- messages
 
@@ -60,16 +68,21 @@ pub record LabelStands (octets body : List ℕ) : Type 0 where
 -- the message at the front of a PDU's octets fails
 pub data MessageFault (octets : List ℕ) (offset : ℕ) (e : LdpFault) : Type 0 where
   header_cut : 0 < length octets → length octets < 4 → offset ≡ 0 → e ≡ faults.MessageLength → MessageFault octets offset e
-  length_wrong : (kind len : ℕ) (rest : List ℕ) → kind < 2 ^ 16 → len < 2 ^ 16 → octets ≡ to_be_bytes w16 kind ++ (to_be_bytes w16 len ++ rest) → (len < 4) ⊎ (length rest < len) → offset ≡ 2 → e ≡ faults.MessageLength → MessageFault octets offset e
-  in_tlvs : (body : List ℕ) (place : ℕ) → LabelStands octets body → PartFails SpellsTlv IsNew TlvFault body place e → offset ≡ 8 + place → MessageFault octets offset e
-  missing : (body : List ℕ) (tlvs : List Tlv) → LabelStands octets body → AreTlvs body tlvs → NoneTells fec_of tlvs ⊎ NoneTells label_of tlvs → offset ≡ 0 → e ≡ faults.MissingTlv → MessageFault octets offset e
+  length_wrong : (kind len : ℕ) (rest : List ℕ) → kind < 2 ^ 16 → len < 2 ^ 16 →
+      octets ≡ to_be_bytes w16 kind ++ (to_be_bytes w16 len ++ rest) → (len < 4) ⊎ (length rest < len) → offset ≡ 2 →
+      e ≡ faults.MessageLength → MessageFault octets offset e
+  in_tlvs : (body : List ℕ) (place : ℕ) → LabelStands octets body → PartFails SpellsTlv IsNew TlvFault body place e →
+      offset ≡ 8 + place → MessageFault octets offset e
+  missing : (body : List ℕ) (tlvs : List Tlv) → LabelStands octets body → AreTlvs body tlvs →
+      NoneTells fec_of tlvs ⊎ NoneTells label_of tlvs → offset ≡ 0 → e ≡ faults.MissingTlv → MessageFault octets offset e
 
 -- ---- PDUs
 
 -- The PDU at the front of a stream fails, and these messages stand in it before the fault: its header with its first four
 -- octets, which come before any message; a message once the PDU is whole, behind those before it.
 pub data PduFault (octets : List ℕ) (ms : List LabelMessage) (offset : ℕ) (e : LdpFault) : Type 0 where
-  version : (number len : ℕ) (rest : List ℕ) → number < 2 ^ 16 → len < 2 ^ 16 → octets ≡ to_be_bytes w16 number ++ (to_be_bytes w16 len ++ rest)
+  version : (number len : ℕ) (rest : List ℕ) → number < 2 ^ 16 → len < 2 ^ 16 →
+      octets ≡ to_be_bytes w16 number ++ (to_be_bytes w16 len ++ rest)
       → number ≢ 1 → ms ≡ [] → offset ≡ 0 → e ≡ faults.Version → PduFault octets ms offset e
   pdu_length : (len : ℕ) (rest : List ℕ) → len < 2 ^ 16 → octets ≡ to_be_bytes w16 1 ++ (to_be_bytes w16 len ++ rest)
       → (len < 6) ⊎ (4096 < len) → ms ≡ [] → offset ≡ 2 → e ≡ faults.PduLength → PduFault octets ms offset e

@@ -25,7 +25,8 @@ pub data Lacks (n : ℕ) (b : Bounded) (f : RouteFault) : Type 0 where
   short : n ≤ b.within → length b.left < n → Is f b.place Short → Lacks n b f
 
 -- a field fails, or it stands whole and what follows fails
-pub data Then {A : Type 0} (text : A → List ℕ) (Meets : A → Type 0) (First Second : Bounded → RouteFault → Type 0) (b : Bounded) (f : RouteFault) : Type 0 where
+pub data Then {A : Type 0} (text : A → List ℕ) (Meets : A → Type 0)
+    (First Second : Bounded → RouteFault → Type 0) (b : Bounded) (f : RouteFault) : Type 0 where
   fails : First b f → Then text Meets First Second b f
   stands : (x : A) (d : Bounded) → Meets x → Passes b (text x) d → Second d f → Then text Meets First Second b f
 
@@ -54,9 +55,11 @@ IsPart Group afi addr = IsGroup afi addr
 -- a source or group where a wildcard may stand
 pub data AnyOrFault (afi : Afi) (role : Role) (b : Bounded) (f : RouteFault) : Type 0 where
   len_lacks : Lacks 1 b f → AnyOrFault afi role b f
-  len_wrong : (octet : ℕ) (d : Bounded) → Passes b (octet ∷ []) d → octet ≢ 0 → octet ≢ bits afi → Is f b.place (wrong_len role) → AnyOrFault afi role b f
+  len_wrong : (octet : ℕ) (d : Bounded) → Passes b (octet ∷ []) d → octet ≢ 0 → octet ≢ bits afi → Is f b.place (wrong_len role) →
+      AnyOrFault afi role b f
   addr_lacks : (d : Bounded) → Passes b (bits afi ∷ []) d → Lacks (addr_len afi) d f → AnyOrFault afi role b f
-  not_multicast : (addr : Addr) (d e : Bounded) → role ≡ Group → Passes b (bits afi ∷ []) d → IsSource afi addr → Passes d (addr_octets addr) e → ¬ (IsMulticast addr) → Is f d.place GroupNotMulticast → AnyOrFault afi role b f
+  not_multicast : (addr : Addr) (d e : Bounded) → role ≡ Group → Passes b (bits afi ∷ []) d → IsSource afi addr →
+      Passes d (addr_octets addr) e → ¬ (IsMulticast addr) → Is f d.place GroupNotMulticast → AnyOrFault afi role b f
 
 -- a source or group where no wildcard may stand
 pub data AddrFault (afi : Afi) (role : Role) (b : Bounded) (f : RouteFault) : Type 0 where
@@ -97,8 +100,10 @@ pub data KeyFault (afi : Afi) (b : Bounded) (f : RouteFault) : Type 0 where
   kind_lacks : Lacks 1 b f → KeyFault afi b f
   kind_wrong : (kind : ℕ) (d : Bounded) → Passes b (kind ∷ []) d → kind ≢ 2 → kind ≢ 3 → Is f b.place KeyType → KeyFault afi b f
   len_lacks : (kind : ℕ) (d : Bounded) → (kind ≡ 2) ⊎ (kind ≡ 3) → Passes b (kind ∷ []) d → Lacks 1 d f → KeyFault afi b f
-  len_past : (kind len : ℕ) (d e : Bounded) → (kind ≡ 2) ⊎ (kind ≡ 3) → Passes b (kind ∷ []) d → Passes d (len ∷ []) e → e.within < len → Is f d.place LengthTooSmall → KeyFault afi b f
-  in_fields : (kind len : ℕ) (d e : Bounded) → Passes b (kind ∷ []) d → Passes d (len ∷ []) e → len ≤ e.within → KeyFieldsFault afi kind (bounded len e) f → KeyFault afi b f
+  len_past : (kind len : ℕ) (d e : Bounded) → (kind ≡ 2) ⊎ (kind ≡ 3) → Passes b (kind ∷ []) d → Passes d (len ∷ []) e →
+      e.within < len → Is f d.place LengthTooSmall → KeyFault afi b f
+  in_fields : (kind len : ℕ) (d e : Bounded) → Passes b (kind ∷ []) d → Passes d (len ∷ []) e → len ≤ e.within →
+      KeyFieldsFault afi kind (bounded len e) f → KeyFault afi b f
 
 -- the fields of a route, by its type
 pub data FieldsFault (afi : Afi) (kind : ℕ) (b : Bounded) (f : RouteFault) : Type 0 where
@@ -113,4 +118,5 @@ pub data FieldsFault (afi : Afi) (kind : ℕ) (b : Bounded) (f : RouteFault) : T
 pub data FirstFault (afi : Afi) (bytes : List ℕ) (f : RouteFault) : Type 0 where
   kind_short : bytes ≡ [] → Is f 0 Short → FirstFault afi bytes f
   len_short : (kind : ℕ) → bytes ≡ kind ∷ [] → Is f 1 Short → FirstFault afi bytes f
-  in_fields : (kind len : ℕ) (rest : List ℕ) → bytes ≡ kind ∷ (len ∷ rest) → FieldsFault afi kind (record { left = take len rest; place = 2; within = len }) f → FirstFault afi bytes f
+  in_fields : (kind len : ℕ) (rest : List ℕ) → bytes ≡ kind ∷ (len ∷ rest) →
+      FieldsFault afi kind (record { left = take len rest; place = 2; within = len }) f → FirstFault afi bytes f

@@ -85,7 +85,12 @@ RestFails = Then SpellsFields FieldsFail (λ message. Trails)
 -- The first fault of all the octets, and its place.
 pub data FirstFault (octets : List ℕ) (place : ℕ) (fault : PimFault) : Type 0 where
   short : length octets < 4 → place ≡ length octets → fault ≡ reasons.Short → FirstFault octets place fault
-  version : (first : ℕ) (rest : List ℕ) → octets ≡ first ∷ rest → 3 ≤ length rest → first / 16 ≢ 2 → place ≡ 0 → fault ≡ reasons.Version → FirstFault octets place fault
-  type : (first : ℕ) (rest : List ℕ) → octets ≡ first ∷ rest → 3 ≤ length rest → first / 16 ≡ 2 → first % 16 ≢ 3 → place ≡ 0 → fault ≡ reasons.PimType → FirstFault octets place fault
-  sum : (reserved : ℕ) (sum fields : List ℕ) → octets ≡ 0x23 ∷ reserved ∷ (sum ++ fields) → length sum ≡ 2 → sum ≢ to_be_bytes w16 (sum_of 0x23 reserved fields) → place ≡ 2 → fault ≡ reasons.Checksum → FirstFault octets place fault
-  field : (reserved : ℕ) (fields : List ℕ) (left : ℕ) → octets ≡ 0x23 ∷ reserved ∷ (to_be_bytes w16 (sum_of 0x23 reserved fields) ++ fields) → RestFails fields left fault → place + left ≡ length octets → FirstFault octets place fault
+  version : (first : ℕ) (rest : List ℕ) → octets ≡ first ∷ rest → 3 ≤ length rest → first / 16 ≢ 2 → place ≡ 0 →
+      fault ≡ reasons.Version → FirstFault octets place fault
+  type : (first : ℕ) (rest : List ℕ) → octets ≡ first ∷ rest → 3 ≤ length rest → first / 16 ≡ 2 → first % 16 ≢ 3 → place ≡ 0 →
+      fault ≡ reasons.PimType → FirstFault octets place fault
+  sum : (reserved : ℕ) (sum fields : List ℕ) → octets ≡ 0x23 ∷ reserved ∷ (sum ++ fields) → length sum ≡ 2 →
+      sum ≢ to_be_bytes w16 (sum_of 0x23 reserved fields) → place ≡ 2 → fault ≡ reasons.Checksum → FirstFault octets place fault
+  field : (reserved : ℕ) (fields : List ℕ) (left : ℕ) →
+      octets ≡ 0x23 ∷ reserved ∷ (to_be_bytes w16 (sum_of 0x23 reserved fields) ++ fields) → RestFails fields left fault →
+      place + left ≡ length octets → FirstFault octets place fault

@@ -25,7 +25,8 @@ fn add_named(
     group: Addr,
     sources: &[JpSource],
 ) -> Result<(), NoMemory>
-    ensures { (entry : JoinEntry) → OnOk result (is_among entries.new.keys entry ≡ (is_among entries.old.keys entry || lists group sources.now entry)) }
+    ensures { (entry : JoinEntry) →
+        OnOk result (is_among entries.new.keys entry ≡ (is_among entries.old.keys entry || lists group sources.now entry)) }
 {
     for source in sources {
         entries.insert(entry_of(group, source))?;
@@ -35,7 +36,8 @@ fn add_named(
 
 /// The entries that the groups join.
 fn joined(alloc: Global, groups: &[Group]) -> Result<IndexSet<JoinEntry>, NoMemory>
-    ensures { (entry : JoinEntry) → IfOk result (λ entries. is_among entries.keys entry ≡ list_any (λ group. lists group.group group.joins entry) groups.now) }
+    ensures { (entry : JoinEntry) →
+        IfOk result (λ entries. is_among entries.keys entry ≡ list_any (λ group. lists group.group group.joins entry) groups.now) }
 {
     let mut entries = IndexSet::new(alloc);
     for group in groups {
@@ -46,7 +48,8 @@ fn joined(alloc: Global, groups: &[Group]) -> Result<IndexSet<JoinEntry>, NoMemo
 
 /// The entries that the groups prune.
 fn pruned(alloc: Global, groups: &[Group]) -> Result<IndexSet<JoinEntry>, NoMemory>
-    ensures { (entry : JoinEntry) → IfOk result (λ entries. is_among entries.keys entry ≡ list_any (λ group. lists group.group group.prunes entry) groups.now) }
+    ensures { (entry : JoinEntry) →
+        IfOk result (λ entries. is_among entries.keys entry ≡ list_any (λ group. lists group.group group.prunes entry) groups.now) }
 {
     let mut entries = IndexSet::new(alloc);
     for group in groups {

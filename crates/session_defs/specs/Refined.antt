@@ -28,7 +28,8 @@ IsLine kind true stream transit pending = Carried kind stream transit pending
 IsLine kind false stream transit pending = (transit ≡ []) × (pending ≡ [])
 
 abbrev pub AreLines : {S : Type 0} → OctetNetwork S → (Direction → List SessionMessage) → Type 0
-AreLines network pending = (direction : Direction) → IsLine direction.kind (network.joined direction) (network.stream direction) (network.transit direction) (pending direction)
+AreLines network pending = (direction : Direction) →
+    IsLine direction.kind (network.joined direction) (network.stream direction) (network.transit direction) (pending direction)
 
 -- the network with these messages in the place of its octets
 abbrev pub seen : {S : Type 0} → OctetNetwork S → (Direction → List SessionMessage) → MessageNetwork S
@@ -48,7 +49,8 @@ pub record IsCarried (kind : Kind) (message : SessionMessage) : Type 0 where
 
 -- Nodes put only spelled units: at each call of their own, and with each message that a spelled unit carries.
 pub record IsHonest {S X : Type 0} (system : System S X) : Type 0 where
-  pub taken : (direction : Direction) (message : SessionMessage) (state : S) → IsCarried direction.kind message → ArePut (system.taken direction message state)
+  pub taken : (direction : Direction) (message : SessionMessage) (state : S) → IsCarried direction.kind message →
+      ArePut (system.taken direction message state)
   pub called : (call : X) (state : S) → ArePut (system.called call state)
 
 -- each unit that is put is spelled, and the state behind is a good one
@@ -58,12 +60,14 @@ Keeps Good (Some new) = ArePut (Some new) × Good new.state
 
 -- In good states nodes put only spelled units, and a good state comes of it.
 pub record IsHonestWhile {S X : Type 0} (system : System S X) (Good : S → Type 0) : Type 0 where
-  pub taken : (direction : Direction) (message : SessionMessage) (state : S) → Good state → IsCarried direction.kind message → Keeps Good (system.taken direction message state)
+  pub taken : (direction : Direction) (message : SessionMessage) (state : S) → Good state → IsCarried direction.kind message →
+      Keeps Good (system.taken direction message state)
   pub called : (call : X) (state : S) → Good state → Keeps Good (system.called call state)
 
 -- Acts on messages lead from the old network to the new one and put the same, and the octets of the new one carry what is
 -- pending there.
-pub record Refined {S X : Type 0} (system : System S X) (old : OctetNetwork S) (pending : Direction → List SessionMessage) (new : Behind (OctetNetwork S)) : Type 0 where
+pub record Refined {S X : Type 0} (system : System S X) (old : OctetNetwork S)
+    (pending : Direction → List SessionMessage) (new : Behind (OctetNetwork S)) : Type 0 where
   pub acts : List (MessageAct X)
   pub left : Direction → List SessionMessage
   pub lines : AreLines new.network left
@@ -74,7 +78,8 @@ abbrev pub deliveries : {X : Type 0} → Direction → List SessionMessage → L
 deliveries direction messages = map (λ message. Deliver direction) messages
 
 -- A move delivers some first messages of those that are pending, one after another: all of them where all octets are moved.
-pub record MovesFirst {S X : Type 0} (system : System S X) (old : OctetNetwork S) (pending : Direction → List SessionMessage) (direction : Direction) (count : ℕ) (new : Behind (OctetNetwork S)) : Type 0 where
+pub record MovesFirst {S X : Type 0} (system : System S X) (old : OctetNetwork S)
+    (pending : Direction → List SessionMessage) (direction : Direction) (count : ℕ) (new : Behind (OctetNetwork S)) : Type 0 where
   pub first : List SessionMessage
   pub rest : List SessionMessage
   pub parts : pending direction ≡ first ++ rest
@@ -87,12 +92,14 @@ pub record MovesFirst {S X : Type 0} (system : System S X) (old : OctetNetwork S
 -- that are pending. No other act ends.
 abbrev pub IsRowOf : {X : Type 0} → (Direction → List SessionMessage) → OctetAct X → List (MessageAct X) → Type 0
 IsRowOf pending (Call call) row = row ≡ CallNodes call ∷ []
-IsRowOf pending (Move direction count) row = (first : List SessionMessage) × (rest : List SessionMessage) × (pending direction ≡ first ++ rest) × (row ≡ deliveries direction first)
+IsRowOf pending (Move direction count) row = (first : List SessionMessage) × (rest : List SessionMessage)
+    × (pending direction ≡ first ++ rest) × (row ≡ deliveries direction first)
 IsRowOf pending other row = ⊥
 
 -- A run in octets comes, as a run in messages does, to an act that has no step there, and the acts on messages that it is have none
 -- there either.
-pub record Ends {S X : Type 0} (system : System S X) (old : OctetNetwork S) (pending : Direction → List SessionMessage) (acts : List (OctetAct X)) : Type 0 where
+pub record Ends {S X : Type 0} (system : System S X) (old : OctetNetwork S)
+    (pending : Direction → List SessionMessage) (acts : List (OctetAct X)) : Type 0 where
   pub before : List (OctetAct X)
   pub act : OctetAct X
   pub after : List (OctetAct X)

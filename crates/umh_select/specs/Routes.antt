@@ -134,11 +134,13 @@ AreFromNodes nodes (entry ∷ more) = ((peer_of entry.0.place).0 < nodes) × Are
 
 -- the routes whose prefixes are of the length and cover the source
 abbrev pub at_length : {X : Type 0} → Addr → ℕ → List (RouteKey × X) → List (RouteKey × X)
-at_length {X = X} source bits entries = filter (λ (entry : RouteKey × X). covers entry.0.prefix source && entry.0.prefix.bits == bits) entries
+at_length {X = X} source bits entries =
+    filter (λ (entry : RouteKey × X). covers entry.0.prefix source && entry.0.prefix.bits == bits) entries
 
 -- no prefix of the length covers the source
 abbrev pub IsNoneAt : Routes → Addr → ℕ → Type 0
-IsNoneAt routes source bits = (at_length source bits (maps.entries routes.attached) ≡ []) × (at_length source bits (maps.entries routes.learned) ≡ [])
+IsNoneAt routes source bits = (at_length source bits (maps.entries routes.attached) ≡ [])
+    × (at_length source bits (maps.entries routes.learned) ≡ [])
 
 abbrev pub first_site : List (RouteKey × SiteId) → Option SiteId
 first_site [] = None

@@ -147,7 +147,8 @@ impl Umh {
         requires me { me.0 < core.now.nodes }
         requires peers { AreOfCore core.now.nodes self.now.learned }
         ensures route { (cost : NodeId → ℕ) → AreCosts core.now me cost → result ≡ chosen self.now.learned (best_route (cost_by self.now.rule cost (known self.now) source group) (known self.now) source) }
-        ensures origin { (cost : NodeId → ℕ) → AreCosts core.now me cost → origin_of result ≡ choose self.now.rule cost (known self.now) source group }
+        ensures origin { (cost : NodeId → ℕ) → AreCosts core.now me cost →
+            origin_of result ≡ choose self.now.rule cost (known self.now) source group }
     {
         let mut length = self.lengths();
         while length > 0 {
@@ -174,7 +175,8 @@ impl Umh {
         requires me { me.0 < core.now.nodes }
         requires peers { AreOfCore core.now.nodes self.now.learned }
         ensures none { result ≡ choices.None → IsNoneAt self.now source bits }
-        ensures route { (cost : NodeId → ℕ) → AreCosts core.now me cost → result ≡ chosen self.now.learned (best_route (cost_at self.now source group bits cost) (known_at self.now source bits) source) }
+        ensures route { (cost : NodeId → ℕ) → AreCosts core.now me cost →
+            result ≡ chosen self.now.learned (best_route (cost_at self.now source group bits cost) (known_at self.now source bits) source) }
         ensures origin { (cost : NodeId → ℕ) → AreCosts core.now me cost → origin_of result ≡ option_map (λ route. route.origin) (best_route (cost_at self.now source group bits cost) (known_at self.now source bits) source) }
     {
         if !self.lengths[usize::from(bits)] {
@@ -212,7 +214,8 @@ impl Umh {
     /// The edge of that number by rising address, among those of the routes of that length, or how many there are.
     fn edge_at(&self, source: Addr, bits: u8, number: u8) -> Result<Edge, u8>
         ensures some { IfOk result (λ edge. slice_get (edges_in (at_length source bits (entries self.now.learned))) number ≡ Some edge) }
-        ensures none { IfErr result (λ count. (count ≡ length (edges_in (at_length source bits (entries self.now.learned)))) × (count ≤ number)) }
+        ensures none { IfErr result (λ count. (count ≡ length (edges_in (at_length source bits (entries self.now.learned))))
+            × (count ≤ number)) }
     {
         let mut edge = self.edge_after(source, bits, None);
         for passed in 0..number {

@@ -400,10 +400,10 @@ def judged(task):
 
 def main():
     parser = argparse.ArgumentParser()
-    parser.add_argument('--count', type=int, default=50)
+    parser.add_argument('--count', type=int, default=24)
     parser.add_argument('--seed', type=int, default=1)
-    parser.add_argument('--events', type=int, default=60)
-    parser.add_argument('--jobs', type=int, default=1)
+    parser.add_argument('--events', type=int, default=90)
+    parser.add_argument('--jobs', type=int, default=2)
     parser.add_argument('--show', action='store_true')
     given = parser.parse_args()
     if given.show:

@@ -21,8 +21,6 @@ use Rattle.world_defs.specs.Nodes.{Nodes}
 use Rattle.world_defs.specs.Run.{Traced, traced, IsSettled, IsDrained, outcome, Runs}
 use Rattle.world_defs.specs.World.{World, scenario_of, start}
 use Rattle.world_defs.proofs.Kept.{Gives, Comes, row_keeps, times_keeps, land_keeps}
-use Rattle.world_laws.specs.Sound.{SoundScenario}
-use Rattle.world_laws.specs.Honest.{IsSoundEvent}
 use Rattle.rule_laws.proofs.Start.{run_in_step}
 use Rattle.settle_laws.proofs.Drained.{drain_drains}
 use Rattle.settle_laws.proofs.Settled.{Present, settle_settles}

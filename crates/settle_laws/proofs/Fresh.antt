@@ -25,7 +25,7 @@ use Rattle.label_defs.proofs.KeyLemmas.{node_cmp_total, node_cmp_exact}
 use Rattle.table_defs.specs.Changes.{changes}
 use Rattle.table_laws.proofs.CompareLemmas.{one_key, other_key}
 use Rattle.table_laws.proofs.OrderLemmas.{none_are}
-use Rattle.choice_defs.specs.Choice.{cost_by, best_route, of_site}
+use Rattle.choice_defs.specs.Choice.{best_route, of_site}
 use Rattle.choice_defs.specs.declared.known_route.KnownRoute.{KnownRoute}
 use Rattle.choice_defs.specs.declared.origin.Origin.TheVariants as origins
 use Rattle.edge_defs.specs.Edge.{VrfFlow, Upstream, Site, Remote, TakenRoute, Taken, Control}

@@ -15,3 +15,6 @@ pub mod Ttl
 pub mod Times
 pub mod Drained
 pub mod Behind
+pub mod Raised
+pub mod Ready
+pub mod Rest

@@ -7,7 +7,10 @@ use Rattle.world_defs.specs.Costs.{Cores}
 use Rattle.world_defs.specs.Run.{Traced, Run}
 use Rattle.world_defs.specs.World.{World}
 
--- `settle`, `drain` and `tick` on that line of a script
+-- `heal`, `settle`, `drain`, `tick` and `state` on that line of a script
+abbrev pub heal_at : ℕ → Timed
+heal_at line = record { line = line; event = events.Heal }
+
 abbrev pub settle_at : ℕ → Timed
 settle_at line = record { line = line; event = events.Settle }
 
@@ -16,6 +19,9 @@ drain_at line = record { line = line; event = events.Drain }
 
 abbrev pub tick_at : ℕ → ℕ → Timed
 tick_at line count = record { line = line; event = events.Tick count }
+
+abbrev pub state_at : ℕ → Timed
+state_at line = record { line = line; event = events.State }
 
 -- A run of these events is the beginning of what happened, and the network behind it has a property.
 pub record IsBehind (cores : Cores) (script : Script) (events : List Timed) (trace : List Traced) (P : World → Type 0) : Type 0 where

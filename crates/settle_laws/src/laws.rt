@@ -1,5 +1,5 @@
 //! What `settle` and `drain` leave behind.
-ghost use Rattle.std.specs.Prelude.{◌≡◌, ◌<◌, true, ◌++◌, ℕ, List, [], ◌∷◌, length};
+ghost use Rattle.std.specs.Prelude.{◌≡◌, ◌<◌, true, ◌++◌, ℕ, List, [], ◌∷◌, Some, length};
 ghost use Rattle.std.specs.List.{AllByRecursion};
 ghost use Rattle.mv_base.specs.declared.ids.NodeId.{NodeId};
 ghost use Rattle.mldp_msgs.specs.declared.message.LabelMessage.{LabelMessage};
@@ -15,11 +15,13 @@ ghost use Rattle.world_defs.specs.Costs.{Cores};
 ghost use Rattle.edge_defs.specs.Steps.{Update, Label, Timers, control_step};
 ghost use Rattle.world_defs.specs.Counts.{all_copies, datagrams_with_copy, octets_in_transit, due_timers, unready, state_line};
 ghost use Rattle.world_defs.specs.Events.{Happened, Done};
-ghost use Rattle.world_defs.specs.Run.{Traced, IsSettled, IsDrained, outcome, Run};
+ghost use Rattle.world_defs.specs.Acts.{Tell};
+ghost use Rattle.world_defs.specs.Run.{Traced, IsSettled, IsDrained, outcome, Runs, Run};
 ghost use Rattle.world_defs.specs.World.{World};
 ghost use Rattle.world_laws.specs.SoundRun.{SoundRun};
-ghost use Rattle.settle_laws.specs.Behind.{IsBehind, settle_at, drain_at, tick_at};
+ghost use Rattle.settle_laws.specs.Behind.{IsBehind, settle_at, drain_at, tick_at, state_at};
 ghost use Rattle.settle_laws.specs.Ranks.{IsFresh, IsQuietAt, joins_only, IsJoin};
+ghost use Rattle.settle_laws.specs.Rest.{calming, IsAtRest};
 
 /// Behind a `settle` that comes next after a run of a sound scenario, by its cores and by sound events, no octet is in transit and no
 /// timer is due, unless a node lacks a label on the way. So it is behind each `settle` within such a run.
@@ -58,6 +60,22 @@ pub fn zeros_are_told()
         State 0 (length (all_copies world)) (datagrams_with_copy (all_copies world) (length world.datagrams)) 0 (unready world) }
     ensures drained { (world : World) → IsDrained world →
         state_line world ≡ State (octets_in_transit world) 0 0 (due_timers world) (unready world) }
+{}
+
+/// Whatever happened before: where `heal`, `settle`, a `tick` of more than the life of a copy and `settle` come next, and no node lacks a
+/// label, no octet is in transit behind them, no copy is on a link, no timer is due and each session is ready. So it is wherever they
+/// stand in a run, and `state` tells of zeros alone there.
+pub fn calm_is_reached()
+    ensures next { (cores : Cores) (script : Script) (events : List Timed) (trace after : List Traced) (old new : World) →
+        (number first second third fourth count : ℕ) → SoundRun cores script events trace old → script.scenario.life < count →
+        Runs old number (calming first second third fourth count) after new → IsAtRest new }
+    ensures within { (cores : Cores) (script : Script) (before after : List Timed) (trace : List Traced) (new : World) →
+        (first second third fourth count : ℕ) →
+        SoundRun cores script (before ++ calming first second third fourth count ++ after) trace new → script.scenario.life < count →
+        IsBehind cores script (before ++ calming first second third fourth count) trace IsAtRest }
+    ensures line { (world : World) → IsAtRest world → state_line world ≡ State 0 0 0 0 0 }
+    ensures state { (world : World) (line : ℕ) → IsAtRest world →
+        outcome world (state_at line) ≡ Done (record { act = Some Tell; lines = State 0 0 0 0 0 ∷ [] } ∷ []) world }
 {}
 
 /// What an edge puts over BGP in answer to a route is Source Tree Joins alone. Behind its timers its flows are those asked for at the

@@ -12,7 +12,7 @@ use Rattle.world_defs.specs.World.{World}
 abbrev pub of_events : Script → List Timed → Script
 of_events script events = record script { events = events }
 
--- All events of the script run, by that cores; or some first ones do, and the next one lacks a label at a node.
+-- All events of the script run, by these cores; or some first ones do, and the next one lacks a label at a node.
 pub data RunsOrHalts (cores : Cores) (script : Script) : Type 0 where
   AllRun : (trace : List Traced) → (new : World) → Run cores script script.events trace new → RunsOrHalts cores script
   OneHalts : (report : List Entry) → (node : NodeId) → Halts cores script report node → RunsOrHalts cores script

@@ -51,6 +51,11 @@ set_itself [] k x e = refl
 set_itself (y ∷ xs) zero x e = ap (λ z. z ∷ xs) (sym (same_Some y x e))
 set_itself (y ∷ xs) (suc k) x e = ap (λ l. y ∷ l) (set_itself xs k x e)
 
+set_twice : {X : Type 0} (xs : List X) (k : ℕ) (x y : X) → slice_set (slice_set xs k x) k y ≡ slice_set xs k y
+set_twice [] k x y = refl
+set_twice (z ∷ xs) zero x y = refl
+set_twice (z ∷ xs) (suc k) x y = ap (λ l. z ∷ l) (set_twice xs k x y)
+
 -- ---- by labels
 
 state_low : (space : Space) (label : ℕ) → label < 16 → state_of space label ≡ None
@@ -70,6 +75,13 @@ state_is_high space label s e = elim (cases_lt label 16) [
   | inl lt ↦ absurd (none-some s (sym (state_low space label lt) ∙ e))
   | inr ge ↦ ge
 ]
+
+-- a label that is in another state, and in its own again
+pub label_back : (space : Space) (label : ℕ) (old new : LabelState) → state_of space label ≡ Some old → set_label (set_label space label new) label old ≡ space
+label_back space label old new at =
+    ap (λ (states : List LabelState). record space { states = states })
+    (set_twice space.states (label - 16) new old
+    ∙ set_itself space.states (label - 16) old (sym (state_high space label (state_is_high space label old at)) ∙ at))
 
 -- what a label is used for, by its state and its holder
 pub use_is : (space : Space) (f : ℕ → Option Held) (label : ℕ) → use_in (uses_from 16 f space.states) label ≡ option_map (λ s. use_by s (f label)) (state_of space label)

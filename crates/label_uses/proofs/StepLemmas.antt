@@ -30,15 +30,14 @@ use Rattle.tunnel_bindings.specs.declared.state.LabelState.TheVariants as states
 use Rattle.tunnel_bindings.specs.Bindings.{name_cmp}
 use Rattle.tunnel_bindings.specs.Labels.{Space, state_of, set_label, IsOwned, IsLeastFree}
 use Rattle.tunnel_bindings.specs.States.{label_of}
-use Rattle.tunnel_bindings.proofs.LabelLemmas.{set-label, set-others, owned_taken, owned_behind}
 use Rattle.label_forwarding.proofs.SlotLemmas.{fec-ties}
 use Rattle.label_uses.specs.declared.held.Held.{Held}
 use Rattle.label_uses.specs.declared.table.Waiting.{Waiting}
 use Rattle.label_uses.specs.Uses.{use_in, set_use, lost_at, with_released}
 use Rattle.label_uses.specs.Held.{is_fec, is_node, use_held, use_by, uses_from, binding_of, left, rested, Holds}
 use Rattle.label_uses.proofs.TableLemmas.{Sets, sets_at, sets_label, sets_fec, name_kept, name_gone, state_set, one_fec}
-use Rattle.label_uses.proofs.HoldLemmas.{Leaves, same_own, not_none, holds_more, holds_less, holds_states}
-use Rattle.label_uses.proofs.ListLemmas.{use_is, use_set, held_of_use, set_used}
+use Rattle.label_uses.proofs.HoldLemmas.{Leaves, same_own, not_none, holds_more, holds_less}
+use Rattle.label_uses.proofs.ListLemmas.{use_is, use_set, label_back, held_of_use, set_used}
 
 abbrev pub HeldMap : Type 0
 HeldMap = IndexMap ℕ Held (BuildHasherDefault FoldHasher)
@@ -132,20 +131,10 @@ map_labels space space' h h' label own least spaces held =
     ∙ (use_set space (get nat_eq h) (get nat_eq h') label states.Free states.Owned least.free sets.others
     ∙ ap (λ (o : Option Held). set_use (uses_from 16 (get nat_eq h) space.states) label (use_by states.Owned o)) sets.here)
 
--- a label that is taken, and given back
-pub back_holds : (space space' space'' : Space) (f : ℕ → Option Held) (k : BindingName → Option AnyBinding) (s : NodeId → Option Incarnation) (g : Fec → Option ℕ) (w : Fec → Option Waiting) (label : ℕ)
-    → Holds (state_of space) f k s g w → IsLeastFree space label → space' ≡ set_label space label states.Owned → space'' ≡ set_label space' label states.Free → Holds (state_of space'') f k s g w
-back_holds space space' space'' f k s g w label holds least one two =
-    let both : space'' ≡ set_label (set_label space label states.Owned) label states.Free = two ∙ ap (λ (x : Space). set_label x label states.Free) one in
-    subst (λ (x : Space). Holds (state_of x) f k s g w) (sym both)
-    (holds_states (state_of space) (state_of (set_label (set_label space label states.Owned) label states.Free)) f k s g w holds
-    (λ q e. owned_behind space q label e least)
-    (λ q e. elim (cases_eq q label) [
-      | inl is ↦ absurd (let here = set-label (set_label space label states.Owned) label states.Owned states.Free (owned_taken space label least) in
-          let no : Some states.Free ≡ Some states.Owned = sym here ∙ (ap (state_of (set_label (set_label space label states.Owned) label states.Free)) (sym is) ∙ e) in cc)
-      | inr ne ↦ sym (set-others space label q states.Free states.Owned least.free ne)
-          ∙ (sym (set-others (set_label space label states.Owned) label q states.Owned states.Free (owned_taken space label least) ne) ∙ e)
-    ]))
+-- a label that is taken, and given back: the label numbers are as before
+pub given_back : (space space' space'' : Space) (label : ℕ) → IsLeastFree space label → space' ≡ set_label space label states.Owned → space'' ≡ set_label space' label states.Free → space'' ≡ space
+given_back space space' space'' label least one two =
+    two ∙ (ap (λ (x : Space). set_label x label states.Free) one ∙ label_back space label states.Free states.Owned least.free)
 
 -- ---- a label goes
 

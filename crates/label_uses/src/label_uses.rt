@@ -1,5 +1,5 @@
 //! The labels of a node.
-ghost use Rattle.std.specs.Prelude.{◌≡◌, ◌≤◌, ◌<◌, ◌^◌, ◌+◌, true, is_some, None, Some, map, count_by, IfOk, OnOk, IfSome};
+ghost use Rattle.std.specs.Prelude.{◌≡◌, ◌≤◌, ◌<◌, ◌^◌, ◌+◌, true, is_some, None, Some, map, count_by, IfOk, OnOk, OnErr, IfSome};
 ghost use Rattle.std.specs.FinMap as maps;
 ghost use Rattle.label_defs.specs.declared.label_use.LabelUse.TheVariants as uses;
 ghost use Rattle.label_defs.specs.LabelData.{is_rested};
@@ -97,15 +97,17 @@ impl LabelUses {
     /// The session with the neighbour comes up: this raise of it is the present one.
     pub fn raise(&mut self, peer: NodeId, session: Incarnation) -> Result<(), NoMemory>
         requires { maps.get self.old.sessions peer ≡ None }
-        ensures { OnOk result (self.new ≡ record self.old { sessions = maps.insert self.old.sessions peer session }) }
+        ensures raised { OnOk result (self.new ≡ record self.old { sessions = maps.insert self.old.sessions peer session }) }
+        ensures unchanged { OnErr result (self.new ≡ self.old) }
     {
         self.sessions.insert(peer, session)?;
         Ok(())
     }
 
-    /// The tree waits for a label towards the neighbour from now on.
+    /// The tree waits for a label towards the neighbour from now on. Where there is no memory, it does not wait.
     pub fn wait(&mut self, fec: &Fec, upstream: NodeId) -> Result<(), NoMemory>
-        ensures { OnOk result (self.new ≡ record self.old { waiting = maps.insert self.old.waiting fec.now upstream }) }
+        ensures waits { OnOk result (self.new ≡ record self.old { waiting = maps.insert self.old.waiting fec.now upstream }) }
+        ensures waits_not { OnErr result (self.new ≡ record self.old { waiting = maps.remove self.old.waiting fec.now }) }
     {
         self.unwait(fec);
         self.waiting.reserve(1)?;
@@ -134,11 +136,13 @@ impl LabelUses {
     }
 
     /// Maps the least free label to the tree, towards the neighbour; the tree waits no longer. `None` where no label is free.
+    /// Where there is no memory, none is mapped, and the tree waits no longer.
     pub fn map(&mut self, fec: &Fec, upstream: NodeId) -> Result<Option<u32>, NoMemory>
         requires up { is_some (maps.get self.old.sessions upstream) ≡ true }
         requires unmapped { mapped_in self.old.labels fec.now ≡ None }
         ensures least { IfOk result (λ label. label ≡ free_in self.old.labels) }
         ensures mapped { IfOk result (λ label. self.new ≡ with_mapped self.old label fec.now upstream) }
+        ensures none_mapped { OnErr result (self.new ≡ with_mapped self.old None fec.now upstream) }
     {
         self.unwait(fec);
         let session = self.sessions.get(&upstream).copied().unwrap();
@@ -173,10 +177,11 @@ impl LabelUses {
         }
     }
 
-    /// The label is withdrawn. It is leaving until it is released, or its session is lost.
+    /// The label is withdrawn. It is leaving until it is released, or its session is lost. Where there is no memory, it is free.
     pub fn leave(&mut self, label: u32, fec: &Fec, upstream: NodeId) -> Result<(), NoMemory>
         requires { use_in self.old.labels label ≡ Some (uses.Mapped fec.now upstream) }
-        ensures { OnOk result (self.new ≡ record self.old { labels = set_use self.old.labels label (uses.Leaving fec.now upstream) }) }
+        ensures leaving { OnOk result (self.new ≡ record self.old { labels = set_use self.old.labels label (uses.Leaving fec.now upstream) }) }
+        ensures free { OnErr result (self.new ≡ record self.old { labels = set_use self.old.labels label uses.Free }) }
     {
         let own = self.held.get(&label).copied().unwrap();
         let mapped = self.bindings.take(own.name).unwrap();
@@ -230,7 +235,8 @@ impl LabelUses {
 
     /// The session with the neighbour is lost: its labels are free at once.
     pub fn lose(&mut self, peer: NodeId) -> Result<(), NoMemory>
-        ensures { OnOk result (self.new ≡ without peer self.old) }
+        ensures lost { OnOk result (self.new ≡ without peer self.old) }
+        ensures unchanged { OnErr result (self.new ≡ self.old) }
     {
         let labels = labels_toward(self.alloc, &self.held, peer)?;
         lose_all(self, &labels, peer);

@@ -166,6 +166,7 @@ impl Umh {
         ensures bound { result ≤ 256 }
         ensures none { (source : Addr) (bits : ℕ) → result ≤ bits → IsNoneAt self.now source bits }
     {
+        // A field is read, so that what is true of the tables is known here.
         let _ = &self.rule;
         self.lengths.len()
     }

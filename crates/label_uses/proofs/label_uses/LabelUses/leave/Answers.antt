@@ -5,6 +5,7 @@ use Rattle.mldp_fec.specs.declared.fec.Fec.{Fec}
 use Rattle.label_defs.specs.declared.label_use.LabelUse.TheVariants as uses
 use Rattle.tunnel_bindings.specs.declared.state.LabelState.TheVariants as states
 use Rattle.tunnel_bindings.specs.Bindings.{Named}
+use Rattle.tunnel_bindings.specs.Labels.{Space}
 use Rattle.tunnel_bindings.specs.States.{label_of, with_free}
 use Rattle.label_uses.specs.declared.held.Held.{Held}
 use Rattle.label_uses.specs.Uses.{Uses, use_in, set_use}
@@ -12,7 +13,7 @@ use Rattle.label_uses.specs.Held.{towards, is_fec, is_node, binding_of, use_by, 
 use Rattle.label_uses.proofs.TableLemmas.{sets_label, sets_fec}
 use Rattle.label_uses.proofs.HoldLemmas.{same_own}
 use Rattle.label_uses.proofs.ListLemmas.{use_change}
-use Rattle.label_uses.proofs.StepLemmas.{binding_label, owned_if, less_holds, leaves_cut, left_label, mapped_own, leaving_binding, leave_holds}
+use Rattle.label_uses.proofs.StepLemmas.{binding_label, owned_if, less_holds, less_labels, leaves_cut, left_label, mapped_own, leaving_binding, leave_holds}
 use Rattle.label_uses.proofs.label_uses.LabelUses.leave.Goals as goal
 
 pub unwrap-own-requires : goal.unwrap-own-requires
@@ -71,8 +72,8 @@ invariant_of-self-in-Ok c =
     (ap (get is_node c.self.inside.sessions) (sym toward) ∙ bound.present) c.note.ensures.each
     (λ other. c.forget.ensures.each other ∙ ap (λ (x : Fec). cond (is_fec x other) None (get is_fec c.self.inside.mapped other)) (sym tree))
 
-pub returns-in-Ok : goal.returns-in-Ok
-returns-in-Ok c =
+pub returns-in-Ok-clause-leaving : goal.returns-in-Ok-clause-leaving
+returns-in-Ok-clause-leaving c =
     let at = sym c.get.ensures.value ∙ sym c.copied.ensures ∙ c.unwrap-own.ensures in
     let new : Held = record { fec = c.args.fec.now; upstream = c.args.upstream; leaving = true; name = c.in-Ok.name } in
     let sets = sets_label (get nat_eq c.self.inside.held) (get nat_eq c.note.new.held) c.args.label (Some new) c.note.ensures.each in
@@ -80,3 +81,15 @@ returns-in-Ok c =
     ∙ ap (λ (o : Option Held). set_use (uses_from 16 (get nat_eq c.self.inside.held) c.self.inside.space.states) c.args.label (use_by states.Owned o)) sets.here in
     (λ i. record { life = c.self.inside.space.life; labels = labels i; waiting = maps.from_entries (towards c.self.inside.waiting.entries); sessions = maps.from_entries c.self.inside.sessions.entries })
     ∙ ap (λ (u : Uses). record u { labels = set_use u.labels c.args.label (uses.Leaving c.args.fec.now c.args.upstream) }) c.self.view_is
+
+pub returns-in-Err-clause-free : goal.returns-in-Err-clause-free
+returns-in-Err-clause-free c =
+    let at = sym c.get.ensures.value ∙ sym c.copied.ensures ∙ c.unwrap-own.ensures in
+    let bound = c.self.invariant.bound c.args.label c.unwrap-own.result at in
+    let is = same_own c.take.result c.unwrap-mapped.result (binding_of c.args.label c.unwrap-own.result bound.raise) c.unwrap-mapped.ensures (c.take.ensures.binding ∙ bound.is) in
+    let label = ap label_of (c.in-Err.ensures.back ∙ c.left.ensures) ∙ (left_label c.unwrap-mapped.result ∙ (ap label_of is ∙ binding_label c.args.label c.unwrap-own.result bound.raise)) in
+    let spaces = c.end.ensures ∙ ap (with_free c.self.inside.space) label in
+    let life = ap (λ (x : Space). x.life) spaces in
+    let labels = less_labels c.self.inside.space c.end.new.space c.self.inside.held c.forget-in-Err.new.held c.args.label states.Owned states.Free (c.self.invariant.owned c.args.label c.unwrap-own.result at) spaces c.forget-in-Err.ensures.each in
+    (λ i. record { life = life i; labels = labels i; waiting = maps.from_entries (towards c.self.inside.waiting.entries); sessions = maps.from_entries c.self.inside.sessions.entries })
+    ∙ ap (λ (u : Uses). record u { labels = set_use u.labels c.args.label uses.Free }) c.self.view_is

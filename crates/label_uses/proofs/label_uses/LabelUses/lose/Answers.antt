@@ -26,8 +26,8 @@ invariant_of-self c =
       | inr f ↦ not_it c.self-2.inside.sessions c.swap_remove.new.self c.args.peer None c.swap_remove.ensures.updates.0 o.upstream f ∙ up
     ])
 
-pub returns : goal.returns
-returns c =
+pub returns-clause-lost : goal.returns-clause-lost
+returns-clause-lost c =
     let listed = c.deref.ensures.value ∙ c.in_ok-labels.ensures in
     let behind = c.self-2.view_is ∙ c.lose_all.ensures in
     let life = ap (λ (u : Uses). u.life) behind in

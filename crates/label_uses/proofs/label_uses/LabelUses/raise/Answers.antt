@@ -27,8 +27,8 @@ invariant_of-self-2 c =
       | inr f ↦ not_it c.self.inside.sessions c.insert.new.self c.args.peer (Some c.args.session) c.in_ok-insert.ensures.updates.0 o.upstream f ∙ up
     ])
 
-pub returns : goal.returns
-returns c =
+pub returns-clause-raised : goal.returns-clause-raised
+returns-clause-raised c =
     let sessions = session_comes c.self.inside.sessions c.insert.new.self c.args.peer c.args.session c.in_ok-insert.ensures.updates.0 in
     (λ i. record { life = c.self.inside.space.life; labels = uses_from 16 (get nat_eq c.self.inside.held) c.self.inside.space.states; waiting = maps.from_entries (towards c.self.inside.waiting.entries); sessions = sessions i })
     ∙ ap (λ (u : Uses). record u { sessions = maps.insert u.sessions c.args.peer c.args.session }) c.self.view_is

@@ -29,8 +29,8 @@ invariant_of-self-in-Ok c =
     (ap (lookup (is_fec c.args.fec.now)) c.reserve.ensures.entries ∙ absent) c.in-Ok.ensures.absent names
     (sets_tree (get is_fec c.reserve.new.self) (get is_fec c.note_waiting.new.waiting) c.args.fec.now (Some own) c.note_waiting.ensures.each)
 
-pub returns-in-Ok : goal.returns-in-Ok
-returns-in-Ok c =
+pub returns-in-Ok-clause-waits : goal.returns-in-Ok-clause-waits
+returns-in-Ok-clause-waits c =
     let own : Waiting = record { upstream = c.args.upstream; name = c.in-Ok.name } in
     let waiting = waiting_comes c.reserve.new.self c.note_waiting.new.waiting c.args.fec.now own c.note_waiting.ensures.each
     ∙ ap (λ (es : List (Fec × Waiting)). maps.insert (maps.from_entries {R = fec_cmp} (towards es)) c.args.fec.now c.args.upstream) c.reserve.ensures.entries in

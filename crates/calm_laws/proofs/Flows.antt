@@ -17,7 +17,8 @@ use Rattle.edge_defs.specs.Flows.{joined_by, noted_flow, active_from, active_flo
 use Rattle.edge_defs.specs.Imported.{FlowRoute, found_in}
 use Rattle.edge_defs.specs.Originated.{is_iface_of}
 use Rattle.edge_defs.specs.Keys.{Value}
-use Rattle.edge_defs.specs.Place.{Core, EdgePlace, OwnVrf, own_vrfs}
+use Rattle.edge_defs.specs.Place.{EdgePlace, OwnVrf, own_vrfs}
+use Rattle.core_walks.specs.Core.{Core}
 use Rattle.edge_defs.specs.Steps.{Call, control_step, refreshed}
 use Rattle.edge_defs.specs.Steps as steps
 use Rattle.edge_laws.specs.Acts.{Act, act, run, is_up, stepped, with_core, message_of, left_in_transit, delivered, selected, is_at, is_between, unjoined, with_joined, noticed, raised}

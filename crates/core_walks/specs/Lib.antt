@@ -3,3 +3,4 @@ pub mod Topology
 pub mod Costs
 pub mod Reached
 pub mod Marks
+pub mod Core

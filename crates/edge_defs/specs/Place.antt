@@ -1,5 +1,5 @@
 -- The place of an edge: the scenario, the core, and which of the nodes it is.
-use Rattle.std.specs.Prelude.{◌≡◌, ◌≢◌, ◌<◌, ◌≤◌, ◌⊎◌, ℕ, ◌+◌, ◌*◌, ◌==◌, ◌&&◌, Bool, true, false, nat_eq, List, [], ◌∷◌, length, take, slice_get, position, option_map, Option, None, Some, if◌then◌else◌}
+use Rattle.std.specs.Prelude.{ℕ, ◌+◌, ◌*◌, ◌==◌, ◌&&◌, Bool, true, false, nat_eq, List, [], ◌∷◌, length, take, slice_get, position, option_map, Option, None, Some, if◌then◌else◌}
 use Rattle.std.specs.Int.{w32, to_be_bytes}
 use Rattle.std.specs.List.{list_any}
 use Rattle.std.specs.Cmp.Lexicographic.{pointwise}
@@ -7,29 +7,15 @@ use Rattle.mv_base.specs.Address.{same_addr}
 use Rattle.mv_base.specs.Number.{◌>>?◌}
 use Rattle.mv_base.specs.declared.addr.Addr.{Addr}
 use Rattle.mv_base.specs.declared.addr.Addr.TheVariants.{V4}
-use Rattle.mv_base.specs.declared.core_link.Link.{Link}
 use Rattle.mv_base.specs.declared.ids.NodeId.{NodeId}
 use Rattle.mv_base.specs.declared.ids.VrfId.{VrfId}
-use Rattle.core_walks.specs.Walks.{IsLeast, IsToward}
+use Rattle.core_walks.specs.Core.{Core}
 use Rattle.mldp_fec.specs.declared.fec.Fec.{Fec}
 use Rattle.mldp_fec.specs.declared.fec.FecKind.{FecKind}
 use Rattle.mldp_fec.specs.declared.fec.FecKind.TheVariants.{P2mp}
 use Rattle.scenario_defs.specs.declared.scenario.Vrf.{Vrf}
 use Rattle.scenario_defs.specs.declared.scenario.Scenario.{Scenario}
 use Rattle.label_defs.specs.LabelData as labels
-
--- The least cost from one node to another, and the neighbour on such a walk, none where both are one node.
-pub record Core : Type 0 where
-  pub cost : NodeId → NodeId → ℕ
-  pub toward : NodeId → NodeId → Option NodeId
-
--- Costs and neighbours of so many nodes are those of the links. Between numbers that are no nodes there are none.
-pub record IsCoreOf (count : ℕ) (links : List Link) (core : Core) : Type 0 where
-  pub least : (from to : NodeId) → from.0 < count → to.0 < count → IsLeast links from.0 to.0 (core.cost from to)
-  pub itself : (node : NodeId) → core.toward node node ≡ None
-  pub first : (from to : NodeId) → from.0 < count → to.0 < count → from ≢ to
-      → (next : NodeId) × (core.toward from to ≡ Some next) × IsToward links from.0 to.0 next.0
-  pub outside : (from to : NodeId) → (count ≤ from.0) ⊎ (count ≤ to.0) → (core.cost from to ≡ 0) × (core.toward from to ≡ None)
 
 -- An edge of a scenario, and the core that it knows: that of the links at the costs that it has acted on.
 pub record EdgePlace : Type 0 where

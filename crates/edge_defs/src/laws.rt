@@ -18,7 +18,8 @@ ghost use Rattle.table_laws.specs.Words.{IsExact};
 ghost use Rattle.edge_defs.specs.Edge.{EdgeData, flow_cmp, fresh, note_cmp, pattern_cmp};
 ghost use Rattle.edge_defs.specs.Example.{Worked};
 ghost use Rattle.edge_defs.specs.Keys.{key_cmp, prefix_afi, same_value};
-ghost use Rattle.edge_defs.specs.Place.{Core, EdgePlace, IsCoreOf};
+ghost use Rattle.edge_defs.specs.Place.{EdgePlace};
+ghost use Rattle.core_walks.specs.Core.{Core, IsCoreOf};
 ghost use Rattle.edge_defs.specs.Steps.{Call, EdgeStepped, edge_step};
 ghost use Rattle.edge_defs.specs.Tunnels.{leaves};
 

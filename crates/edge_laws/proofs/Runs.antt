@@ -5,7 +5,7 @@ use Rattle.std.specs.FinMap as maps
 use Rattle.std.specs.FinMap.{FinMap}
 use Rattle.mv_base.specs.declared.ids.NodeId.{NodeId}
 use Rattle.edge_defs.specs.Edge.{pattern_cmp, Selected, Control}
-use Rattle.edge_defs.specs.Place.{Core}
+use Rattle.core_walks.specs.Core.{Core}
 use Rattle.edge_laws.specs.Network.{EdgeNetwork, behind}
 use Rattle.edge_laws.specs.Acts.{with_core, Act, Deliver, Label, LabelRaise, LabelNotice, Pim, Active, Idle, Select, Unselect, Lose, Notice, Raise, Restart, Tick, Timers, Reroute, act, run, is_up}
 use Rattle.edge_laws.specs.Rule.{Rule}

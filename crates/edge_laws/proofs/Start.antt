@@ -15,7 +15,8 @@ use Rattle.edge_defs.specs.Held.{told}
 use Rattle.edge_defs.specs.Imported.{taken_from}
 use Rattle.edge_defs.specs.Keys.{Value, key_cmp}
 use Rattle.edge_defs.specs.Originated.{selective_key}
-use Rattle.edge_defs.specs.Place.{Core, EdgePlace, OwnVrf, own_vrfs}
+use Rattle.edge_defs.specs.Place.{EdgePlace, OwnVrf, own_vrfs}
+use Rattle.core_walks.specs.Core.{Core}
 use Rattle.edge_laws.specs.Network.{EdgeNetwork, place_of}
 use Rattle.edge_laws.specs.Acts.{is_up}
 use Rattle.edge_laws.specs.Rule.{View, Rule, selected_in, selected_at}

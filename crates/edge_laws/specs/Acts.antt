@@ -17,7 +17,7 @@ use Rattle.table_defs.specs.declared.change.Change.{Change}
 use Rattle.edge_defs.specs.Edge.{Control, no_control}
 use Rattle.edge_defs.specs.Keys.{Value}
 use Rattle.edge_defs.specs.Messages.{as_update}
-use Rattle.edge_defs.specs.Place.{Core}
+use Rattle.core_walks.specs.Core.{Core}
 use Rattle.edge_defs.specs.Steps as steps
 use Rattle.edge_defs.specs.Steps.{control_step}
 use Rattle.edge_laws.specs.Network.{EdgeNetwork, place_of, core_at, at_node, behind}

@@ -7,7 +7,8 @@ use Rattle.table_defs.specs.declared.change.Change.{Change}
 use Rattle.edge_defs.specs.Edge.{Control}
 use Rattle.edge_defs.specs.Held.{put_to}
 use Rattle.edge_defs.specs.Keys.{Value}
-use Rattle.edge_defs.specs.Place.{Core, EdgePlace}
+use Rattle.edge_defs.specs.Place.{EdgePlace}
+use Rattle.core_walks.specs.Core.{Core}
 
 -- What is between two edges in one direction: whether their BGP session is joined, and the changes in transit, each in a message of
 -- its own.

@@ -11,7 +11,7 @@ ghost use Rattle.edge_defs.specs.Edge.{no_control, Selected, TakenRoute};
 ghost use Rattle.edge_defs.specs.Held.{held_for};
 ghost use Rattle.edge_defs.specs.Imported.{taken_from};
 ghost use Rattle.edge_defs.specs.Keys.{Value, key_cmp};
-ghost use Rattle.edge_defs.specs.Place.{Core};
+ghost use Rattle.core_walks.specs.Core.{Core};
 ghost use Rattle.edge_laws.specs.Network.{EdgeNetwork, place_of};
 ghost use Rattle.edge_laws.specs.Acts.{Act, run};
 ghost use Rattle.edge_laws.specs.Rule.{Rule, selected_at, taken_values};

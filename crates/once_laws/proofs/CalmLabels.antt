@@ -30,7 +30,8 @@ use Rattle.label_laws.specs.Rule.{Kind, PhaseIs, Phase, Kept, is_of_owner, is_re
 use Rattle.session_defs.specs.Message.{SessionMessage}
 use Rattle.session_defs.specs.Refined.{Carried, IsLine, AreLines, seen}
 use Rattle.session_defs.specs.declared.direction.Direction.{Direction}
-use Rattle.edge_defs.specs.Place.{Core, IsCoreOf, addr_of, node_with}
+use Rattle.edge_defs.specs.Place.{addr_of, node_with}
+use Rattle.core_walks.specs.Core.{Core, IsCoreOf}
 use Rattle.world_defs.specs.Counts.{direction}
 use Rattle.core_walks.specs.Topology.{HasCost, HasEnds}
 use Rattle.world_defs.specs.Nodes.{Nodes, core_at, label_place_of, part_of}

@@ -10,7 +10,7 @@ use Rattle.core_walks.specs.Topology.{HasCost, HasEnds}
 use Rattle.core_walks.specs.Walks.{IsLinked, IsToward}
 use Rattle.scenario_defs.specs.Rules.{Rules}
 use Rattle.scenario_defs.specs.declared.scenario.Scenario.{Scenario}
-use Rattle.edge_defs.specs.Place.{Core, IsCoreOf}
+use Rattle.core_walks.specs.Core.{Core, IsCoreOf}
 use Rattle.world_defs.specs.Costs.{AreRepriced}
 use Rattle.world_defs.specs.Counts.{node_ids, all_nodes}
 use Rattle.label_defs.proofs.MemberLemmas.{count-cons}

@@ -14,7 +14,8 @@ use Rattle.label_laws.specs.Network as label_nodes
 use Rattle.label_laws.specs.Acts.{Reroute, with_upstream}
 use Rattle.label_laws.specs.Rule.{Kept}
 use Rattle.session_defs.specs.System.{Stepped, MessageNetwork, with_messages}
-use Rattle.edge_defs.specs.Place.{Core, upstream}
+use Rattle.edge_defs.specs.Place.{upstream}
+use Rattle.core_walks.specs.Core.{Core}
 use Rattle.edge_defs.specs.Steps as steps
 use Rattle.edge_laws.specs.Acts as edge_acts
 use Rattle.edge_laws.specs.Network.{EdgeNetwork}

@@ -1,14 +1,14 @@
 -- What every scenario and script that is read meets.
-use Rattle.std.specs.Prelude.{◌≡◌, ◌≢◌, ◌⊎◌, ℕ, ◌<◌, ◌≤◌, true, false, List, [], ◌∷◌, length, take, slice_get, slice_index, Some, IfSome, All, AllPairs, count_by}
+use Rattle.std.specs.Prelude.{◌≡◌, ◌≢◌, ◌⊎◌, ℕ, ◌<◌, ◌≤◌, ◌%◌, true, false, List, [], ◌∷◌, length, take, slice_get, slice_index, Some, IfSome, All, AllPairs, count_by}
 use Rattle.std.specs.List.{AllByRecursion}
 use Rattle.mv_base.specs.declared.ids.NodeId.{NodeId}
+use Rattle.mv_base.specs.declared.ids.IfaceId.{IfaceId}
 use Rattle.mv_base.specs.declared.addr.Addr.{Addr}
 use Rattle.mv_base.specs.declared.addr.Addr.TheVariants.{V4, V6}
 use Rattle.mv_base.specs.declared.pattern.Pattern.{Pattern}
 use Rattle.mv_base.specs.declared.prefix.Prefix.{Prefix}
 use Rattle.mv_base.specs.declared.rd.Rd.{Rd}
-use Rattle.mv_base.specs.declared.rd.Rule.TheVariants.{Highest, Nearest}
-use Rattle.mv_base.specs.Address.{same_addr}
+use Rattle.mv_base.specs.Address.{same_addr, IsAddr}
 use Rattle.mv_base.specs.Prefix.{IsPrefixOf}
 use Rattle.core_walks.specs.Topology.{IsTopology, IsConnected}
 use Rattle.core_walks.specs.Walks.{IsLinked}
@@ -40,15 +40,38 @@ abbrev pub IsIpv4 : Addr → Type 0
 IsIpv4 (V4 octets) = length octets ≡ 4
 IsIpv4 (V6 octets) = ⊥
 
--- A node and a source have an IPv4 address whose first octet is 1 to 223.
+-- the first octet of an IPv6 address of 2000::/3, or of fc00::/7 (RFC 4291 section 2.4, RFC 4193 section 3.1)
+abbrev pub IsUnicastFront : ℕ → Type 0
+IsUnicastFront front = ((32 ≤ front) × (front ≤ 63)) ⊎ ((front ≡ 252) ⊎ (front ≡ 253))
+
+-- A node and a source have a unicast address: one of IPv4 whose first octet is 1 to 223, or one of IPv6 that is global or local.
 abbrev pub IsUnicast : Addr → Type 0
 IsUnicast (V4 octets) = (length octets ≡ 4) × (1 ≤ slice_index octets 0) × (slice_index octets 0 ≤ 223)
-IsUnicast (V6 octets) = ⊥
+IsUnicast (V6 octets) = (length octets ≡ 16) × IsUnicastFront (slice_index octets 0)
 
--- A group is an IPv4 address whose first octet is 224 to 239, outside 224.0.0.0/24 (RFC 5771 section 4).
+-- those of 224.0.0.0/24, which stay on a link (RFC 5771 section 4)
+abbrev pub IsLocalGroup : List ℕ → Type 0
+IsLocalGroup octets = (slice_index octets 0 ≡ 224) × (slice_index octets 1 ≡ 0) × (slice_index octets 2 ≡ 0)
+
+-- A group is an IPv4 address whose first octet is 224 to 239, outside 224.0.0.0/24, or an IPv6 address whose first octet is 255, of a
+-- scope of 3 to 15: the scopes below stay on a node or a link (RFC 4291 section 2.7).
 abbrev pub IsGroup : Addr → Type 0
-IsGroup (V4 octets) = (length octets ≡ 4) × (224 ≤ slice_index octets 0) × (slice_index octets 0 ≤ 239) × (slice_index octets 0 ≡ 224 → slice_index octets 1 ≡ 0 → slice_index octets 2 ≡ 0 → ⊥)
-IsGroup (V6 octets) = ⊥
+IsGroup (V4 octets) =
+    (length octets ≡ 4) × (224 ≤ slice_index octets 0) × (slice_index octets 0 ≤ 239) × (IsLocalGroup octets → ⊥)
+IsGroup (V6 octets) = (length octets ≡ 16) × (slice_index octets 0 ≡ 255) × (3 ≤ slice_index octets 1 % 16)
+
+-- both addresses are of one family
+abbrev pub AreOfOneFamily : Addr → Addr → Type 0
+AreOfOneFamily (V4 a) (V4 b) = Unit {0}
+AreOfOneFamily (V6 a) (V6 b) = Unit {0}
+AreOfOneFamily (V4 a) (V6 b) = ⊥
+AreOfOneFamily (V6 a) (V4 b) = ⊥
+
+-- a source and a group, of one family
+pub record NamesFlow (source group : Addr) : Type 0 where
+  pub source : IsUnicast source
+  pub group : IsGroup group
+  pub family : AreOfOneFamily source group
 
 -- ---- the rules of a scenario
 
@@ -59,11 +82,12 @@ pub record SettingRules (scenario : Scenario) : Type 0 where
   pub labels : (1 ≤ scenario.labels) × (scenario.labels ≤ 65536)
   pub system : (1 ≤ scenario.system) × (scenario.system ≤ 65535)
 
--- Nodes and links: at most 32 nodes are edges, each node has a unicast address of its own, and the links join two nodes
+-- Nodes and links: at most 32 nodes are edges, each node has a unicast address of IPv4 of its own, and the links join two nodes
 -- each, no two of them the same.
 pub record CoreRules (scenario : Scenario) : Type 0 where
   pub topology : IsTopology (length scenario.nodes) scenario.links
   pub few_edges : count_by (λ node. node.edge) scenario.nodes ≤ 32
+  pub ipv4 : All (λ node. IsIpv4 node.addr) scenario.nodes
   pub unicast : All (λ node. IsUnicast node.addr) scenario.nodes
   pub addresses : AllPairs (λ node other. same_addr node.addr other.addr ≡ false) scenario.nodes
 
@@ -90,7 +114,6 @@ pub record IsVrf (scenario : Scenario) (vrf : Vrf) : Type 0 where
   pub few : length vrf.targets ≤ 8
   pub each : All IsTarget vrf.targets
   pub distinct : AllPairs (λ target other. same_target target other ≡ false) vrf.targets
-  pub rule : (vrf.rule ≡ Highest) ⊎ (vrf.rule ≡ Nearest)
 
 -- Two VRFs have equal target sets or sets without a common member. At one edge their numbers and route distinguishers
 -- differ, and their sets are not equal.
@@ -105,9 +128,9 @@ pub record VrfRules (scenario : Scenario) : Type 0 where
   pub each : All (IsVrf scenario) scenario.vrfs
   pub apart : AllPairs AreApart scenario.vrfs
 
--- a prefix of IPv4 without a bit behind its length
+-- a prefix of either family without a bit behind its length
 pub record IsSitePrefix (prefix : Prefix) : Type 0 where
-  pub ipv4 : IsIpv4 prefix.addr
+  pub addr : IsAddr prefix.addr
   pub bits : IsPrefixOf prefix.addr prefix.bits
 
 -- A site has 1 to 8 prefixes, no two of them the same.
@@ -121,16 +144,18 @@ pub record SiteRules (scenario : Scenario) : Type 0 where
   pub few : length scenario.sites ≤ 512
   pub each : All IsSite scenario.sites
 
--- An interface attaches a site to a VRF.
+-- An interface attaches a site to a VRF, and has an address of either family.
 pub record IsIface (scenario : Scenario) (iface : Iface) : Type 0 where
   pub vrf : iface.vrf.0 < length scenario.vrfs
   pub site : iface.site.0 < length scenario.sites
-  pub ipv4 : IsIpv4 iface.addr
+  pub addr : IsAddr iface.addr
 
 -- Two interfaces of one site are in VRFs of one VPN. Two sites that are attached to one VPN share no prefix.
 pub record AreOfVpns (scenario : Scenario) (iface other : Iface) : Type 0 where
   pub mixed : iface.site.0 ≡ other.site.0 → same_vpn scenario iface.vrf other.vrf ≡ true
-  pub taken : iface.site.0 ≢ other.site.0 → same_vpn scenario iface.vrf other.vrf ≡ true → share_prefix (prefixes_of scenario other.site) (prefixes_of scenario iface.site) ≡ false
+  pub taken :
+      iface.site.0 ≢ other.site.0 → same_vpn scenario iface.vrf other.vrf ≡ true →
+      share_prefix (prefixes_of scenario other.site) (prefixes_of scenario iface.site) ≡ false
 
 pub record IfaceRules (scenario : Scenario) : Type 0 where
   pub few : length scenario.ifaces ≤ 1024
@@ -140,7 +165,8 @@ pub record IfaceRules (scenario : Scenario) : Type 0 where
 -- Each thing has a name of its own.
 pub record NameRules (scenario : Scenario) : Type 0 where
   pub formed : (thing : Thing) (name : List ℕ) → name_of scenario thing ≡ Some name → is_name name ≡ true
-  pub distinct : (thing other : Thing) (name : List ℕ) → name_of scenario thing ≡ Some name → name_of scenario other ≡ Some name → thing ≡ other
+  pub distinct :
+      (thing other : Thing) (name : List ℕ) → name_of scenario thing ≡ Some name → name_of scenario other ≡ Some name → thing ≡ other
 
 -- The rules of a scenario. Relations that are said with `AllPairs` speak of each two of a list once, in the list's order:
 -- of things, the one that is declared first stands first. `distinct` of `NameRules` speaks of any two things, in both orders.
@@ -162,12 +188,23 @@ payload_limit = 2048
 -- What a join or a prune names.
 abbrev pub IsEntry : JoinEntry → Type 0
 IsEntry (entries.Star group) = IsGroup group
-IsEntry (entries.Source source group) = IsUnicast source × IsGroup group
-IsEntry (entries.Rpt source group) = IsUnicast source × IsGroup group
+IsEntry (entries.Source source group) = NamesFlow source group
+IsEntry (entries.Rpt source group) = NamesFlow source group
 
--- What a selection names: source and group of a pattern, where they are given.
-abbrev pub IsPattern : Pattern → Type 0
-IsPattern pattern = IfSome pattern.source IsUnicast × IfSome pattern.group IsGroup
+abbrev pub group_of : JoinEntry → Addr
+group_of (entries.Star group) = group
+group_of (entries.Source source group) = group
+group_of (entries.Rpt source group) = group
+
+-- The group is of the family of the interface's address.
+abbrev pub IsOfIface : Scenario → IfaceId → Addr → Type 0
+IsOfIface scenario iface group = IfSome (slice_get scenario.ifaces iface.0) (λ own. AreOfOneFamily own.addr group)
+
+-- What a selection names: source and group of a pattern, where they are given, and both of one family.
+pub record IsPattern (pattern : Pattern) : Type 0 where
+  pub source : IfSome pattern.source IsUnicast
+  pub group : IfSome pattern.group IsGroup
+  pub family : IfSome pattern.source (λ source. IfSome pattern.group (λ group. AreOfOneFamily source group))
 
 -- the most ticks of one event
 abbrev pub tick_limit : ℕ
@@ -196,12 +233,17 @@ IsEventOf scenario (events.Move kind from to count) = HaveSession scenario kind 
 IsEventOf scenario (events.Lose kind a b) = HaveSession scenario kind a b
 IsEventOf scenario (events.Notice kind a b) = HaveSession scenario kind a b
 IsEventOf scenario (events.Raise kind a b) = HaveSession scenario kind a b
-IsEventOf scenario (events.Join iface entry) = (iface.0 < length scenario.ifaces) × IsEntry entry
-IsEventOf scenario (events.Prune iface entry) = (iface.0 < length scenario.ifaces) × IsEntry entry
+IsEventOf scenario (events.Join iface entry) =
+    (iface.0 < length scenario.ifaces) × IsEntry entry × IsOfIface scenario iface (group_of entry)
+IsEventOf scenario (events.Prune iface entry) =
+    (iface.0 < length scenario.ifaces) × IsEntry entry × IsOfIface scenario iface (group_of entry)
 IsEventOf scenario (events.Pim iface bytes) = (iface.0 < length scenario.ifaces) × (length bytes ≤ payload_limit)
-IsEventOf scenario (events.Active iface source group) = (iface.0 < length scenario.ifaces) × IsUnicast source × IsGroup group
-IsEventOf scenario (events.Idle iface source group) = (iface.0 < length scenario.ifaces) × IsUnicast source × IsGroup group
-IsEventOf scenario (events.Send site source group payload) = (site.0 < length scenario.sites) × IsUnicast source × IsGroup group × (length payload ≤ payload_limit)
+IsEventOf scenario (events.Active iface source group) =
+    (iface.0 < length scenario.ifaces) × NamesFlow source group × IsOfIface scenario iface group
+IsEventOf scenario (events.Idle iface source group) =
+    (iface.0 < length scenario.ifaces) × NamesFlow source group × IsOfIface scenario iface group
+IsEventOf scenario (events.Send site source group payload) =
+    (site.0 < length scenario.sites) × NamesFlow source group × (length payload ≤ payload_limit)
 IsEventOf scenario (events.Packet site bytes) = (site.0 < length scenario.sites) × (length bytes ≤ payload_limit)
 IsEventOf scenario (events.Select vrf pattern) = (vrf.0 < length scenario.vrfs) × IsPattern pattern
 IsEventOf scenario (events.Unselect vrf pattern) = (vrf.0 < length scenario.vrfs) × IsPattern pattern

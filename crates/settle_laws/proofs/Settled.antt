@@ -18,7 +18,8 @@ use Rattle.session_defs.specs.System.{Stepped, with_earlier}
 use Rattle.session_defs.specs.declared.direction.Direction.{Direction}
 use Rattle.session_defs.proofs.Lines.{own_direction}
 use Rattle.mv_base.specs.declared.core_link.Link.{Link}
-use Rattle.edge_defs.specs.Place.{Core, IsCoreOf, node_with, upstream}
+use Rattle.edge_defs.specs.Place.{node_with, upstream}
+use Rattle.core_walks.specs.Core.{Core, IsCoreOf}
 use Rattle.world_defs.specs.Costs.{AreRepriced, AreCoresOf}
 use Rattle.world_laws.proofs.Costs.{Costs, costs_of}
 use Rattle.label_defs.proofs.SettleLemmas.{bind_some}

@@ -3,7 +3,7 @@ use Rattle.std.specs.Prelude.{◌≡◌, ℕ, List, [], ◌∷◌, length, None}
 use Rattle.mv_base.specs.declared.core_link.Link.{Link}
 use Rattle.core_walks.specs.Topology.{HasCost}
 use Rattle.scenario_defs.specs.declared.scenario.Scenario.{Scenario}
-use Rattle.edge_defs.specs.Place.{Core, IsCoreOf}
+use Rattle.core_walks.specs.Core.{Core, IsCoreOf}
 
 -- The same links, in the same order, each at some cost of 1 to 65535.
 abbrev pub AreRepriced : List Link → List Link → Type 0

@@ -7,7 +7,8 @@ use Rattle.label_defs.specs.LabelData as labels
 use Rattle.label_defs.specs.LabelData.{LabelData, Place}
 use Rattle.edge_defs.specs.Edge as edges
 use Rattle.edge_defs.specs.Edge.{EdgeData}
-use Rattle.edge_defs.specs.Place.{Core, EdgePlace, label_place}
+use Rattle.edge_defs.specs.Place.{EdgePlace, label_place}
+use Rattle.core_walks.specs.Core.{Core}
 use Rattle.world_defs.specs.Costs.{Cores}
 
 pub data NodeState : Type 0 where

@@ -33,7 +33,7 @@ use Rattle.world_laws.specs.SoundRun.{SoundRun}
 use Rattle.world_laws.proofs.RunActs.{WorldStays}
 use Rattle.world_laws.proofs.RunEvents.{turned_stays, start_stays, run_stays}
 use Rattle.scenario_defs.specs.declared.event.Script.{Script}
-use Rattle.edge_defs.specs.Place.{IsCoreOf}
+use Rattle.core_walks.specs.Core.{IsCoreOf}
 use Rattle.world_laws.proofs.Costs.{Costs, costs_of, HasCosts, StepHas, WorldCosts, called_has, act_costs}
 use Rattle.world_laws.proofs.SteadyEvents.{IsNoCost, steady_event}
 

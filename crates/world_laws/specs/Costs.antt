@@ -2,7 +2,7 @@
 use Rattle.std.specs.Prelude.{◌≡◌, ◌<◌, length}
 use Rattle.mv_base.specs.declared.ids.NodeId.{NodeId}
 use Rattle.scenario_defs.specs.declared.scenario.Scenario.{Scenario}
-use Rattle.edge_defs.specs.Place.{IsCoreOf}
+use Rattle.core_walks.specs.Core.{IsCoreOf}
 use Rattle.world_defs.specs.Costs.{AreRepriced, Cores}
 use Rattle.world_defs.specs.Nodes.{Nodes, core_at}
 

@@ -69,8 +69,8 @@ AreOfOneFamily (V6 a) (V4 b) = ⊥
 
 -- a source and a group, of one family
 pub record NamesFlow (source group : Addr) : Type 0 where
-  pub source : IsUnicast source
-  pub group : IsGroup group
+  pub unicast : IsUnicast source
+  pub multicast : IsGroup group
   pub family : AreOfOneFamily source group
 
 -- ---- the rules of a scenario

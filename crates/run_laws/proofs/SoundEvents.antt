@@ -28,7 +28,7 @@ use Rattle.world_defs.specs.World.{World}
 use Rattle.world_laws.specs.Honest.{IsSoundEvent}
 use Rattle.world_laws.specs.Sound.{IsCustomer, IsGroupAddr, IsFlow, AreAlike, SoundEntry, SoundPattern}
 use Rattle.world_laws.specs.SoundRun.{SoundRun}
-use Rattle.edge_defs.specs.Originated.{afi_of}
+use Rattle.bgp_update.specs.Written.{afi_of}
 use Rattle.world_laws.proofs.Lists.{each_front}
 use Rattle.delivery_laws.proofs.Splits.{cut_in_two}
 use Rattle.run_laws.specs.Octets.{entry_octets, word_octets, EventHasOctets, ScriptHasOctets}

@@ -19,7 +19,7 @@ use Rattle.session_defs.specs.declared.direction.Direction.{Direction}
 use Rattle.edge_defs.specs.Datagrams.{Fate, discarded, tree_of, entering_fate, arriving_fate}
 use Rattle.edge_defs.specs.Place.{OwnVrf}
 use Rattle.edge_defs.specs.Steps as steps
-use Rattle.mvpn_model.specs.Sessions.{is_between}
+use Rattle.label_defs.specs.Between.{is_between, is_either}
 use Rattle.world_defs.specs.Counts.{direction, directions, state_line}
 use Rattle.world_defs.specs.Nodes.{NodeState, Edge, CoreNode, Nodes, place_of}
 use Rattle.world_defs.specs.System.{NodeCall, Own, Elapse, Reset, Price, Follow, system}
@@ -76,7 +76,7 @@ abbrev pub is_of_session : Kind → NodeId → NodeId → Direction → Bool
 is_of_session kind a b over = same_kind kind over.kind && is_between a b over.from over.to
 
 abbrev pub is_at : NodeId → Direction → Bool
-is_at node over = (over.from.0 == node.0) || (over.to.0 == node.0)
+is_at node over = is_either node over.from over.to
 
 -- whether the direction leads to the node, and whether it does so within the session
 abbrev pub leads_to : NodeId → Direction → Bool

@@ -25,7 +25,7 @@ use Rattle.scenario_defs.specs.Kinds.{same_kind}
 use Rattle.edge_defs.specs.Imported.{lsp_of, is_admitted, has_comm}
 use Rattle.edge_defs.specs.Originated.{import_target}
 use Rattle.edge_defs.specs.Place.{addr_of, lsp, tunnel_number}
-use Rattle.mvpn_model.specs.Sessions.{is_between}
+use Rattle.label_defs.specs.Between.{is_between}
 use Rattle.world_defs.specs.Acts.{Act, RaiseFirst, RaiseSecond, Notice, Restart, Enter, Land}
 use Rattle.world_defs.specs.Run.{Traced}
 use Rattle.world_defs.specs.World.{World, Datagram, numbered, scenario_of}

@@ -20,7 +20,8 @@ use Rattle.bgp_attributes.specs.Spelling.{octets_for}
 use Rattle.bgp_attributes.specs.declared.key.Key.TheVariants.{Mcast, Unicast}
 use Rattle.bgp_update.specs.Written.{advertised, withdrawn, vpn_text}
 use Rattle.scenario_defs.specs.Rules.{IsSitePrefix}
-use Rattle.edge_defs.specs.Originated.{afi_of, afi_by}
+use Rattle.bgp_update.specs.Written.{afi_of}
+use Rattle.edge_defs.specs.Originated.{afi_by}
 use Rattle.world_laws.specs.Sound.{IsHost, IsCustomer, IsGroupAddr, IsFlow, AreAlike, AreEight, SoundPattern}
 use Rattle.world_laws.proofs.BgpOctets.{octets_cons, octets_append, one_octet, octets_of_32, host_octets, host_length}
 use Rattle.world_laws.proofs.BgpTexts.{FitsKey, host_addr}

@@ -1,22 +1,29 @@
 #!/usr/bin/env python3
-"""Measures how long a stream takes for octets that come in pieces, and prints a table.
+"""Measures crates alone, and prints two tables.
 
-    python3 bench/pieces.py
+    python3 bench/pieces.py [streams|parts]
 
-A small program feeds the stream of BGP messages, and that of LDP PDUs, with one message or PDU of make.py over and over,
-in pieces of 1, 7 and 1,000 octets and whole, and takes the messages that wait behind each piece. It is written here, and
-built in a copy of the crates, so that the repository itself has no program that only measures.
+`streams`: a small program feeds the stream of BGP messages, and that of LDP PDUs, with one message or PDU of make.py over
+and over, in pieces of 1, 7 and 1,000 octets and whole, and takes the messages that wait behind each piece.
+
+`parts`: the program of bench/parts/ works the parts of a node over and over: shared buffers, the upstream choice among
+8,192 routes, changes of a table of 8,192 routes with a flush behind each, look-ups among 8,192 labels.
+
+Both are built, with their proofs, in a copy of the crates, so that the repository itself has no program that only
+measures. Libraries that are built here already are taken along.
 """
 
 import pathlib
 import re
 import shutil
 import subprocess
+import sys
 import tempfile
 
 import make
 
 TOP = pathlib.Path(__file__).resolve().parent.parent
+PARTS = TOP / 'bench' / 'parts'
 SIZES = (8_000_000, 16_000_000)
 PIECES = (1, 7, 1000, 0)
 STREAMS = {'bgp_update': make.message(1), 'mldp_msgs': make.pdu(1)}
@@ -73,25 +80,60 @@ def program():
     return PROGRAM.replace('FUNCTIONS', functions).replace('CALLS', calls.rstrip())
 
 
-def main():
+def without_work(folder, names):
+    """What a copy of the crates leaves out: all that was built but the libraries."""
+    return [name for name in names if name != 'rlib'] if pathlib.Path(folder).name == 'out' else []
+
+
+def output(depends, files):
+    """What the program of these files prints, built in a copy of the crates."""
     with tempfile.TemporaryDirectory() as folder:
         copy = pathlib.Path(folder) / 'copy'
-        shutil.copytree(TOP / 'crates', copy / 'crates', ignore=shutil.ignore_patterns('out'))
-        crates = (TOP / 'crates.txt').read_text()
-        (copy / 'crates.txt').write_text(crates + 'pieces: mv_base framing route_targets mldp_fec pmsi_attr mvpn_nlri mldp_msgs bgp_attributes bgp_update\n')
-        source = copy / 'crates' / 'pieces' / 'src'
-        source.mkdir(parents=True)
-        (source / 'main.rt').write_text(program())
-        run = subprocess.run(['rt', 'run'], cwd=source.parent, stdout=subprocess.PIPE, stderr=subprocess.STDOUT, text=True)
-    rows = re.findall(r'^row (\w+) (\d+) (\d+) (\d+) 0 (\d+)$', run.stdout, re.MULTILINE)
+        shutil.copytree(TOP / 'crates', copy / 'crates', ignore=without_work)
+        (copy / 'crates.txt').write_text((TOP / 'crates.txt').read_text() + f'pieces: {depends}\n')
+        for name, text in files.items():
+            place = copy / 'crates' / 'pieces' / name
+            place.parent.mkdir(parents=True, exist_ok=True)
+            place.write_text(text)
+        run = subprocess.run(
+            ['rt', 'run'], cwd=copy / 'crates' / 'pieces', stdout=subprocess.PIPE, stderr=subprocess.STDOUT, text=True)
+    return run.stdout
+
+
+def streams():
+    depends = 'mv_base framing route_targets mldp_fec pmsi_attr mvpn_nlri mldp_msgs bgp_attributes bgp_update'
+    printed = output(depends, {'src/main.rt': program()})
+    rows = re.findall(r'^row (\w+) (\d+) (\d+) (\d+) 0 (\d+)$', printed, re.MULTILINE)
     if len(rows) != len(STREAMS) * len(SIZES) * len(PIECES):
-        print(run.stdout)
+        print(printed)
         return 1
     print('| stream | octets | piece | messages | seconds |')
     print('|---|---|---|---|---|')
     for crate, size, piece, messages, millis in rows:
         print(f'| {crate} | {int(size):,} | {int(piece):,} | {int(messages):,} | {int(millis) / 1000:.2f} |')
     return 0
+
+
+def parts():
+    files = {'src/main.rt': (PARTS / 'main.rt.txt').read_text()}
+    for proof in sorted(PARTS.glob('*.antt.txt')):
+        function, kind = proof.name.removesuffix('.antt.txt').split('.')
+        files[f'proofs/{function}/{kind}.antt'] = proof.read_text()
+    printed = output((PARTS / 'depends.txt').read_text().strip(), files)
+    rows = re.findall(r'^row (\w+) (\d+) (\d+) (\d+)$', printed, re.MULTILINE)
+    if not rows:
+        print(printed)
+        return 1
+    print('| part | times | seconds |')
+    print('|---|---|---|')
+    for name, count, _, millis in sorted(rows):
+        print(f'| {name} | {int(count):,} | {int(millis) / 1000:.2f} |')
+    return 0
+
+
+def main():
+    wanted = sys.argv[1:] or ['streams', 'parts']
+    return max({'streams': streams, 'parts': parts}[name]() for name in wanted)
 
 
 if __name__ == '__main__':

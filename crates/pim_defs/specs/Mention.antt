@@ -12,6 +12,7 @@ use Rattle.pim_joinprune.specs.declared.message.JoinPrune.{JoinPrune}
 use Rattle.pim_defs.specs.declared.expiry.Expiry.{Expiry}
 use Rattle.pim_defs.specs.declared.mention.Mention.{Mention}
 use Rattle.pim_defs.specs.Expiry.{extended}
+pub use Rattle.scenario_defs.specs.Rules.{group_of}
 
 -- whether both are one entry
 abbrev pub same_entry : JoinEntry → JoinEntry → Bool
@@ -29,12 +30,6 @@ entry_by kinds.Rpt group addr = Rpt addr group
 -- the entry that a source of a group names
 abbrev pub entry_of : Addr → JpSource → JoinEntry
 entry_of group source = entry_by source.kind group source.addr
-
--- the group of an entry
-abbrev pub group_of : JoinEntry → Addr
-group_of (Star group) = group
-group_of (Source source group) = group
-group_of (Rpt source group) = group
 
 -- whether one of the sources of the group is the entry
 abbrev pub lists : Addr → List JpSource → JoinEntry → Bool

@@ -5,8 +5,6 @@ use Rattle.std.specs.declared.cmp.Ordering.{Ordering}
 use Rattle.std.specs.Cmp.Lexicographic.{slice_cmp}
 use Rattle.std.specs.FinMap.{FinMap}
 use Rattle.mv_base.specs.declared.addr.Addr.{Addr}
-use Rattle.mv_base.specs.declared.addr.Addr.TheVariants.{V4, V6}
-use Rattle.mv_base.specs.declared.prefix.Prefix.{Prefix}
 use Rattle.mldp_fec.specs.declared.fec.FecKind.{FecKind}
 use Rattle.mldp_fec.specs.declared.fec.FecKind.TheVariants.{P2mp, Up, Down}
 use Rattle.pmsi_attr.specs.declared.pmsi.Pmsi.{Pmsi}

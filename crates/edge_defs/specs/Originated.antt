@@ -5,7 +5,6 @@ use Rattle.std.specs.Int.{w16, to_be_bytes}
 use Rattle.std.specs.FinMap as maps
 use Rattle.mv_base.specs.Address.{addr_octets}
 use Rattle.mv_base.specs.declared.addr.Addr.{Addr}
-use Rattle.mv_base.specs.declared.addr.Addr.TheVariants.{V4, V6}
 use Rattle.mv_base.specs.declared.ids.IfaceId.{IfaceId}
 use Rattle.mv_base.specs.declared.ids.VrfId.{VrfId}
 use Rattle.mv_base.specs.declared.pattern.Pattern.{Pattern}

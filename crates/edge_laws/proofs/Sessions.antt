@@ -16,7 +16,6 @@ use Rattle.edge_defs.specs.Held.{told}
 use Rattle.edge_defs.specs.Imported.{taken_from}
 use Rattle.edge_defs.specs.Keys.{Value, key_cmp}
 use Rattle.edge_defs.specs.Steps as steps
-use Rattle.edge_defs.specs.Steps.{control_step}
 use Rattle.edge_laws.specs.Network.{EdgeNetwork, place_of, at_node}
 use Rattle.label_defs.specs.Between.{is_between, is_either}
 use Rattle.label_defs.proofs.BetweenLemmas.{between_swap, either_swap}

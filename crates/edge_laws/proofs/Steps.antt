@@ -16,7 +16,7 @@ use Rattle.edge_defs.specs.Held.{told}
 use Rattle.edge_defs.specs.Imported.{taken_from}
 use Rattle.edge_defs.specs.Keys.{key_cmp}
 use Rattle.edge_defs.specs.Steps as steps
-use Rattle.edge_defs.specs.Steps.{taken_change, with_update, timed, refreshed, control_step, is_imported}
+use Rattle.edge_defs.specs.Steps.{control_step, is_imported}
 use Rattle.edge_laws.specs.Network.{EdgeNetwork, place_of, at_node, behind}
 use Rattle.edge_laws.specs.Acts.{is_up, stepped, selected}
 use Rattle.edge_laws.specs.Rule.{ViewAt, Rule, selected_at}

@@ -15,7 +15,7 @@ use Rattle.pim_defs.specs.declared.expiry.Expiry.{Expiry}
 use Rattle.pim_defs.proofs.EntriesLemmas.{get-kept}
 use Rattle.pim_defs.proofs.KeyLemmas.{entry_cmp_total, entry_cmp_exact}
 use Rattle.label_defs.specs.LabelData as labels
-use Rattle.label_defs.specs.LabelData.{LabelData, is_rested, is_hold_due}
+use Rattle.label_defs.specs.LabelData.{is_rested, is_hold_due}
 use Rattle.label_defs.specs.Steps as label_steps
 use Rattle.label_defs.specs.Steps.{woken, hold_run}
 use Rattle.label_defs.specs.declared.end.End.{End}

@@ -14,7 +14,7 @@ use Rattle.label_defs.specs.Keys.{fec_cmp}
 use Rattle.label_defs.specs.LabelData.{LabelData, fresh, is_up}
 use Rattle.label_defs.specs.Settled.{Settled, AllSettled}
 use Rattle.label_defs.specs.Steps as steps
-use Rattle.label_defs.specs.Steps.{Call, without_session, timed, label_step}
+use Rattle.label_defs.specs.Steps.{without_session, timed}
 use Rattle.label_defs.proofs.KeyLemmas.{fec_cmp_total, fec_cmp_exact, node_itself, node_equal, node_cases}
 use Rattle.label_defs.proofs.StepLemmas.{fresh_settled}
 use Rattle.label_laws.specs.Network.{LabelNetwork, place_of, at_node, behind}

@@ -1,5 +1,5 @@
 -- Each hop of a run that halts is licensed by what its node and the neighbour have put and taken, up to the act that lacks a label.
-use Rattle.std.proofs.Common.{◌≡◌, ◌⊎◌, ◌||◌, inl, inr, ℕ, Bool, false, length, List, [], ◌∷◌, ◌++◌, Option, Some, None, refl, sym, ap, subst, ◌∙◌}
+use Rattle.std.proofs.Common.{◌≡◌, ◌⊎◌, inl, inr, ℕ, false, length, List, [], ◌∷◌, ◌++◌, Option, Some, None, subst}
 use Rattle.std.specs.List.{AllByRecursion, list_any}
 use Rattle.mv_base.specs.declared.ids.NodeId.{NodeId}
 use Rattle.scenario_defs.specs.declared.event.Script.{Script}
@@ -8,10 +8,9 @@ use Rattle.scenario_defs.specs.declared.scenario.Scenario.{Scenario}
 use Rattle.mvpn_model.specs.Report.{Entry}
 use Rattle.world_defs.specs.Costs.{Cores}
 use Rattle.world_defs.specs.Acts.{Act, Tick, Timers, Move, Lose, Notice, RaiseFirst, RaiseSecond, Restart, At, Enter, Land, Drop, Tell, SetCost, Reroute}
-use Rattle.world_defs.specs.Events.{Happened}
 use Rattle.world_defs.specs.Local.{goes_on, IsLicensed, TakesWhatWasPut, Local}
 use Rattle.world_defs.specs.Run.{Traced, traced}
-use Rattle.world_defs.specs.World.{World, Datagram, scenario_of}
+use Rattle.world_defs.specs.World.{Datagram, scenario_of}
 use Rattle.world_laws.specs.SoundRun.{SoundRun}
 use Rattle.world_laws.proofs.Lists.{each_map}
 use Rattle.rule_laws.specs.SoundHalt.{SoundHalt}

@@ -23,7 +23,7 @@ use Rattle.session_defs.specs.declared.direction.Direction.{Direction}
 use Rattle.session_defs.proofs.Came.{Came, came_cut}
 use Rattle.session_defs.proofs.Fronts.{stream_of}
 use Rattle.session_defs.proofs.Lines.{own_direction}
-use Rattle.edge_defs.specs.Place.{addr_of, label_place}
+use Rattle.edge_defs.specs.Place.{addr_of}
 use Rattle.edge_defs.specs.Steps as steps
 use Rattle.edge_defs.specs.Steps.{EdgeStepped, edge_step, own_label_call}
 use Rattle.world_defs.specs.Counts.{direction}

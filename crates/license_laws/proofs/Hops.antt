@@ -1,5 +1,5 @@
 -- Each `hop` line of a run puts its copy on a branch that stands.
-use Rattle.std.specs.Prelude.{Result, Ok, Err, take}
+use Rattle.std.specs.Prelude.{Result, Ok, Err}
 use Rattle.std.proofs.Common.{◌≡◌, ◌-◌, ◌||◌, nat_le, ℕ, Bool, true, false, cond, map, length, slice_get, List, [], ◌∷◌, ◌++◌, Option, Some, None, refl, sym, subst}
 use Rattle.std.specs.FinSet as sets
 use Rattle.std.specs.List.{AllByRecursion, filter, list_any}
@@ -17,9 +17,7 @@ use Rattle.label_defs.specs.declared.branch.Branch.{Branch}
 use Rattle.label_defs.proofs.KeyLemmas.{branch_cmp_total}
 use Rattle.label_defs.proofs.MemberLemmas.{each_in_order}
 use Rattle.session_defs.specs.Octets as octets
-use Rattle.session_defs.specs.Octets.{OctetNetwork, octet_run}
-use Rattle.session_defs.specs.System.{Put, Behind, octets_over}
-use Rattle.session_defs.specs.declared.direction.Direction.{Direction}
+use Rattle.session_defs.specs.System.{Put}
 use Rattle.edge_defs.specs.Datagrams.{Fate, discarded, tree_of, outs_of, is_from_site, is_outside, entering_fate}
 use Rattle.edge_defs.specs.Flows.{asking_ifaces}
 use Rattle.label_defs.specs.Members.{in_order}
@@ -27,15 +25,13 @@ use Rattle.edge_defs.specs.Place.{EdgePlace, OwnVrf}
 use Rattle.edge_defs.specs.Steps as steps
 use Rattle.edge_defs.specs.Tunnels.{transmit_tunnel, is_joined_in}
 use Rattle.edge_defs.specs.Upstream.{upstream_for}
-use Rattle.world_defs.specs.Acts.{Act, Tick, Timers, Move, Lose, Notice, RaiseFirst, RaiseSecond, Restart, At, Enter, Land, Drop, Tell, SetCost, Reroute, Acted, with_network, at_node, put_line, put_lines, with_aged, is_of_session, is_from_peer, is_at, leads_to, hop_line, fated, datagram_at, enters_at, entering, fate_at, with_ttl, landed, without_copy, landing, act}
-use Rattle.world_defs.specs.Counts.{direction, directions}
+use Rattle.world_defs.specs.Acts.{Act, Tick, Timers, Move, Lose, Notice, RaiseFirst, RaiseSecond, Restart, At, Enter, Land, Drop, Tell, SetCost, Reroute, Acted, hop_line, fated, datagram_at, enters_at, entering, fate_at, with_ttl, landed, without_copy, landing, act}
 use Rattle.world_defs.specs.LabelRule.{part_at}
 use Rattle.world_defs.specs.Local.{goes_on}
-use Rattle.world_defs.specs.Nodes.{NodeState, Edge, CoreNode, Nodes, place_of, part_of}
+use Rattle.world_defs.specs.Nodes.{NodeState, Edge, CoreNode, place_of, part_of}
 use Rattle.world_defs.specs.Run.{Traced}
-use Rattle.world_defs.specs.System.{Own, Elapse, Reset, Price, Follow, system}
 use Rattle.world_defs.specs.World.{World, Datagram, LinkCopy, scenario_of, clock_of}
-use Rattle.world_laws.proofs.Lists.{each_append, each_flat, each_of, each_map, each_weaker, each_filtered}
+use Rattle.world_laws.proofs.Lists.{each_append, each_of, each_map, each_weaker, each_filtered}
 use Rattle.rule_laws.proofs.Outs.{Says, said_of}
 use Rattle.rule_laws.proofs.Plain.{IsPlain, IsPlainLine, of_plain, act_plain}
 use Rattle.license_laws.specs.Hops.{HopMay, HopsMay}

@@ -1,6 +1,6 @@
 -- In each run a copy that lands and goes on does so for one tree, and leaves at interfaces that may be reached from it.
 use Rattle.std.specs.Prelude.{⊤, Result, Ok, Err, nat_le}
-use Rattle.std.proofs.Common.{◌≡◌, ◌≢◌, ◌⊎◌, inl, inr, ◌-◌, ◌&&◌, ◌||◌, ℕ, Bool, true, false, cond, map, flat_map, slice_get, is_some, List, [], ◌∷◌, ◌++◌, Option, Some, None, refl, sym, ap, subst, ◌∙◌}
+use Rattle.std.proofs.Common.{◌≡◌, ◌≢◌, ◌⊎◌, inl, inr, ◌-◌, ◌&&◌, ℕ, Bool, true, false, cond, map, flat_map, slice_get, is_some, List, [], ◌∷◌, ◌++◌, Option, Some, None, refl, sym, ap, subst, ◌∙◌}
 use Rattle.std.specs.FinMap as maps
 use Rattle.std.specs.FinSet as sets
 use Rattle.std.specs.List.{AllByRecursion, list_any}

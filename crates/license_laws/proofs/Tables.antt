@@ -26,7 +26,7 @@ use Rattle.table_laws.proofs.CompareLemmas.{one_key}
 use Rattle.edge_defs.proofs.KeyLemmas.{key_total, key_exact, value_exact}
 use Rattle.edge_defs.specs.Edge.{TakenRoute, Taken, Control, no_control}
 use Rattle.edge_defs.specs.Keys.{Value, key_cmp, same_value}
-use Rattle.edge_defs.specs.Place.{EdgePlace, addr_of, label_place}
+use Rattle.edge_defs.specs.Place.{EdgePlace, addr_of}
 use Rattle.edge_defs.specs.Steps as steps
 use Rattle.edge_defs.specs.Steps.{EdgeStepped, LabelStep, learned, taken_change, with_update, effect, is_vrf_step, refreshed, control_step, own_label_call, one_call, changed_leaves, label_row, part_after, edge_step}
 use Rattle.edge_defs.specs.Tunnels.{leaves}

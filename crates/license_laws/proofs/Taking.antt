@@ -18,7 +18,7 @@ use Rattle.scenario_defs.specs.Kinds.{same_kind}
 use Rattle.session_defs.specs.Octets as octets
 use Rattle.session_defs.specs.Octets.{OctetNetwork, octet_run, with_step}
 use Rattle.session_defs.specs.System.{Stepped, Behind, with_earlier}
-use Rattle.edge_defs.specs.Place.{addr_of, label_place}
+use Rattle.edge_defs.specs.Place.{addr_of}
 use Rattle.world_defs.specs.Costs.{Cores}
 use Rattle.edge_defs.specs.Steps as steps
 use Rattle.edge_defs.specs.Steps.{EdgeStepped, edge_step, own_label_call}

@@ -7,7 +7,6 @@ use Rattle.std.specs.Cmp.Lexicographic.{slice_cmp}
 use Rattle.std.specs.Ordering.{nat_cmp}
 use Rattle.std.specs.declared.cmp.Ordering.{Ordering}
 use Rattle.std.specs.List.{flat_map}
-use Rattle.mv_base.specs.Number.{◌>>?◌}
 use Rattle.mv_base.specs.declared.ids.NodeId.{NodeId}
 use Rattle.framing.specs.Feed.{fed, unfed}
 use Rattle.scenario_defs.specs.declared.event.Kind.{Kind}
@@ -15,7 +14,6 @@ use Rattle.scenario_defs.specs.declared.event.Kind.TheVariants as kinds
 use Rattle.session_defs.specs.Message.{SessionMessage, Bgp, Label, SessionFault, front_of}
 use Rattle.session_defs.specs.Octets.{Stream}
 use Rattle.session_defs.specs.System.{Put}
-use Rattle.session_defs.specs.declared.direction.Direction.{Direction}
 use Rattle.edge_defs.specs.Edge.{EdgeData, fresh}
 use Rattle.edge_defs.specs.Place.{EdgePlace, addr_of, label_place}
 use Rattle.edge_defs.specs.Steps as steps

@@ -31,7 +31,7 @@ use Rattle.label_defs.proofs.WithdrawLemmas.{same_leaves}
 use Rattle.session_defs.specs.System.{Stepped}
 use Rattle.session_defs.specs.declared.direction.Direction.{Direction}
 use Rattle.edge_defs.specs.Edge as edges
-use Rattle.edge_defs.specs.Edge.{Note, note_cmp, Taken, Control, EdgeData}
+use Rattle.edge_defs.specs.Edge.{Taken, Control, EdgeData}
 use Rattle.edge_defs.specs.Flows.{flows_at}
 use Rattle.edge_defs.specs.Place.{EdgePlace}
 use Rattle.world_defs.specs.Costs.{Cores}

@@ -34,7 +34,7 @@ use Rattle.label_defs.specs.Steps.{label_step}
 use Rattle.label_defs.proofs.KeyLemmas.{node_equal, ties}
 use Rattle.session_defs.specs.System.{Stepped}
 use Rattle.edge_defs.specs.Edge as edges
-use Rattle.edge_defs.specs.Edge.{Note, note_cmp, Taken, Control, EdgeData}
+use Rattle.edge_defs.specs.Edge.{Note, note_cmp, Taken, Control}
 use Rattle.edge_defs.specs.Place.{EdgePlace}
 use Rattle.world_defs.specs.Costs.{Cores}
 use Rattle.edge_defs.specs.Steps as steps

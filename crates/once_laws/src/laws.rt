@@ -30,7 +30,7 @@ ghost use Rattle.delivery_laws.specs.Choice.{CalmChoice, sends_on};
 ghost use Rattle.delivery_laws.specs.Labels.{CalmLabels};
 ghost use Rattle.delivery_laws.specs.Once.{past_of, receives_datagram};
 ghost use Rattle.once_laws.specs.Chooses.{ChoosesByTheRule};
-ghost use Rattle.once_laws.specs.Homes.{IsSiteOfLongest};
+ghost use Rattle.once_laws.specs.Families.{IsSiteOfLongest, EntriesAreOfOneFamily};
 ghost use Rattle.once_laws.specs.Run.{CalmRun};
 ghost use Rattle.once_laws.specs.Told.{AsksAreTold, NotesAreTold, EntriesAreTold};
 ghost use Rattle.once_laws.specs.Zeros.{Zeros};
@@ -62,6 +62,14 @@ pub fn entries_are_told()
     ensures { (cores : Cores) (script : Script) (events : List Timed) (trace : List Traced) (world : World) →
         Rules script.scenario → Rises 0 events → Run cores script events trace world →
         EntriesAreTold (past_of script.scenario events trace) world }
+{}
+
+/// Behind every run of a sound scenario, by its cores and by sound events, an entry that counts by the events has a source and a group
+/// of one family.
+pub fn entries_are_of_one_family()
+    ensures { (cores : Cores) (script : Script) (events : List Timed) (trace : List Traced) (world : World) →
+        SoundRun cores script events trace world → Rises 0 events →
+        EntriesAreOfOneFamily (past_of script.scenario events trace) world }
 {}
 
 /// Behind every run a source is noted at an interface by the events exactly where the interface's edge has noted it there: by each

@@ -12,7 +12,7 @@ use Rattle.mvpn_model.specs.Sessions.{sessions}
 use Rattle.mvpn_model.specs.declared.session.Session.{Session}
 use Rattle.world_defs.specs.Acts.{Act, Notice}
 use Rattle.world_defs.specs.Counts.{is_joined, is_up}
-use Rattle.world_defs.specs.Events.{Outcome, Done, and_then, row, each, times, raise_acts, is_session_of, raises, notices, turn, settled, landings, drain_round, drained, sent, at_edge, with_message, done}
+use Rattle.world_defs.specs.Events.{Outcome, Done, row, each, raise_acts, is_session_of, raises, notices}
 use Rattle.world_defs.specs.Events as by_acts
 use Rattle.mvpn_model.specs.Unready.{SessionsStand, is_that, raised, healed}
 use Rattle.world_defs.specs.World.{World}

@@ -17,7 +17,7 @@ use Rattle.session_defs.specs.System.{Stepped}
 use Rattle.edge_defs.specs.Edge as edges
 use Rattle.edge_defs.specs.Edge.{EdgeData}
 use Rattle.edge_defs.specs.Steps as steps
-use Rattle.edge_defs.specs.Steps.{EdgeStepped, LabelStep, edge_step, own_label_call, changed_leaves, one_call, control_step, label_row, part_after}
+use Rattle.edge_defs.specs.Steps.{EdgeStepped, edge_step, own_label_call, changed_leaves, one_call, control_step, label_row, part_after}
 use Rattle.edge_defs.specs.Tunnels.{leaves}
 use Rattle.world_defs.specs.Nodes.{NodeState, Edge, CoreNode, Nodes, is_edge, fresh_node, with_node, following, place_of, label_place_of, part_of}
 use Rattle.world_defs.specs.System.{edge_stepped, core_called, node_called, call_of}

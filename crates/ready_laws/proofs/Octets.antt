@@ -6,7 +6,7 @@ use Rattle.mv_base.specs.declared.ids.NodeId.{NodeId}
 use Rattle.scenario_defs.specs.declared.event.Kind.{Kind}
 use Rattle.scenario_defs.specs.declared.scenario.Scenario.{Scenario}
 use Rattle.session_defs.specs.Message.{SessionMessage}
-use Rattle.session_defs.specs.Octets.{OctetNetwork, OctetAct, with_octets, with_step, all_taken, moved, octet_act, octet_run}
+use Rattle.session_defs.specs.Octets.{OctetNetwork, OctetAct, with_step, all_taken, moved, octet_act, octet_run}
 use Rattle.session_defs.specs.Octets as octets
 use Rattle.session_defs.specs.System.{Put, Stepped, Behind, with_earlier}
 use Rattle.session_defs.specs.declared.direction.Direction.{Direction}

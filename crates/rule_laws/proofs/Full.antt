@@ -6,7 +6,6 @@ use Rattle.std.specs.List.{AllByRecursion}
 use Rattle.std.proofs.lemmas.List.{append-nil, append_assoc}
 use Rattle.std.proofs.lemmas.List.Elements.{Contains-append_left, Contains-append_right, Contains-push}
 use Rattle.std.proofs.lemmas.Option.{same_Some}
-use Rattle.mv_base.specs.Octets.{IsOctets}
 use Rattle.mv_base.specs.declared.ids.NodeId.{NodeId}
 use Rattle.mv_base.specs.declared.ids.VrfId.{VrfId}
 use Rattle.framing.specs.Cut.Yields.{sound as AllWhole}
@@ -16,7 +15,6 @@ use Rattle.mldp_fec.specs.declared.fec.Fec.{Fec}
 use Rattle.mldp_msgs.specs.FirstFault.{PduFault}
 use Rattle.mldp_msgs.specs.Reading.{pdu_front}
 use Rattle.mldp_msgs.specs.Spelling.{SpellsPdu}
-use Rattle.mldp_msgs.specs.declared.fault.LdpFault.{LdpFault}
 use Rattle.mldp_msgs.proofs.Pdus.{pdu_format}
 use Rattle.mldp_msgs.specs.declared.message.LabelMessage.{LabelMessage}
 use Rattle.mldp_msgs.specs.declared.message.LabelMessage.TheVariants as messages

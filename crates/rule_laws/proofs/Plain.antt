@@ -2,7 +2,7 @@
 -- lacks a label is one of these.
 use Rattle.std.specs.Prelude.{⊤, find}
 use Rattle.std.specs.Prelude.{Result, Ok, Err}
-use Rattle.std.proofs.Common.{◌≡◌, ◌+◌, ◌++◌, ℕ, zero, suc, Bool, true, false, cond, map, flat_map, replicate, List, [], ◌∷◌, length, slice_get, take, Option, Some, None, refl, subst, ◌∙◌}
+use Rattle.std.proofs.Common.{◌≡◌, ◌+◌, ◌++◌, ℕ, zero, suc, Bool, true, false, cond, map, flat_map, replicate, List, [], ◌∷◌, length, take, Option, Some, None, subst}
 use Rattle.std.specs.List.{AllByRecursion}
 use Rattle.mv_base.specs.declared.addr.Addr.{Addr}
 use Rattle.mv_base.specs.declared.ids.NodeId.{NodeId}

@@ -1,5 +1,5 @@
 -- Costs that change, and nodes that take them over, keep the label rule of the network at the level of messages.
-use Rattle.std.proofs.Common.{◌≡◌, ◌==◌, Bool, true, false, cond, ◌++◌, List, option_map, Option, Some, refl, sym, ap, subst, ◌∙◌}
+use Rattle.std.proofs.Common.{◌≡◌, ◌==◌, Bool, true, false, cond, ◌++◌, List, option_map, Option, Some, refl, sym, ap, subst}
 use Rattle.mv_base.specs.declared.core_link.Link.{Link}
 use Rattle.mv_base.specs.declared.ids.NodeId.{NodeId}
 use Rattle.mldp_fec.specs.declared.fec.Fec.{Fec}

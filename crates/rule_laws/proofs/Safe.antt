@@ -1,5 +1,5 @@
 -- In each run every `out` line is admitted.
-use Rattle.std.specs.Prelude.{find, replicate, take}
+use Rattle.std.specs.Prelude.{replicate, take}
 use Rattle.std.specs.Prelude.{Result, Ok, Err}
 use Rattle.std.proofs.Common.{◌≡◌, ◌≢◌, ◌+◌, ◌-◌, ◌++◌, ℕ, zero, suc, Bool, true, false, cond, map, flat_map, List, [], ◌∷◌, length, slice_get, Option, Some, None, refl, sym, ap, subst, ◌∙◌}
 use Rattle.std.specs.List.{AllByRecursion}

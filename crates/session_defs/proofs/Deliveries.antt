@@ -6,7 +6,7 @@ use Rattle.mv_base.specs.Number.{◌>>?◌}
 use Rattle.session_defs.specs.declared.direction.Direction.{Direction}
 use Rattle.session_defs.specs.Message.{SessionMessage, same_direction}
 use Rattle.session_defs.specs.System as messages
-use Rattle.session_defs.specs.System.{Put, Stepped, System, MessageNetwork, MessageAct, Behind, messages_over, octets_over, delivered, message_act, message_run, with_earlier}
+use Rattle.session_defs.specs.System.{Put, Stepped, System, MessageNetwork, Behind, messages_over, octets_over, delivered, message_act, message_run, with_earlier}
 use Rattle.session_defs.specs.System.MessageAct.{Deliver}
 use Rattle.session_defs.specs.Octets.{OctetNetwork, with_octets, with_step, all_taken}
 use Rattle.session_defs.specs.Refined.{AreLines, seen, ArePut, IsCarried, IsHonest, Keeps, IsHonestWhile, deliveries}

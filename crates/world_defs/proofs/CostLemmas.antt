@@ -8,7 +8,7 @@ use Rattle.core_walks.specs.Costs.{joins, priced_if, with_cost}
 use Rattle.core_walks.specs.Topology.{HasCost, HasEnds}
 use Rattle.scenario_defs.specs.declared.scenario.Scenario.{Scenario}
 use Rattle.edge_defs.proofs.CoreLemmas.{one_core}
-use Rattle.world_defs.specs.Costs.{AreRepriced, Cores, no_core, AreCoresOf}
+use Rattle.world_defs.specs.Costs.{AreRepriced, Cores, AreCoresOf}
 
 -- ---- whether links are the same ones at other costs
 

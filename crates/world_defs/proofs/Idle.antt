@@ -36,7 +36,7 @@ use Rattle.edge_defs.specs.Imported.{found_in}
 use Rattle.edge_defs.specs.Originated.{is_iface_of}
 use Rattle.edge_defs.specs.Place.{EdgePlace, OwnVrf, own_vrfs, label_place, addr_of}
 use Rattle.edge_defs.specs.Steps as steps
-use Rattle.edge_defs.specs.Steps.{LabelStep, EdgeStepped, edge_step, control_step, refreshed, timed, selection_run, taken_run, changed_leaves, one_call, own_label_call, label_row, part_after}
+use Rattle.edge_defs.specs.Steps.{edge_step, control_step, refreshed, timed, selection_run, taken_run, changed_leaves, one_call, own_label_call, label_row, part_after}
 use Rattle.edge_defs.specs.Tunnels.{leaves, tunnels_of, inclusive_tunnels, flow_tunnels}
 use Rattle.mvpn_model.specs.Sessions.{edges}
 use Rattle.world_defs.specs.Nodes.{NodeState, Edge, CoreNode, Nodes, with_node, place_of, label_place_of}

@@ -13,7 +13,7 @@ use Rattle.scenario_defs.specs.declared.report.ReportLine.TheVariants as lines
 use Rattle.label_defs.specs.declared.end.End.{End}
 use Rattle.label_defs.specs.Keys.{node_cmp}
 use Rattle.label_defs.specs.LabelData as labels
-use Rattle.label_defs.specs.LabelData.{LabelData, is_hold_due, is_rested}
+use Rattle.label_defs.specs.LabelData.{LabelData, is_hold_due}
 use Rattle.label_defs.proofs.KeyLemmas.{node_cmp_total}
 use Rattle.edge_defs.specs.Due as edges
 use Rattle.edge_defs.specs.Due.{is_selection_due, due_from}

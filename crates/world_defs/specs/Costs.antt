@@ -1,5 +1,5 @@
 -- The costs of links, which events change, and the core that a node knows by the costs that it has acted on.
-use Rattle.std.specs.Prelude.{◌≡◌, ℕ, List, [], ◌∷◌, length, None}
+use Rattle.std.specs.Prelude.{◌≡◌, List, [], ◌∷◌, length, None}
 use Rattle.mv_base.specs.declared.core_link.Link.{Link}
 use Rattle.core_walks.specs.Topology.{HasCost}
 use Rattle.scenario_defs.specs.declared.scenario.Scenario.{Scenario}

@@ -1,5 +1,5 @@
 -- What a report licenses, hop by hop, by the octets of its own lines (RFC 6513 section 9.1.1, RFC 6388 section 2.4, RFC 6514 section 11).
-use Rattle.std.specs.Prelude.{◌≡◌, ◌⊎◌, ℕ, ◌==◌, ◌&&◌, ◌||◌, ◌<◌, ◌-◌, Bool, true, false, List, [], ◌∷◌, ◌++◌, fold}
+use Rattle.std.specs.Prelude.{◌≡◌, ◌⊎◌, ℕ, ◌==◌, ◌&&◌, ◌||◌, ◌<◌, Bool, true, false, List, [], ◌∷◌, ◌++◌, fold}
 use Rattle.std.specs.Prelude.{slice_get, Option, Some, if◌then◌else◌}
 use Rattle.std.specs.List.{flat_map, list_any, AllByRecursion}
 use Rattle.mv_base.specs.declared.ids.IfaceId.{IfaceId}

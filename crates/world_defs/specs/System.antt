@@ -1,6 +1,5 @@
 -- What the nodes of a network do with the messages that they take and at their calls.
-use Rattle.std.specs.Prelude.{ℕ, ◌+◌, [], ◌++◌, Option, None, Some}
-use Rattle.std.specs.List.{flat_map}
+use Rattle.std.specs.Prelude.{ℕ, ◌+◌, [], Option, None, Some}
 use Rattle.mv_base.specs.Number.{◌>>?◌}
 use Rattle.mv_base.specs.declared.ids.NodeId.{NodeId}
 use Rattle.core_walks.specs.Costs.{with_cost}
@@ -11,7 +10,7 @@ use Rattle.session_defs.specs.System.{Stepped, System}
 use Rattle.edge_defs.specs.Edge.{EdgeData}
 use Rattle.edge_defs.specs.Place.{addr_of}
 use Rattle.edge_defs.specs.Steps as steps
-use Rattle.edge_defs.specs.Steps.{LabelStep, edge_step, own_label_call}
+use Rattle.edge_defs.specs.Steps.{edge_step, own_label_call}
 use Rattle.world_defs.specs.Nodes.{NodeState, Edge, CoreNode, Nodes, fresh_node, with_node, following, place_of, label_place_of}
 use Rattle.node_defs.specs.Puts.{label_puts}
 pub use Rattle.node_defs.specs.EdgeState.{call_of}

@@ -11,7 +11,7 @@ use Rattle.mv_base.specs.declared.addr.Addr.TheVariants.{V4, V6}
 use Rattle.mv_base.specs.declared.prefix.Prefix.{Prefix}
 use Rattle.mv_base.specs.declared.rd.Rd.{Rd}
 use Rattle.mvpn_nlri.specs.Spelling as spelling
-use Rattle.mvpn_nlri.specs.Spelling.{IsMulticast, IsSource, IsGroup, IsAnyOr, IsRoute, sized, any_or_sized, fields}
+use Rattle.mvpn_nlri.specs.Spelling.{IsSource, IsGroup, IsAnyOr, IsRoute, sized, any_or_sized, fields}
 use Rattle.mvpn_nlri.specs.declared.route.Afi.{Afi}
 use Rattle.mvpn_nlri.specs.declared.route.Afi.TheVariants.{Ipv4}
 use Rattle.mvpn_nlri.specs.declared.route.Route.{Route}

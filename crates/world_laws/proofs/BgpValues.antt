@@ -7,7 +7,7 @@ use Rattle.mv_base.specs.Octets.{IsOctets}
 use Rattle.mv_base.specs.declared.addr.Addr.{Addr}
 use Rattle.mv_base.specs.declared.addr.Addr.TheVariants.{V4, V6}
 use Rattle.mldp_fec.specs.Spelling as fecs
-use Rattle.mldp_fec.specs.Spelling.{Tlv, plain, tlv, IsTlv, IsOpaque}
+use Rattle.mldp_fec.specs.Spelling.{plain, IsTlv, IsOpaque}
 use Rattle.pmsi_attr.specs.declared.pmsi.Pmsi.{Pmsi}
 use Rattle.pmsi_attr.specs.declared.pmsi.Tunnel.TheVariants as tunnels
 use Rattle.pmsi_attr.specs.Spelling as pmsis

@@ -1,9 +1,8 @@
 -- Behind each event every node knows the present costs.
-use Rattle.std.specs.Prelude.{⊤, if◌then◌else◌}
-use Rattle.std.proofs.Common.{◌≡◌, ◌⊎◌, ◌<◌, ◌≤◌, ℕ, zero, suc, ◌+◌, ◌==◌, Bool, true, false, cond, inl, inr, List, [], ◌∷◌, map, length, Option, Some, None, refl, sym, ap, subst, ◌∙◌, arith}
+use Rattle.std.specs.Prelude.{if◌then◌else◌}
+use Rattle.std.proofs.Common.{◌≡◌, ◌<◌, ◌≤◌, ℕ, zero, suc, ◌+◌, ◌==◌, inl, inr, List, [], ◌∷◌, map, length, Option, Some, None, refl, sym, ap, subst, ◌∙◌, arith}
 use Rattle.std.specs.List.{AllByRecursion}
 use Rattle.std.proofs.lemmas.Bool.{cases_eq, cond-true, cond-false, eq-eqb, ne_eqb}
-use Rattle.mv_base.specs.declared.core_link.Link.{Link}
 use Rattle.mv_base.specs.declared.ids.NodeId.{NodeId}
 use Rattle.core_walks.specs.Costs.{with_cost}
 use Rattle.scenario_defs.specs.declared.event.Event.{Event}
@@ -13,18 +12,18 @@ use Rattle.scenario_defs.specs.declared.report.Refusal.{Refusal}
 use Rattle.scenario_defs.specs.declared.report.ReportLine.TheVariants as lines
 use Rattle.scenario_defs.specs.declared.scenario.Scenario.{Scenario}
 use Rattle.session_defs.specs.Octets as octets
-use Rattle.session_defs.specs.Octets.{octet_run, with_step}
+use Rattle.session_defs.specs.Octets.{with_step}
 use Rattle.session_defs.specs.System.{Stepped, with_earlier}
 use Rattle.mv_base.specs.Number.{◌>>?◌}
 use Rattle.edge_defs.specs.Steps as steps
-use Rattle.world_defs.specs.Acts.{Act, SetCost, Reroute, act, with_network}
-use Rattle.world_defs.specs.Costs.{Cores, AreCoresOf}
+use Rattle.world_defs.specs.Acts.{SetCost, Reroute, act, with_network}
+use Rattle.world_defs.specs.Costs.{Cores}
 use Rattle.world_defs.specs.Counts.{all_nodes, node_ids}
-use Rattle.world_defs.specs.Events.{Happened, Outcome, Done, row, one_act, cost_acts, done}
+use Rattle.world_defs.specs.Events.{Happened, Done, row, one_act, cost_acts, done}
 use Rattle.world_defs.specs.Nodes.{Nodes, following}
 use Rattle.world_defs.specs.Refusals.{refusal}
 use Rattle.world_defs.specs.Run.{Traced, outcome, Runs}
-use Rattle.world_defs.specs.System.{Price, Follow, node_called, nodes_called, system}
+use Rattle.world_defs.specs.System.{node_called}
 use Rattle.world_defs.specs.World.{World, scenario_of, start}
 use Rattle.world_defs.proofs.Kept.{Gives, Comes, comes_as, then_comes, one_comes}
 use Rattle.world_laws.specs.Costs.{KnowCosts}
@@ -34,7 +33,7 @@ use Rattle.world_laws.proofs.RunActs.{WorldStays}
 use Rattle.world_laws.proofs.RunEvents.{turned_stays, start_stays, run_stays}
 use Rattle.scenario_defs.specs.declared.event.Script.{Script}
 use Rattle.core_walks.specs.Core.{IsCoreOf}
-use Rattle.world_laws.proofs.Costs.{Costs, costs_of, HasCosts, StepHas, WorldCosts, called_has, act_costs}
+use Rattle.world_laws.proofs.Costs.{Costs, costs_of, StepHas, WorldCosts, called_has, act_costs}
 use Rattle.world_laws.proofs.SteadyEvents.{IsNoCost, steady_event}
 
 -- ---- nodes that act on the present costs

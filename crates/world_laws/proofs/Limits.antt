@@ -1,6 +1,6 @@
 -- No edge keeps more than its limits.
 use Rattle.std.specs.Prelude.{⊤, Result, Ok, Err}
-use Rattle.std.proofs.Common.{Equal, ◌≡◌, ◌≤◌, ◌<◌, ◌⊎◌, ℕ, ◌+◌, ◌-◌, ◌==◌, ◌&&◌, ◌||◌, nat_lt, nat_le, not, Bool, true, false, cond, is_some, inl, inr, List, [], ◌∷◌, map, ◌++◌, length, take, drop, Option, Some, None, refl, sym, ap, subst, ◌∙◌, arith}
+use Rattle.std.proofs.Common.{Equal, ◌≡◌, ◌≤◌, ◌<◌, ◌⊎◌, ℕ, ◌+◌, ◌-◌, ◌==◌, ◌&&◌, ◌||◌, nat_le, not, Bool, true, false, cond, is_some, inl, inr, List, [], ◌∷◌, map, ◌++◌, length, take, drop, Option, Some, None, refl, sym, ap, subst, ◌∙◌, arith}
 use Rattle.std.specs.List.{AllByRecursion, list_any, flat_map, fold}
 use Rattle.std.specs.Cmp.{IsTotalOrder, tied_itself}
 use Rattle.std.specs.Ordering.{eq_by_cmp, is_eq}
@@ -17,7 +17,6 @@ use Rattle.pim_defs.specs.Entries.{applied, are_too_many, entry_cmp, entry_limit
 use Rattle.pim_defs.specs.declared.expiry.Expiry.{Expiry}
 use Rattle.pim_defs.proofs.KeyLemmas.{entry_cmp_total}
 use Rattle.pim_defs.specs.Expiry.{counts}
-use Rattle.pim_joinprune.specs.declared.message.JoinPrune.{JoinPrune}
 use Rattle.scenario_defs.specs.Vpn.{edge_of}
 use Rattle.scenario_defs.specs.declared.event.Event.{Event}
 use Rattle.scenario_defs.specs.declared.event.Event.TheVariants as events
@@ -39,7 +38,7 @@ use Rattle.label_defs.specs.Steps.{label_step}
 use Rattle.edge_defs.specs.Edge as edges
 use Rattle.edge_defs.specs.Edge.{Control, EdgeData, Note, VrfPattern, Selected, no_control, note_cmp, pattern_cmp}
 use Rattle.edge_defs.specs.Steps as steps
-use Rattle.edge_defs.specs.Steps.{effect, control_step, refreshed, is_vrf_step, taken_change, with_update, is_used, with_selection, selections_run, selection_run, edge_step}
+use Rattle.edge_defs.specs.Steps.{effect, control_step, refreshed, is_vrf_step, taken_change, with_update, is_used, with_selection, selections_run, selection_run}
 use Rattle.mvpn_model.specs.declared.message.Given.{Given}
 use Rattle.world_defs.specs.Acts.{Act, Tick, Timers, Move, Lose, Notice, RaiseFirst, RaiseSecond, Restart, At, Enter, Land, Drop, Tell, SetCost, Reroute, Acted, with_network, at_node, is_of_session, is_at, leads_to, is_from_peer, with_aged, act}
 use Rattle.world_defs.specs.Counts.{direction, all_nodes}

@@ -13,7 +13,7 @@ use Rattle.label_defs.specs.Steps.{label_step}
 use Rattle.session_defs.specs.System.{Stepped}
 use Rattle.session_defs.specs.Refined.{Keeps, IsHonestWhile}
 use Rattle.edge_defs.specs.Edge.{Control, EdgeData}
-use Rattle.edge_defs.specs.Place.{EdgePlace, addr_of, label_place}
+use Rattle.edge_defs.specs.Place.{EdgePlace, addr_of}
 use Rattle.edge_defs.specs.Steps as steps
 use Rattle.edge_defs.specs.Steps.{LabelStep, EdgeStepped, control_step, own_label_call, changed_leaves, one_call, label_row, part_after}
 use Rattle.edge_defs.specs.Tunnels.{leaves}

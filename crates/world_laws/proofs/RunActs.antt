@@ -10,7 +10,7 @@ use Rattle.scenario_defs.specs.declared.report.ReportLine.TheVariants as lines
 use Rattle.scenario_defs.specs.declared.scenario.Scenario.{Scenario}
 use Rattle.session_defs.specs.Message.{SessionMessage, front_of, same_direction}
 use Rattle.session_defs.specs.Octets as octets
-use Rattle.session_defs.specs.Octets.{OctetNetwork, OctetAct, with_step, all_taken, moved, octet_run}
+use Rattle.session_defs.specs.Octets.{OctetNetwork, OctetAct, with_step, all_taken, octet_run}
 use Rattle.session_defs.specs.Refined.{AreLines}
 use Rattle.session_defs.specs.System.{Behind, with_earlier}
 use Rattle.session_defs.specs.declared.direction.Direction.{Direction}

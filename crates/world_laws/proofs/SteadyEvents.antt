@@ -19,7 +19,7 @@ use Rattle.session_defs.specs.declared.direction.Direction.{Direction}
 use Rattle.edge_defs.specs.Steps as steps
 use Rattle.world_defs.specs.Acts.{Act, Tick, Timers, Move, Lose, Notice, RaiseFirst, RaiseSecond, Restart, At, Enter, Land, Drop, Tell, SetCost, Reroute, act}
 use Rattle.world_defs.specs.Counts.{directions, link_ways, all_nodes, is_joined, is_up}
-use Rattle.world_defs.specs.Events.{Outcome, Done, row, each, times, raise_acts, is_session_of, raises, notices, healed, turn, settled, landings, drain_round, sent, at_edge, with_message, done}
+use Rattle.world_defs.specs.Events.{Done, row, each, times, raise_acts, is_session_of, raises, notices, healed, turn, settled, landings, drain_round, sent, at_edge, with_message, done}
 use Rattle.world_defs.specs.Refusals.{edge_of_vrf}
 use Rattle.world_defs.specs.World.{World, Datagram, scenario_of}
 use Rattle.world_defs.proofs.Kept.{Gives, Comes, then_comes, row_keeps, each_keeps, times_keeps}

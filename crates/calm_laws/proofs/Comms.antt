@@ -11,7 +11,7 @@ use Rattle.mv_base.specs.declared.addr.Addr.TheVariants.{V4, V6}
 use Rattle.route_targets.specs.Communities.{kind}
 use Rattle.route_targets.specs.declared.communities.ExtComm.{ExtComm}
 use Rattle.route_targets.specs.declared.communities.Target.{Target}
-use Rattle.scenario_defs.specs.Rules.{Rules, IsIpv4, IsUnicast, IsTarget}
+use Rattle.scenario_defs.specs.Rules.{Rules, IsIpv4, IsTarget}
 use Rattle.scenario_defs.specs.declared.scenario.Node.{Node}
 use Rattle.scenario_defs.specs.declared.scenario.Scenario.{Scenario}
 use Rattle.scenario_defs.specs.declared.scenario.Vrf.{Vrf}
@@ -87,15 +87,11 @@ source_ass_found vrf import number each less =
 addr_at : (scenario : Scenario) (number : ℕ) (node : Node) → slice_get scenario.nodes number ≡ Some node → addr_of scenario (record { 0 = number }) ≡ node.addr
 addr_at scenario number node e = ap (λ (o : Option Node). elim o [ None ↦ V4 [] | Some found ↦ found.addr ]) e
 
-unicast_ipv4 : (addr : Addr) → IsUnicast addr → IsIpv4 addr
-unicast_ipv4 (V4 octets) h = h.0
-unicast_ipv4 (V6 octets) h = h
-
 pub own_ipv4 : (place : EdgePlace) (own : OwnVrf) → Rules place.scenario → Among own (own_vrfs place) → IsIpv4 (own_addr place)
 own_ipv4 place own rules a =
     let edge = (own_rules place own rules a).edge in
     let at : slice_get place.scenario.nodes place.me.0 ≡ Some edge.node = ap (slice_get place.scenario.nodes) (sym (own_edge place own a)) ∙ edge.at in
-    subst IsIpv4 (sym (addr_at place.scenario place.me.0 edge.node at)) (unicast_ipv4 edge.node.addr (all_at (λ node. IsUnicast node.addr) place.scenario.nodes rules.core.unicast place.me.0 edge.node at))
+    subst IsIpv4 (sym (addr_at place.scenario place.me.0 edge.node at)) (all_at (λ node. IsIpv4 node.addr) place.scenario.nodes rules.core.ipv4 place.me.0 edge.node at)
 
 -- ---- a unicast route of an edge
 

@@ -17,7 +17,8 @@ use Rattle.selective_defs.specs.Selective.{Among}
 use Rattle.edge_defs.specs.Edge.{VrfPattern, Selected, VrfFlow, Import, Upstream, Site, Remote, Control}
 use Rattle.edge_defs.specs.Held.{join_route, join_routes, held_for}
 use Rattle.edge_defs.specs.Keys.{Value}
-use Rattle.edge_defs.specs.Originated.{import_target, afi_of, selective_key, active_key, plain_value, unicast_value, tunnel_value, inclusive_route, unicast_routes, notes_of, active_routes, selective_routes, routes_of, originated}
+use Rattle.bgp_update.specs.Written.{afi_of}
+use Rattle.edge_defs.specs.Originated.{import_target, selective_key, active_key, plain_value, unicast_value, tunnel_value, inclusive_route, unicast_routes, notes_of, active_routes, selective_routes, routes_of, originated}
 use Rattle.edge_defs.specs.Place.{EdgePlace, OwnVrf, own_addr, own_vrfs, tunnel_number}
 use Rattle.edge_defs.proofs.KeyLemmas.{key_total, key_exact, pattern_total}
 use Rattle.calm_laws.proofs.Lists.{among_front, among_either, map_among, among_flat_map, flat_map_among, filter_among, found_among}

@@ -21,7 +21,8 @@ use Rattle.edge_defs.specs.Place.{EdgePlace, OwnVrf, own_vrfs}
 use Rattle.core_walks.specs.Core.{Core}
 use Rattle.edge_defs.specs.Steps.{Call, control_step, refreshed}
 use Rattle.edge_defs.specs.Steps as steps
-use Rattle.edge_laws.specs.Acts.{Act, act, run, is_up, stepped, with_core, message_of, left_in_transit, delivered, selected, is_at, is_between, unjoined, with_joined, noticed, raised}
+use Rattle.label_defs.specs.Between.{is_between, is_either}
+use Rattle.edge_laws.specs.Acts.{Act, act, run, is_up, stepped, with_core, message_of, left_in_transit, delivered, selected, unjoined, with_joined, noticed, raised}
 use Rattle.edge_laws.specs.Acts as acts
 use Rattle.edge_laws.specs.Network.{EdgeNetwork, place_of, at_node}
 use Rattle.calm_laws.specs.Calm.{FlowsStand}

@@ -18,7 +18,8 @@ use Rattle.edge_defs.specs.Flows.{same_flow}
 use Rattle.edge_defs.specs.Held.{join_route, held_for}
 use Rattle.edge_defs.specs.Imported.{has_comm, imported_join, taken_from}
 use Rattle.edge_defs.specs.Keys.{Value}
-use Rattle.edge_defs.specs.Originated.{afi_of, import_target, own_import}
+use Rattle.bgp_update.specs.Written.{afi_of}
+use Rattle.edge_defs.specs.Originated.{import_target, own_import}
 use Rattle.edge_defs.specs.Place.{EdgePlace, OwnVrf, own_addr, own_vrfs}
 use Rattle.edge_defs.specs.Tunnels.{is_joined_by, is_joined_in}
 use Rattle.edge_defs.proofs.KeyLemmas.{key_exact, flow_total, flow_exact}

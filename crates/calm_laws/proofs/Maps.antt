@@ -8,6 +8,7 @@ use Rattle.std.specs.FinMap as maps
 use Rattle.std.specs.FinMap.{FinMap, IsAntisymmetric, find}
 use Rattle.std.specs.FinMap.Entries.{is_sorted, below_all}
 use Rattle.label_defs.proofs.KeyLemmas.{ties}
+use Rattle.label_defs.proofs.MemberLemmas.{front_of, back_of, not_tied}
 use Rattle.selective_defs.specs.Selective.{Among}
 use Rattle.calm_laws.proofs.Lists.{not_both}
 
@@ -17,19 +18,6 @@ none_of_length (x ∷ xs) e = absurd (omega (arith, e))
 
 pub empty_entries : {K V : Type 0} (R : K → K → Ordering) → maps.entries (maps.empty {X = V} {R = R}) ≡ []
 empty_entries {V = V} R = none_of_length (maps.entries maps.empty) (sym (maps.len-entries maps.empty) ∙ maps.len-empty R V)
-
-first : (a b : Bool) → T (a && b) → T a
-first true b p = tt
-first false b p = p
-
-second : (a b : Bool) → T (a && b) → T b
-second true b p = p
-second false b p = absurd p
-
-below : (order : Ordering) → T (is_lt order) → is_eq order ≡ false
-below Less h = refl
-below Equal h = absurd h
-below Greater h = absurd h
 
 -- ---- what a list of entries has first at a key
 
@@ -51,10 +39,10 @@ module _ {K V : Type 0} {R : K → K → Ordering} (total : IsTotalOrder R) wher
   not_below : (k : K) (v : V) (x : K) (es : List (K × V)) → T (below_all R x es) → Among (k, v) es → eq_by_cmp R k x ≡ true → ⊥
   not_below k v x [] h a e = a
   not_below k v x (f ∷ es) h (inl same) e =
-      let less : is_eq (R x k) ≡ false = ap (λ (y : K × V). is_eq (R x y.0)) same ∙ below (R x f.0) (first (is_lt (R x f.0)) (below_all R x es) h) in
+      let less : is_eq (R x k) ≡ false = ap (λ (y : K × V). is_eq (R x y.0)) same ∙ not_tied (R x f.0) (front_of (is_lt (R x f.0)) (below_all R x es) h) in
       let tied : R k x ≡ Equal = (Equal-is (R k x)).0 e in
       not_both (is_eq (R x k)) (ap is_eq (sym (total.congr k x k tied) ∙ tied_itself total k)) less
-  not_below k v x (f ∷ es) h (inr a) e = not_below k v x es (second (is_lt (R x f.0)) (below_all R x es) h) a e
+  not_below k v x (f ∷ es) h (inr a) e = not_below k v x es (back_of (is_lt (R x f.0)) (below_all R x es) h) a e
 
   sorted_found : (k : K) (v : V) (es : List (K × V)) → T (is_sorted R es) → Among (k, v) es → find R k es ≡ Some v
   sorted_found k v [] h a = absurd a
@@ -62,8 +50,8 @@ module _ {K V : Type 0} {R : K → K → Ordering} (total : IsTotalOrder R) wher
       ap (λ (b : Bool). cond b (Some e.1) (find R k es)) (ties R total k e.0 (ap (λ (x : K × V). x.0) same)) ∙ ap (λ (x : K × V). Some x.1) (sym same)
   sorted_found k v (e ∷ es) h (inr a) =
       elim (eq_by_cmp R k e.0) as (λ b. eq_by_cmp R k e.0 ≡ b → cond b (Some e.1) (find R k es) ≡ Some v) [
-        | true ↦ λ tied. absurd (not_below k v e.0 es (first (below_all R e.0 es) (is_sorted R es) h) a tied)
-        | false ↦ λ tied. sorted_found k v es (second (below_all R e.0 es) (is_sorted R es) h) a
+        | true ↦ λ tied. absurd (not_below k v e.0 es (front_of (below_all R e.0 es) (is_sorted R es) h) a tied)
+        | false ↦ λ tied. sorted_found k v es (back_of (below_all R e.0 es) (is_sorted R es) h) a
       ] refl
 
   -- an entry of a map is what the map has at its key

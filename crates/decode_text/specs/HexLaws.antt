@@ -24,5 +24,17 @@ pub record Writes (text octets : List ℕ) : Type 0 where
 -- that are; or else the number of digits is odd, which shows at the end.
 pub data FirstFault (text : List ℕ) (fault : TextFault) : Type 0 where
   long : 16777216 < length text → fault ≡ record { line = 1; column = 1; reason = reasons.Long } → FirstFault text fault
-  other : (front : List ℕ) (b : ℕ) (rest : List ℕ) → length text ≤ 16777216 → text ≡ front ++ (b ∷ rest) → AllPass is_digit_or_white front → is_digit_or_white b ≡ false → fault ≡ fault_behind front reasons.Hex → FirstFault text fault
-  odd : length text ≤ 16777216 → AllPass is_digit_or_white text → count_by is_hex_digit text % 2 ≡ 1 → fault ≡ fault_behind text reasons.Hex → FirstFault text fault
+  other :
+      (front : List ℕ) (b : ℕ) (rest : List ℕ) →
+      length text ≤ 16777216 →
+      text ≡ front ++ (b ∷ rest) →
+      AllPass is_digit_or_white front →
+      is_digit_or_white b ≡ false →
+      fault ≡ fault_behind front reasons.Hex →
+      FirstFault text fault
+  odd :
+      length text ≤ 16777216 →
+      AllPass is_digit_or_white text →
+      count_by is_hex_digit text % 2 ≡ 1 →
+      fault ≡ fault_behind text reasons.Hex →
+      FirstFault text fault

@@ -1,5 +1,6 @@
 -- Octets in hexadecimal text: two digits each, of either case, with white space anywhere between digits.
-use Rattle.std.specs.Prelude.{ℕ, ◌+◌, ◌==◌, ◌||◌, Bool, not, nat_lt, List, length, take, Some, None, Result, Ok, Err, if◌then◌else◌, position}
+use Rattle.std.specs.Prelude.{ℕ, ◌+◌, ◌==◌, ◌||◌, Bool, not, nat_lt, List, length, take, Some, None, Result, Ok, Err}
+use Rattle.std.specs.Prelude.{if◌then◌else◌, position}
 use Rattle.std.specs.List.{filter, count_by, after_last}
 use Rattle.hex.specs.Hex.{decode_of, is_hex_digit}
 use Rattle.line_words.specs.declared.fault.Reason.{Reason}
@@ -28,7 +29,8 @@ fault_behind front reason = record { line = count_by is_lf front + 1; column = l
 
 -- the octets of the digits, or else the fault behind the last octet of the text
 abbrev pub octets_of_digits : List ℕ → Result (List ℕ) TextFault
-octets_of_digits text = elim (decode_of (filter is_hex_digit text)) [ Ok octets ↦ Ok octets | Err other ↦ Err (fault_behind text reasons.Hex) ]
+octets_of_digits text =
+    elim (decode_of (filter is_hex_digit text)) [ Ok octets ↦ Ok octets | Err other ↦ Err (fault_behind text reasons.Hex) ]
 
 -- the octets that a text writes, or its first fault: it has at most 16,777,216 octets itself
 abbrev pub octets_of : List ℕ → Result (List ℕ) TextFault

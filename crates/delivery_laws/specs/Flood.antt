@@ -1,5 +1,6 @@
 -- How often a datagram is written at an interface by the copies on links, if all of them land.
-use Rattle.std.specs.Prelude.{◌≡◌, ◌<◌, ◌≤◌, true, ℕ, zero, suc, ◌+◌, ◌==◌, ◌&&◌, Bool, List, [], Option, None, Some, length, slice_get, sum_by, count_by, if◌then◌else◌}
+use Rattle.std.specs.Prelude.{◌≡◌, ◌<◌, ◌≤◌, true, ℕ, zero, suc, ◌+◌, ◌==◌, ◌&&◌, Bool, List, [], Option, None, Some}
+use Rattle.std.specs.Prelude.{length, slice_get, sum_by, count_by, if◌then◌else◌}
 use Rattle.std.specs.List.{flat_map, AllByRecursion}
 use Rattle.std.specs.FinSet as sets
 use Rattle.mv_base.specs.declared.ids.IfaceId.{IfaceId}

@@ -16,11 +16,11 @@ use Rattle.mvpn_nlri.specs.declared.route.Afi.TheVariants.{Ipv4, Ipv6}
 use Rattle.mvpn_nlri.specs.declared.route.Route.{Route}
 use Rattle.mvpn_nlri.specs.Spelling.{written}
 use Rattle.bgp_attributes.specs.declared.key.Key.TheVariants.{Mcast, Unicast}
-use Rattle.bgp_update.specs.Written.{vpn_text}
+use Rattle.bgp_update.specs.Written.{vpn_text, afi_of}
 use Rattle.table_laws.specs.Words.{IsExact}
 use Rattle.selective_defs.proofs.PartLemmas.{one_addr, one_word}
 use Rattle.edge_defs.specs.Edge.{Note, VrfPattern, VrfFlow, note_cmp, pattern_cmp, flow_cmp}
-use Rattle.edge_defs.specs.Keys.{Value, addr_part, word_part, afi_number, prefix_afi, key_parts, parts_cmp, key_cmp, value_parts, same_value}
+use Rattle.edge_defs.specs.Keys.{Value, addr_part, word_part, afi_number, key_parts, parts_cmp, key_cmp, value_parts, same_value}
 use Rattle.edge_defs.proofs.PartLemmas.{one_key, one_value}
 
 parts_total : IsTotalOrder parts_cmp
@@ -45,23 +45,27 @@ value_exact own other = (
 
 -- ---- notes, patterns and flows
 
+-- a number, a source and a group
+abbrev flow_key : ℕ → Addr → Addr → List (List ℕ)
+flow_key number source group = (number ∷ []) ∷ addr_part source ∷ addr_part group ∷ []
+
+one_flow_key : (n m : ℕ) (source from group to : Addr) → flow_key n source group ≡ flow_key m from to → (n ≡ m) × (source ≡ from) × (group ≡ to)
+one_flow_key n m source from group to e =
+    let numbers : n ≡ m = cc in
+    let sources : addr_part source ≡ addr_part from = cc in
+    let groups : addr_part group ≡ addr_part to = cc in
+    (numbers, one_addr source from sources, one_addr group to groups)
+
 abbrev note_parts : Note → List (List ℕ)
-note_parts note = (note.iface.0 ∷ []) ∷ addr_part note.source ∷ addr_part note.group ∷ []
+note_parts note = flow_key note.iface.0 note.source note.group
 
 pub note_total : IsTotalOrder note_cmp
 note_total = on_total note_parts parts_total
 
-one_note : (a b : Note) → note_parts a ≡ note_parts b → a ≡ b
-one_note a b e =
-    let iface : a.iface.0 ≡ b.iface.0 = cc in
-    let from : addr_part a.source ≡ addr_part b.source = cc in
-    let to : addr_part a.group ≡ addr_part b.group = cc in
-    let source = one_addr a.source b.source from in
-    let group = one_addr a.group b.group to in
-    λ i. record { iface = record { 0 = iface i }; source = source i; group = group i }
-
 pub note_exact : IsAntisymmetric note_cmp
-note_exact a b e = one_note a b (parts_exact (note_parts a) (note_parts b) e)
+note_exact a b e =
+    let (iface, source, group) = one_flow_key a.iface.0 b.iface.0 a.source b.source a.group b.group (parts_exact (note_parts a) (note_parts b) e) in
+    λ i. record { iface = record { 0 = iface i }; source = source i; group = group i }
 
 abbrev pattern_parts : VrfPattern → List (List ℕ)
 pattern_parts own = (own.vrf.0 ∷ []) ∷ word_part own.pattern.source ∷ word_part own.pattern.group ∷ []
@@ -82,22 +86,15 @@ pub pattern_exact : IsAntisymmetric pattern_cmp
 pattern_exact a b e = one_pattern a b (parts_exact (pattern_parts a) (pattern_parts b) e)
 
 abbrev flow_parts : VrfFlow → List (List ℕ)
-flow_parts flow = (flow.vrf.0 ∷ []) ∷ addr_part flow.source ∷ addr_part flow.group ∷ []
+flow_parts flow = flow_key flow.vrf.0 flow.source flow.group
 
 pub flow_total : IsTotalOrder flow_cmp
 flow_total = on_total flow_parts parts_total
 
-one_flow : (a b : VrfFlow) → flow_parts a ≡ flow_parts b → a ≡ b
-one_flow a b e =
-    let vrf : a.vrf.0 ≡ b.vrf.0 = cc in
-    let from : addr_part a.source ≡ addr_part b.source = cc in
-    let to : addr_part a.group ≡ addr_part b.group = cc in
-    let source = one_addr a.source b.source from in
-    let group = one_addr a.group b.group to in
-    λ i. record { vrf = record { 0 = vrf i }; source = source i; group = group i }
-
 pub flow_exact : IsAntisymmetric flow_cmp
-flow_exact a b e = one_flow a b (parts_exact (flow_parts a) (flow_parts b) e)
+flow_exact a b e =
+    let (vrf, source, group) = one_flow_key a.vrf.0 b.vrf.0 a.source b.source a.group b.group (parts_exact (flow_parts a) (flow_parts b) e) in
+    λ i. record { vrf = record { 0 = vrf i }; source = source i; group = group i }
 
 -- ---- which key stands before which
 
@@ -112,16 +109,13 @@ ipv4_first own other = refl
 abbrev parts_by : Afi → Rd → Prefix → List (List ℕ)
 parts_by afi rd prefix = (0 ∷ afi_number afi ∷ []) ∷ vpn_text [] rd prefix ∷ rd.0 ∷ addr_part prefix.addr ∷ (prefix.bits ∷ []) ∷ []
 
-abbrev afi_by : Addr → Afi
-afi_by addr = elim addr [ V4 octets ↦ Ipv4 | V6 octets ↦ Ipv6 ]
-
 first_by : (a b : Afi) (rd other_rd : Rd) (prefix other : Prefix) → a ≡ Ipv4 → b ≡ Ipv6 → parts_cmp (parts_by a rd prefix) (parts_by b other_rd other) ≡ Less
 first_by a b rd other_rd prefix other h k =
     ap (λ (x : Afi). parts_cmp (parts_by x rd prefix) (parts_by b other_rd other)) h ∙ ap (λ (y : Afi). parts_cmp (parts_by Ipv4 rd prefix) (parts_by y other_rd other)) k
 
 pub ipv4_prefix_first : (rd other_rd : Rd) (prefix other : Prefix) (octets other_octets : List ℕ) → prefix.addr ≡ V4 octets → other.addr ≡ V6 other_octets
     → key_cmp (Unicast rd prefix) (Unicast other_rd other) ≡ Less
-ipv4_prefix_first rd other_rd prefix other octets other_octets h k = first_by (prefix_afi prefix) (prefix_afi other) rd other_rd prefix other (ap afi_by h) (ap afi_by k)
+ipv4_prefix_first rd other_rd prefix other octets other_octets h k = first_by (afi_of prefix.addr) (afi_of other.addr) rd other_rd prefix other (ap afi_of h) (ap afi_of k)
 
 -- what tells is told at once
 told : (order rest : Ordering) → order ≢ Equal → ordering_then order rest ≡ order
@@ -140,7 +134,7 @@ by_octets Ipv6 Ipv6 rd other_rd prefix other same differs = told (slice_cmp nat_
 by_octets Ipv4 Ipv6 rd other_rd prefix other same differs = absurd cc
 by_octets Ipv6 Ipv4 rd other_rd prefix other same differs = absurd cc
 
-pub prefixes_by_octets : (rd other_rd : Rd) (prefix other : Prefix) → prefix_afi prefix ≡ prefix_afi other
+pub prefixes_by_octets : (rd other_rd : Rd) (prefix other : Prefix) → afi_of prefix.addr ≡ afi_of other.addr
     → slice_cmp nat_cmp (vpn_text [] rd prefix) (vpn_text [] other_rd other) ≢ Equal
     → key_cmp (Unicast rd prefix) (Unicast other_rd other) ≡ slice_cmp nat_cmp (vpn_text [] rd prefix) (vpn_text [] other_rd other)
-prefixes_by_octets rd other_rd prefix other same differs = by_octets (prefix_afi prefix) (prefix_afi other) rd other_rd prefix other same differs
+prefixes_by_octets rd other_rd prefix other same differs = by_octets (afi_of prefix.addr) (afi_of other.addr) rd other_rd prefix other same differs

@@ -10,7 +10,8 @@ use Rattle.table_defs.specs.Changes.{changes}
 use Rattle.edge_defs.specs.Edge.{VrfFlow, Upstream, Remote, Control}
 use Rattle.edge_defs.specs.Imported.{found_in}
 use Rattle.edge_defs.specs.Keys.{Value, Table, same_value}
-use Rattle.edge_defs.specs.Originated.{afi_of, import_target, originated}
+use Rattle.bgp_update.specs.Written.{afi_of}
+use Rattle.edge_defs.specs.Originated.{import_target, originated}
 use Rattle.edge_defs.specs.Place.{EdgePlace, own_addr}
 
 -- The Source Tree Join of a flow whose upstream is that peer: it has RD and Source AS of the chosen route, and the Route Target made

@@ -1,6 +1,7 @@
 -- Which of the routes that were taken from a peer a VRF imports and uses (RFC 4364 section 4.3.1; RFC 6514 sections 7, 9.1.2, 11.3,
 -- 12.3 and 14.2; the conditions on addresses are this project's profile).
-use Rattle.std.specs.Prelude.{ℕ, ◌==◌, ◌&&◌, Bool, false, not, nat_eq, List, [], ◌∷◌, take, drop, is_none, Option, None, Some, if◌then◌else◌}
+use Rattle.std.specs.Prelude.{ℕ, ◌==◌, ◌&&◌, Bool, false, not, nat_eq, List, [], ◌∷◌, take, drop, is_none, Option, None}
+use Rattle.std.specs.Prelude.{Some, if◌then◌else◌}
 use Rattle.std.specs.Int.{w16, from_be_bytes}
 use Rattle.std.specs.List.{list_any}
 use Rattle.std.specs.Cmp.Lexicographic.{pointwise}

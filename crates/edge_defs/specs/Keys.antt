@@ -22,7 +22,7 @@ use Rattle.mvpn_nlri.specs.Spelling.{written}
 use Rattle.route_targets.specs.declared.communities.ExtComm.{ExtComm}
 use Rattle.bgp_attributes.specs.declared.key.Key.{Key}
 use Rattle.bgp_attributes.specs.declared.key.Key.TheVariants.{Mcast, Unicast}
-use Rattle.bgp_update.specs.Written.{vpn_text}
+use Rattle.bgp_update.specs.Written.{vpn_text, afi_of}
 pub use Rattle.selective_defs.specs.Parts.{addr_part, word_part}
 
 -- ---- the order of keys
@@ -48,15 +48,11 @@ route_parts (routes.SharedJoin rd source_as source group) = (6 ∷ source_as ∷
 route_parts (routes.SourceJoin rd source_as source group) = (7 ∷ source_as ∷ []) ∷ rd.0 ∷ addr_part source ∷ addr_part group ∷ []
 route_parts (routes.Other kind octets) = (8 ∷ kind ∷ []) ∷ octets ∷ []
 
--- the AFI of a prefix
-abbrev pub prefix_afi : Prefix → Afi
-prefix_afi prefix = elim prefix.addr [ V4 octets ↦ Ipv4 | V6 octets ↦ Ipv6 ]
-
 -- What keys are ordered by: unicast keys before multicast keys, in each kind those of AFI 1 before those of AFI 2, and then the octets
 -- that spell them, the label of a unicast route aside. The parts of the key stand behind, so that no two keys tie.
 abbrev pub key_parts : Key → List (List ℕ)
 key_parts (Unicast rd prefix) =
-    (0 ∷ afi_number (prefix_afi prefix) ∷ []) ∷ vpn_text [] rd prefix ∷ rd.0 ∷ addr_part prefix.addr ∷ (prefix.bits ∷ []) ∷ []
+    (0 ∷ afi_number (afi_of prefix.addr) ∷ []) ∷ vpn_text [] rd prefix ∷ rd.0 ∷ addr_part prefix.addr ∷ (prefix.bits ∷ []) ∷ []
 key_parts (Mcast afi route) = (1 ∷ afi_number afi ∷ []) ∷ written route ∷ route_parts route
 
 abbrev pub parts_cmp : List (List ℕ) → List (List ℕ) → Ordering

@@ -10,7 +10,7 @@ use Rattle.mv_base.specs.declared.ids.IfaceId.{IfaceId}
 use Rattle.mv_base.specs.declared.ids.VrfId.{VrfId}
 use Rattle.mv_base.specs.declared.pattern.Pattern.{Pattern}
 use Rattle.mvpn_nlri.specs.declared.route.Afi.{Afi}
-use Rattle.mvpn_nlri.specs.declared.route.Afi.TheVariants.{Ipv4, Ipv6}
+use Rattle.mvpn_nlri.specs.declared.route.Afi.TheVariants.{Ipv4}
 use Rattle.mvpn_nlri.specs.declared.route.Route.TheVariants as routes
 use Rattle.pmsi_attr.specs.declared.pmsi.Pmsi.{Pmsi}
 use Rattle.pmsi_attr.specs.declared.pmsi.Tunnel.TheVariants as tunnels
@@ -22,6 +22,7 @@ use Rattle.scenario_defs.specs.Home.{local_routes}
 use Rattle.scenario_defs.specs.Vpn.{is_of_vrf}
 use Rattle.scenario_defs.specs.declared.scenario.Scenario.{Scenario}
 use Rattle.scenario_defs.specs.declared.scenario.Vrf.{Vrf}
+use Rattle.bgp_update.specs.Written.{afi_of}
 use Rattle.edge_defs.specs.Edge.{Import, Note, Selected, VrfPattern, Control}
 use Rattle.edge_defs.specs.Keys.{Value}
 use Rattle.edge_defs.specs.Place.{EdgePlace, OwnVrf, own_addr, own_vrfs, lsp, tunnel_number}
@@ -49,11 +50,7 @@ own_import place vrf = record { addr = own_addr place; number = vrf.number }
 
 -- ---- keys and values
 
--- the AFI of a flow's addresses, and of a pattern's, which is 1 where both are wildcards
-abbrev pub afi_of : Addr → Afi
-afi_of (V4 octets) = Ipv4
-afi_of (V6 octets) = Ipv6
-
+-- the AFI of a pattern's addresses, which is 1 where both are wildcards
 abbrev pub afi_by : Option Addr → Option Addr → Afi
 afi_by (Some source) group = afi_of source
 afi_by None (Some group) = afi_of group

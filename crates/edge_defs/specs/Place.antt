@@ -1,5 +1,6 @@
 -- The place of an edge: the scenario, the core, and which of the nodes it is.
-use Rattle.std.specs.Prelude.{ℕ, ◌+◌, ◌*◌, ◌==◌, ◌&&◌, Bool, true, false, nat_eq, List, [], ◌∷◌, length, take, slice_get, position, option_map, Option, None, Some, if◌then◌else◌}
+use Rattle.std.specs.Prelude.{ℕ, ◌+◌, ◌*◌, ◌==◌, ◌&&◌, Bool, true, false, nat_eq, List, [], ◌∷◌, length, take}
+use Rattle.std.specs.Prelude.{slice_get, position, option_map, Option, None, Some, if◌then◌else◌}
 use Rattle.std.specs.Int.{w32, to_be_bytes}
 use Rattle.std.specs.List.{list_any}
 use Rattle.std.specs.Cmp.Lexicographic.{pointwise}

@@ -13,11 +13,11 @@ ghost use Rattle.mvpn_nlri.specs.declared.route.Afi.TheVariants.{Ipv4, Ipv6};
 ghost use Rattle.mvpn_nlri.specs.declared.route.Route.{Route};
 ghost use Rattle.mvpn_nlri.specs.Spelling.{written};
 ghost use Rattle.bgp_attributes.specs.declared.key.Key.TheVariants.{Mcast, Unicast};
-ghost use Rattle.bgp_update.specs.Written.{vpn_text};
+ghost use Rattle.bgp_update.specs.Written.{vpn_text, afi_of};
 ghost use Rattle.table_laws.specs.Words.{IsExact};
 ghost use Rattle.edge_defs.specs.Edge.{EdgeData, flow_cmp, fresh, note_cmp, pattern_cmp};
 ghost use Rattle.edge_defs.specs.Example.{Worked};
-ghost use Rattle.edge_defs.specs.Keys.{key_cmp, prefix_afi, same_value};
+ghost use Rattle.edge_defs.specs.Keys.{key_cmp, same_value};
 ghost use Rattle.edge_defs.specs.Place.{EdgePlace};
 ghost use Rattle.core_walks.specs.Core.{Core, IsCoreOf};
 ghost use Rattle.edge_defs.specs.Steps.{Call, EdgeStepped, edge_step};
@@ -41,7 +41,7 @@ pub fn keys_are_in_order()
         other.addr ≡ V6 other_octets → key_cmp (Unicast rd prefix) (Unicast other_rd other) ≡ Less }
     ensures routes { (afi : Afi) (own other : Route) → slice_cmp nat_cmp (written own) (written other) ≢ Equal →
         key_cmp (Mcast afi own) (Mcast afi other) ≡ slice_cmp nat_cmp (written own) (written other) }
-    ensures prefixes { (rd other_rd : Rd) (prefix other : Prefix) → prefix_afi prefix ≡ prefix_afi other →
+    ensures prefixes { (rd other_rd : Rd) (prefix other : Prefix) → afi_of prefix.addr ≡ afi_of other.addr →
         slice_cmp nat_cmp (vpn_text [] rd prefix) (vpn_text [] other_rd other) ≢ Equal →
         key_cmp (Unicast rd prefix) (Unicast other_rd other) ≡ slice_cmp nat_cmp (vpn_text [] rd prefix) (vpn_text [] other_rd other) }
 {}

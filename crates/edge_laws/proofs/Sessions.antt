@@ -18,7 +18,9 @@ use Rattle.edge_defs.specs.Keys.{Value, key_cmp}
 use Rattle.edge_defs.specs.Steps as steps
 use Rattle.edge_defs.specs.Steps.{control_step}
 use Rattle.edge_laws.specs.Network.{EdgeNetwork, place_of, at_node}
-use Rattle.edge_laws.specs.Acts.{is_up, is_between, is_at, unjoined, with_joined, noticed, raised, stepped}
+use Rattle.label_defs.specs.Between.{is_between, is_either}
+use Rattle.label_defs.proofs.BetweenLemmas.{between_swap, either_swap}
+use Rattle.edge_laws.specs.Acts.{is_up, unjoined, with_joined, noticed, raised, stepped}
 use Rattle.edge_laws.specs.Rule.{View, ViewAt, Rule, selected_at}
 use Rattle.edge_laws.proofs.Local.{along, near_view, cut_view, join_view, far_down, tick_view}
 use Rattle.edge_laws.proofs.Selections.{empties}
@@ -26,29 +28,6 @@ use Rattle.edge_laws.proofs.Picks.{picks}
 use Rattle.edge_laws.proofs.Taken.{table_in}
 use Rattle.edge_laws.proofs.Frames.{NearView, FarView, Views, Ends, views_of, rule_from, node_views, node_there, told_down}
 use Rattle.edge_laws.proofs.Steps.{raised_kept, raised_own, raised_other, noticed_rule}
-
--- ---- sums and products of truth values
-
-and_turned : (a b : Bool) → (a && b) ≡ (b && a)
-and_turned true true = refl
-and_turned true false = refl
-and_turned false true = refl
-and_turned false false = refl
-
-or_turned : (a b : Bool) → (a || b) ≡ (b || a)
-or_turned true true = refl
-or_turned true false = refl
-or_turned false true = refl
-or_turned false false = refl
-
-pair_turned : (p q r s : Bool) → ((p && q) || (r && s)) ≡ ((s && r) || (q && p))
-pair_turned p q r s = ap (λ x. x || (r && s)) (and_turned p q) ∙ ap (λ x. (q && p) || x) (and_turned r s) ∙ or_turned (q && p) (s && r)
-
-between_turned : (a b u v : NodeId) → is_between a b u v ≡ is_between a b v u
-between_turned a b u v = pair_turned (u.0 == a.0) (v.0 == b.0) (u.0 == b.0) (v.0 == a.0)
-
-at_turned : (a u v : NodeId) → is_at a u v ≡ is_at a v u
-at_turned a u v = or_turned (u.0 == a.0) (v.0 == a.0)
 
 -- ---- losses
 
@@ -69,7 +48,7 @@ cut_rule network hit turned rule = record {
 }
 
 pub lose_rule : (network : EdgeNetwork) (a b : NodeId) → Rule network → Rule (unjoined (is_between a b) network)
-lose_rule network a b rule = cut_rule network (is_between a b) (between_turned a b) rule
+lose_rule network a b rule = cut_rule network (is_between a b) (between_swap a b) rule
 
 none_left : (x y : Bool) → (x || y) ≡ false → (x ≡ false) × (y ≡ false)
 none_left true y e = absurd cc
@@ -109,7 +88,7 @@ pair_off network a b u v p r e =
 join_kept : (network : EdgeNetwork) (a b : NodeId) → is_up (network.node a) b ≡ false → is_up (network.node b) a ≡ false → Views network → Views (with_joined a b network)
 join_kept network a b p r views = record {
   view = λ u v key ne. join_at network u v key (network.direction u v).joined (is_between a b u v) refl (pair_off network a b u v p r) (views.view u v key ne);
-  alike = λ u v. ap (λ x. x || is_between a b u v) (views.alike u v) ∙ ap (λ x. (network.direction v u).joined || x) (between_turned a b u v);
+  alike = λ u v. ap (λ x. x || is_between a b u v) (views.alike u v) ∙ ap (λ x. (network.direction v u).joined || x) (between_swap a b u v);
   scenario = views.scenario;
 }
 
@@ -159,16 +138,16 @@ cut_off true false e = absurd cc
 
 module _ (network : EdgeNetwork) (n : NodeId) (rule : Rule network) where
   abbrev cut : EdgeNetwork
-  cut = unjoined (is_at n) network
+  cut = unjoined (is_either n) network
 
   cut_kept : Rule cut
-  cut_kept = cut_rule network (is_at n) (at_turned n) rule
+  cut_kept = cut_rule network (is_either n) (either_swap n) rule
 
   off_from : (b : NodeId) → (cut.direction n b).joined ≡ false
-  off_from b = cut_off (network.direction n b).joined (is_at n n b) (either (n.0 == n.0) (b.0 == n.0) (inl (node_itself n n refl)))
+  off_from b = cut_off (network.direction n b).joined (is_either n n b) (either (n.0 == n.0) (b.0 == n.0) (inl (node_itself n n refl)))
 
   off_to : (a : NodeId) → (cut.direction a n).joined ≡ false
-  off_to a = cut_off (network.direction a n).joined (is_at n a n) (either (a.0 == n.0) (n.0 == n.0) (inr (node_itself n n refl)))
+  off_to a = cut_off (network.direction a n).joined (is_either n a n) (either (a.0 == n.0) (n.0 == n.0) (inr (node_itself n n refl)))
 
   near : (b : NodeId) (key : Key) → n ≢ b → NearView cut n no_control b key
   near b key ne =

@@ -8,6 +8,7 @@ use Rattle.mv_base.specs.declared.ids.VrfId.{VrfId}
 use Rattle.mv_base.specs.declared.pattern.Pattern.{Pattern}
 use Rattle.pim_joinprune.specs.declared.message.JoinPrune.{JoinPrune}
 use Rattle.mldp_msgs.specs.declared.message.LabelMessage.{LabelMessage}
+use Rattle.label_defs.specs.Between.{is_between, is_either}
 use Rattle.bgp_attributes.specs.declared.key.Key.{Key}
 use Rattle.bgp_attributes.specs.declared.update.Message.{Message}
 use Rattle.bgp_attributes.specs.declared.update.Message.TheVariants as messages
@@ -56,14 +57,6 @@ selected network n vrf pattern true = network
 selected network n vrf pattern false = stepped network n (steps.Select vrf pattern)
 
 -- ---- sessions
-
--- whether both are these two, either way round
-abbrev pub is_between : NodeId → NodeId → NodeId → NodeId → Bool
-is_between a b u n = ((u.0 == a.0) && (n.0 == b.0)) || ((u.0 == b.0) && (n.0 == a.0))
-
--- whether one of them is this one
-abbrev pub is_at : NodeId → NodeId → NodeId → Bool
-is_at a u n = (u.0 == a.0) || (n.0 == a.0)
 
 -- the sessions that are hit are unjoined, and what is in transit there is lost
 abbrev pub unjoined : (NodeId → NodeId → Bool) → EdgeNetwork → EdgeNetwork
@@ -140,7 +133,7 @@ act network (Lose a b) = unjoined (is_between a b) network
 act network (Notice a b) =
     noticed network a b ((network.direction a b).joined || (network.direction b a).joined) (is_up (network.node a) b)
 act network (Raise a b) = raised network a b (a.0 == b.0) (is_up (network.node a) b) (is_up (network.node b) a)
-act network (Restart n) = let cut = unjoined (is_at n) network in record cut { node = at_node n no_control cut.node }
+act network (Restart n) = let cut = unjoined (is_either n) network in record cut { node = at_node n no_control cut.node }
 act network (Tick ticks) = record network { clock = network.clock + ticks }
 act network (Timers n) = stepped network n steps.Timers
 act network (Reroute n core) = stepped (with_core n core network) n steps.Rerouted

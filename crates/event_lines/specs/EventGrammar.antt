@@ -21,12 +21,18 @@ use Rattle.event_lines.specs.JoinGrammar.{join_line, prune_line}
 -- whether no line of events of clocks, sessions, losses and costs that begins with the word is built yet
 abbrev pub is_unbuilt_clock : List ℕ → Bool
 is_unbuilt_clock text =
-    pointwise nat_eq text (codes "move") || pointwise nat_eq text (codes "lose") || pointwise nat_eq text (codes "notice") || pointwise nat_eq text (codes "raise") || pointwise nat_eq text (codes "heal") || pointwise nat_eq text (codes "restart") || pointwise nat_eq text (codes "cost")
+    pointwise nat_eq text (codes "move") || pointwise nat_eq text (codes "lose") ||
+    pointwise nat_eq text (codes "notice") || pointwise nat_eq text (codes "raise") ||
+    pointwise nat_eq text (codes "heal") || pointwise nat_eq text (codes "restart") ||
+    pointwise nat_eq text (codes "cost")
 
 -- whether no line of another event that begins with the word is built yet
 abbrev pub is_unbuilt_flow : List ℕ → Bool
 is_unbuilt_flow text =
-    pointwise nat_eq text (codes "active") || pointwise nat_eq text (codes "idle") || pointwise nat_eq text (codes "packet") || pointwise nat_eq text (codes "select") || pointwise nat_eq text (codes "unselect") || pointwise nat_eq text (codes "hop") || pointwise nat_eq text (codes "drop") || pointwise nat_eq text (codes "settle")
+    pointwise nat_eq text (codes "active") || pointwise nat_eq text (codes "idle") ||
+    pointwise nat_eq text (codes "packet") || pointwise nat_eq text (codes "select") ||
+    pointwise nat_eq text (codes "unselect") || pointwise nat_eq text (codes "hop") ||
+    pointwise nat_eq text (codes "drop") || pointwise nat_eq text (codes "settle")
 
 -- what a first word begins
 unfoldable pub event_word : Row → Placed → Result EventWord TextFault
@@ -99,12 +105,14 @@ pim_line draft row (a ∷ b ∷ c ∷ more) = fault row.number c.column reasons.
 -- `SITE S G` of a send
 unfoldable pub send_head : Drafted → Row → Placed → Placed → Placed → Result SendHead TextFault
 send_head draft row a b c =
-    site_at draft row a >>= λ site. source_at row b >>= λ source. group_at row c >>= λ group. Ok (record { site = site; source = source; group = group })
+    site_at draft row a >>= λ site. source_at row b >>= λ source. group_at row c >>= λ group.
+    Ok (record { site = site; source = source; group = group })
 
 -- `send SITE S G HEX`
 unfoldable pub send_words : Drafted → Row → Placed → Placed → Placed → Placed → Result Line TextFault
 send_words draft row a b c d =
-    send_head draft row a b c >>= λ head. payload_at row d >>= λ payload. Ok (says.Event (events.Send head.site head.source head.group payload))
+    send_head draft row a b c >>= λ head. payload_at row d >>= λ payload.
+    Ok (says.Event (events.Send head.site head.source head.group payload))
 
 -- the words behind `send`
 unfoldable pub send_line : Drafted → Row → List Placed → Result Line TextFault

@@ -41,7 +41,8 @@ three_words draft row a b c = iface_at draft row a >>= λ iface. entry_at row b 
 
 -- `IFACE S G rpt`
 unfoldable pub four_words : Drafted → Row → Placed → Placed → Placed → Placed → Result IfaceEntry TextFault
-four_words draft row a b c d = iface_at draft row a >>= λ iface. rpt_entry row b c d >>= λ entry. Ok (record { iface = iface; entry = entry })
+four_words draft row a b c d =
+    iface_at draft row a >>= λ iface. rpt_entry row b c d >>= λ entry. Ok (record { iface = iface; entry = entry })
 
 -- the words behind `join` or `prune`
 unfoldable pub iface_entry : Drafted → Row → List Placed → Result IfaceEntry TextFault

@@ -2,7 +2,8 @@
 ghost use Rattle.std.specs.Prelude.{◌≡◌, map};
 ghost use Rattle.line_words.specs.Answers.{Gives};
 ghost use Rattle.line_words.specs.Words.{placed_word};
-ghost use Rattle.event_lines.specs.EventGrammar.{is_unbuilt_clock, is_unbuilt_flow, event_word, names_ipv6, is_unbuilt_form, bare_line, event_words, event_line};
+ghost use Rattle.event_lines.specs.EventGrammar.{is_unbuilt_clock, is_unbuilt_flow, event_word, names_ipv6, is_unbuilt_form};
+ghost use Rattle.event_lines.specs.EventGrammar.{bare_line, event_words, event_line};
 
 use crate::clock_lines::{tick_line, timers_line};
 use crate::join_lines::{join_line, prune_line};

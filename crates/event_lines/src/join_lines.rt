@@ -1,7 +1,8 @@
 //! The lines of joins and prunes.
 ghost use Rattle.std.specs.Prelude.{◌≡◌, map};
 ghost use Rattle.line_words.specs.Words.{placed_word};
-ghost use Rattle.event_lines.specs.JoinGrammar.{star_entry, source_entry, if_rpt, rpt_entry, entry_at, three_words, four_words, iface_entry, join_line, prune_line};
+ghost use Rattle.event_lines.specs.JoinGrammar.{star_entry, source_entry, if_rpt, rpt_entry, entry_at, three_words, four_words};
+ghost use Rattle.event_lines.specs.JoinGrammar.{iface_entry, join_line, prune_line};
 
 use line_words::{Reason, Row, TextFault, Word, fault_at, group_at, source_at};
 use scenario_defs::{Event, IfaceEntry, JoinEntry};
@@ -79,7 +80,8 @@ fn four_words(
     group: &Word,
     last: &Word,
 ) -> Result<IfaceEntry, TextFault>
-    ensures { result ≡ four_words draft.now row (placed_word iface.now) (placed_word source.now) (placed_word group.now) (placed_word last.now) }
+    ensures { result ≡ four_words draft.now row
+        (placed_word iface.now) (placed_word source.now) (placed_word group.now) (placed_word last.now) }
 {
     let iface = iface_at(draft, row, iface)?;
     let entry = rpt_entry(row, source, group, last)?;

@@ -83,7 +83,8 @@ fn send_words(
     group: &Word,
     payload: &Word,
 ) -> Result<Line, ReadFault>
-    ensures { Gives result (send_words draft.now row (placed_word site.now) (placed_word source.now) (placed_word group.now) (placed_word payload.now)) }
+    ensures { Gives result (send_words draft.now row
+        (placed_word site.now) (placed_word source.now) (placed_word group.now) (placed_word payload.now)) }
 {
     let head = send_head(draft, row, site, source, group)?;
     let payload = payload_at(alloc, row, payload)?;

@@ -82,7 +82,7 @@ stopped {E} before place fault (Some f) e =
     (f.0, ap (λ (x : E). Some (f.0, x)) same, sym (ap (λ (o : Option (ℕ × E)). (unwrap_or o (place, fault)).0) e))
 
 -- where more has to come, there is no fault
-no_fault : {M E : Type 0} (front : List ℕ → Front M E) (Spells : List M → List ℕ → Type 0) (Faulty : List ℕ → List M → ℕ → E → Type 0) (limit : ℕ) → IsFormat front Spells Faulty limit → (rest : List ℕ) → IsOctets rest → front rest ≡ more → NoFault Faulty rest
+pub no_fault : {M E : Type 0} (front : List ℕ → Front M E) (Spells : List M → List ℕ → Type 0) (Faulty : List ℕ → List M → ℕ → E → Type 0) (limit : ℕ) → IsFormat front Spells Faulty limit → (rest : List ℕ) → IsOctets rest → front rest ≡ more → NoFault Faulty rest
 no_fault {M} {E} front Spells Faulty limit format rest fits waits ms offset e faulty =
     let clash : ◌≡◌ {A = Front M E} more (bad ms offset e) = sym waits ∙ format.faulty rest ms offset e fits faulty in
     absurd cc

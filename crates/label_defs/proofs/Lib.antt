@@ -1,5 +1,6 @@
 pub mod KeyLemmas
 pub mod MemberLemmas
+pub mod BetweenLemmas
 pub mod UseLemmas
 pub mod SetLemmas
 pub mod TreeLemmas

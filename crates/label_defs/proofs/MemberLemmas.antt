@@ -20,15 +20,15 @@ use Rattle.label_defs.specs.Members.{in_order}
 pub count-cons : {X : Type 0} (test : X → Bool) (x : X) (xs : List X) → count_by test (x ∷ xs) ≡ cond (test x) 1 0 + count_by test xs
 count-cons test x xs = sum_by-cons (λ y. cond (test y) 1 0) x xs
 
-front_of : (a b : Bool) → T (a && b) → T a
+pub front_of : (a b : Bool) → T (a && b) → T a
 front_of true b h = tt
 front_of false b h = h
 
-back_of : (a b : Bool) → T (a && b) → T b
+pub back_of : (a b : Bool) → T (a && b) → T b
 back_of true b h = h
 back_of false b h = absurd h
 
-not_tied : (r : Ordering) → T (is_lt r) → is_eq r ≡ false
+pub not_tied : (r : Ordering) → T (is_lt r) → is_eq r ≡ false
 not_tied Less h = refl
 not_tied Equal h = absurd h
 not_tied Greater h = absurd h

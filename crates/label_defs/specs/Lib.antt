@@ -1,6 +1,7 @@
 pub mod Keys
 pub mod Members
 pub mod LabelData
+pub mod Between
 pub mod Settling
 pub mod Steps
 pub mod Settled

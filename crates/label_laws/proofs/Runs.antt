@@ -18,11 +18,13 @@ use Rattle.label_defs.specs.Steps.{Call, without_session, timed, label_step}
 use Rattle.label_defs.proofs.KeyLemmas.{fec_cmp_total, fec_cmp_exact, node_itself, node_equal, node_cases}
 use Rattle.label_defs.proofs.StepLemmas.{fresh_settled}
 use Rattle.label_laws.specs.Network.{LabelNetwork, place_of, at_node, behind}
-use Rattle.label_laws.specs.Acts.{Act, Deliver, Want, Unwant, Put, Land, Drop, Lose, Notice, Raise, Restart, Tick, Timers, Reroute, stepped, left_in_transit, delivered, wanted, is_between, is_at, unjoined, noticed, with_joined, raised, act, run}
+use Rattle.label_defs.specs.Between.{is_between, is_either}
+use Rattle.label_defs.proofs.BetweenLemmas.{between_swap, either_swap}
+use Rattle.label_laws.specs.Acts.{Act, Deliver, Want, Unwant, Put, Land, Drop, Lose, Notice, Raise, Restart, Tick, Timers, Reroute, stepped, left_in_transit, delivered, wanted, unjoined, noticed, with_joined, raised, act, run}
 use Rattle.label_laws.specs.Rule.{Rule, Kept, OnNetwork, end_of, branch_trees, is_held, none}
 use Rattle.label_laws.proofs.Frames.{node_here, node_there, behind_silent}
 use Rattle.label_laws.proofs.NodeRule.{node_rule}
-use Rattle.label_laws.proofs.Sessions.{Begins, between_swap, at_swap, unjoined_rule, joined_rule}
+use Rattle.label_laws.proofs.Sessions.{Begins, unjoined_rule, joined_rule}
 use Rattle.label_laws.proofs.Ends.{with_node, noticed_rule, fresh_rule, new_end, risen, risen_here, risen_rule, bare_where}
 use Rattle.label_laws.proofs.Times.{tick_rule, timed_rule}
 use Rattle.label_laws.proofs.Copies.{put_kept, dropped_rule, landed_kept}
@@ -203,12 +205,12 @@ raised_kept w a b true up other t p q k = k
 
 -- ---- a node restarts
 
-restarted_kept : (w : LabelNetwork) (n : NodeId) (count : ℕ) → Kept w → Kept (with_node (unjoined (is_at n) w) n (fresh count))
+restarted_kept : (w : LabelNetwork) (n : NodeId) (count : ℕ) → Kept w → Kept (with_node (unjoined (is_either n) w) n (fresh count))
 restarted_kept w n count k =
     record {
-      rule = fresh_rule (unjoined (is_at n) w) n count
-          (λ u ne. and_right (w.direction u n).joined (not (is_at n u n)) (ap not (or_right (u.0 == n.0) (n.0 == n.0) (node_itself n n refl))))
-          (unjoined_rule w (is_at n) (at_swap n) k.rule);
+      rule = fresh_rule (unjoined (is_either n) w) n count
+          (λ u ne. and_right (w.direction u n).joined (not (is_either n u n)) (ap not (or_right (u.0 == n.0) (n.0 == n.0) (node_itself n n refl))))
+          (unjoined_rule w (is_either n) (either_swap n) k.rule);
       settled = λ m fec. elim (node_cases m n) [
         | inr ne ↦ let P : LabelData → Type 0 = λ d. Settled (place_of w m) d fec in subst P (sym (node_there n (fresh count) w.node m ne)) (k.settled m fec)
         | inl same ↦

@@ -4,30 +4,12 @@ use Rattle.std.proofs.lemmas.Bool.{cases_Bool, cond-true, cond-false, and_right,
 use Rattle.mv_base.specs.declared.ids.NodeId.{NodeId}
 use Rattle.label_defs.specs.LabelData.{use_of}
 use Rattle.label_laws.specs.Network.{LabelNetwork}
-use Rattle.label_laws.specs.Acts.{is_between, is_at, unjoined, with_joined}
+use Rattle.label_defs.specs.Between.{is_between}
+use Rattle.label_defs.proofs.BetweenLemmas.{between_swap}
+use Rattle.label_laws.specs.Acts.{unjoined, with_joined}
 use Rattle.label_laws.specs.Rule.{Rule, none, end_of, branch_trees, is_held, is_of_owner, is_release_of}
 use Rattle.label_laws.proofs.Frames.{along_view}
 use Rattle.label_laws.proofs.Views.{cut_view, begun_view}
-
-and_swap : (p q : Bool) → (p && q) ≡ (q && p)
-and_swap true true = refl
-and_swap true false = refl
-and_swap false true = refl
-and_swap false false = refl
-
-or_swap : (p q : Bool) → (p || q) ≡ (q || p)
-or_swap true true = refl
-or_swap true false = refl
-or_swap false true = refl
-or_swap false false = refl
-
-pub between_swap : (a b u n : NodeId) → is_between a b u n ≡ is_between a b n u
-between_swap a b u n =
-    or_swap ((u.0 == a.0) && (n.0 == b.0)) ((u.0 == b.0) && (n.0 == a.0))
-    ∙ λ i. and_swap (u.0 == b.0) (n.0 == a.0) i || and_swap (u.0 == a.0) (n.0 == b.0) i
-
-pub at_swap : (a u n : NodeId) → is_at a u n ≡ is_at a n u
-at_swap a u n = or_swap (u.0 == a.0) (n.0 == a.0)
 
 and_true : (p : Bool) → (p && true) ≡ p
 and_true true = refl

@@ -8,6 +8,7 @@ use Rattle.mldp_msgs.specs.declared.message.LabelMessage.{LabelMessage}
 use Rattle.label_defs.specs.declared.branch.Branch.{Branch}
 use Rattle.label_defs.specs.declared.label_use.LabelUse.{LabelUse}
 use Rattle.label_defs.specs.declared.label_use.LabelUse.TheVariants as uses
+use Rattle.label_defs.specs.Between.{is_between, is_either}
 use Rattle.label_defs.specs.LabelData.{fresh, use_of, is_up, branches_of}
 use Rattle.label_defs.specs.Steps as steps
 use Rattle.label_defs.specs.Steps.{Call, label_step}
@@ -82,14 +83,6 @@ landed network a b place same found = network
 
 -- ---- sessions
 
--- whether both are these two, either way round
-abbrev pub is_between : NodeId → NodeId → NodeId → NodeId → Bool
-is_between a b u n = ((u.0 == a.0) && (n.0 == b.0)) || ((u.0 == b.0) && (n.0 == a.0))
-
--- whether one of them is this one
-abbrev pub is_at : NodeId → NodeId → NodeId → Bool
-is_at a u n = (u.0 == a.0) || (n.0 == a.0)
-
 -- the sessions that are hit are unjoined, and what is in transit there is lost
 abbrev pub unjoined : (NodeId → NodeId → Bool) → LabelNetwork → LabelNetwork
 unjoined hit network =
@@ -152,7 +145,7 @@ act network (Lose a b) = Some (unjoined (is_between a b) network)
 act network (Notice a b) = noticed network a b (network.direction a b).joined (is_up (network.node a) b)
 act network (Raise a b) = raised network a b (a.0 == b.0) (is_up (network.node a) b) (is_up (network.node b) a)
 act network (Restart n) =
-    let cut = unjoined (is_at n) network in
+    let cut = unjoined (is_either n) network in
     Some (record cut { node = at_node n (fresh (network.labels n)) network.node })
 act network (Tick ticks) =
     let moment = network.clock + ticks in

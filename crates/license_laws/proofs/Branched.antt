@@ -5,8 +5,11 @@ use Rattle.mv_base.specs.declared.ids.NodeId.{NodeId}
 use Rattle.framing.specs.Cut.{Front}
 use Rattle.framing.specs.Cut.Front.{more, whole, bad}
 use Rattle.framing.specs.Cut.Yields.{sound as AllWhole}
+use Rattle.framing.proofs.Feedings.{no_fault}
 use Rattle.framing.specs.Units.{Spelled, octets_of, messages_of, AreUnits}
 use Rattle.mldp_fec.specs.declared.fec.Fec.{Fec}
+use Rattle.mldp_msgs.proofs.Pdus.{pdu_format}
+use Rattle.mldp_msgs.specs.FirstFault.{PduFault}
 use Rattle.mldp_msgs.specs.Labels.{IsMapped, HasLabel}
 use Rattle.mldp_msgs.specs.Reading.{pdu_front}
 use Rattle.mldp_msgs.specs.Spelling.{SpellsPdu}
@@ -29,7 +32,7 @@ use Rattle.world_defs.specs.Costs.{Cores}
 use Rattle.rule_laws.specs.Labels.{labels_in}
 use Rattle.rule_laws.proofs.Acts.{InStep}
 use Rattle.rule_laws.proofs.Puts.{labels_both}
-use Rattle.rule_laws.proofs.Full.{labels_map, no_pdu_fault}
+use Rattle.rule_laws.proofs.Full.{labels_map}
 use Rattle.license_laws.proofs.Also.{KeepsAlso, refused_step}
 use Rattle.license_laws.proofs.Branches.{Mapped, mapped_follower}
 use Rattle.license_laws.proofs.Heard.{Waits, no_unit}
@@ -99,7 +102,7 @@ has_label octets units rest fec label each parts waits is =
             begins = record { units = p.plain; each = p.each; parts = parts ∙ ap (λ (xs : List ℕ). xs ++ rest) p.octets; carried = refl };
             no_unit = λ ms text after spells. no_unit kinds.Ldp rest waits (map (λ message. Label message) ms) text after (ms, refl, spells);
           })
-          (no_pdu_fault rest waits.octets (by (pdu_front rest) refl waits.partial)),
+          (no_fault pdu_front SpellsPdu PduFault 4100 pdu_format rest waits.octets (by (pdu_front rest) refl waits.partial)),
       subst (λ (ms : List LabelMessage). IsMapped ms fec label) p.says is,
     )
   where

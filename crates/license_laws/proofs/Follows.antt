@@ -24,7 +24,8 @@ use Rattle.scenario_defs.specs.declared.scenario.Scenario.{Scenario}
 use Rattle.mvpn_model.specs.Messages.{message_of}
 use Rattle.mvpn_model.specs.Packet.{packet}
 use Rattle.mvpn_model.specs.declared.message.Given.{Given}
-use Rattle.mvpn_model.specs.Sessions.{sessions, is_between}
+use Rattle.mvpn_model.specs.Sessions.{sessions}
+use Rattle.label_defs.specs.Between.{is_between}
 use Rattle.mvpn_model.specs.declared.session.Session.{Session}
 use Rattle.scenario_defs.specs.Kinds.{same_kind}
 use Rattle.session_defs.specs.Refined.{seen}

@@ -16,9 +16,10 @@ use Rattle.world_laws.specs.SoundRun.{SoundRun}
 use Rattle.world_laws.proofs.Lists.{each_map}
 use Rattle.rule_laws.specs.SoundHalt.{SoundHalt}
 use Rattle.rule_laws.proofs.Halting.{each_behind, run_before, event_sound, acts_quiet}
-use Rattle.rule_laws.proofs.Plain.{IsPlainLine, IsOfPlain, IsQuiet, of_plain}
+use Rattle.rule_laws.proofs.Plain.{IsOfPlain, IsQuiet}
 use Rattle.rule_laws.proofs.Start.{start_in_step, run_in_step}
 use Rattle.license_laws.proofs.Follows.{Leaves, halt_leaves}
+use Rattle.license_laws.proofs.Hops.{none_goes, plain_lines}
 use Rattle.license_laws.proofs.Taking.{Taking, taking_kept, first_taking, run_takes}
 use Rattle.license_laws.proofs.Whole.{run_is_local}
 
@@ -32,11 +33,6 @@ takes_left scenario = record {
 }
 
 -- ---- acts that let nothing go on
-
-none_goes_on : (all : List ReportLine) → AllByRecursion IsPlainLine all → list_any goes_on all ≡ false
-none_goes_on [] p = refl
-none_goes_on (line ∷ more) p =
-    ap (λ (t : Bool). t || list_any goes_on more) (of_plain (λ (own : ReportLine). goes_on own ≡ false) (λ kind from to bytes. refl) (λ kind from to bytes. refl) (λ bytes copies buffers due unready. refl) line p.0) ∙ none_goes_on more p.1
 
 quiet_licensed : (scenario : Scenario) (datagrams : List Datagram) (before : List Traced) (one : Option Act) (all : List ReportLine) → IsOfPlain one → list_any goes_on all ≡ false → IsLicensed scenario datagrams before one all
 quiet_licensed scenario datagrams before None all p s = absurd p
@@ -78,7 +74,7 @@ halt_is_local cores script report node s = record {
       (run_takes script.scenario cores s.halt.before s.halt.trace s.halt.world s.scenario run.sound_events s.halt.run (start_in_step script.scenario cores s.scenario)) s.halt.acts node s.halt.lacks;
   licensed = λ front after step e. elim (of_either IsStill s.halt.trace (traced number s.halt.acts) front after step e still) [
     | inl (rest, same) ↦ before.licensed front rest step same
-    | inr quiet ↦ quiet_licensed (scenario_of s.halt.world) s.halt.world.datagrams front step.happened.act step.happened.lines quiet.plain (none_goes_on step.happened.lines quiet.lines)
+    | inr quiet ↦ quiet_licensed (scenario_of s.halt.world) s.halt.world.datagrams front step.happened.act step.happened.lines quiet.plain (none_goes step.happened.lines (plain_lines step.happened.lines quiet.lines))
   ];
 }
   where

@@ -1,8 +1,8 @@
 -- Each `hop` line of a run puts its copy on a branch that stands.
 use Rattle.std.specs.Prelude.{Result, Ok, Err, take}
-use Rattle.std.proofs.Common.{◌≡◌, ◌-◌, nat_le, ℕ, Bool, true, false, cond, map, length, slice_get, List, [], ◌∷◌, ◌++◌, Option, Some, None, refl, sym, subst}
+use Rattle.std.proofs.Common.{◌≡◌, ◌-◌, ◌||◌, nat_le, ℕ, Bool, true, false, cond, map, length, slice_get, List, [], ◌∷◌, ◌++◌, Option, Some, None, refl, sym, subst}
 use Rattle.std.specs.FinSet as sets
-use Rattle.std.specs.List.{AllByRecursion, filter}
+use Rattle.std.specs.List.{AllByRecursion, filter, list_any}
 use Rattle.std.proofs.lemmas.List.{append_assoc}
 use Rattle.mv_base.specs.declared.ids.IfaceId.{IfaceId}
 use Rattle.mv_base.specs.declared.ids.NodeId.{NodeId}
@@ -37,6 +37,7 @@ use Rattle.world_defs.specs.System.{Own, Elapse, Reset, Price, Follow, system}
 use Rattle.world_defs.specs.World.{World, Datagram, LinkCopy, scenario_of, clock_of}
 use Rattle.world_laws.proofs.Lists.{each_append, each_flat, each_of, each_map, each_weaker, each_filtered}
 use Rattle.rule_laws.proofs.Outs.{Says, said_of}
+use Rattle.rule_laws.proofs.Plain.{IsPlain, IsPlainLine, of_plain, act_plain}
 use Rattle.license_laws.specs.Hops.{HopMay, HopsMay}
 use Rattle.license_laws.proofs.Also.{KeepsAlso, each_next, refused_step}
 use Rattle.license_laws.proofs.Branched.{Branched, may_hop}
@@ -48,43 +49,20 @@ use Rattle.license_laws.proofs.Taking.{Taking}
 abbrev pub Stays : ReportLine → Type 0
 Stays line = goes_on line ≡ false
 
-put_stays : (puts : List Put) (over : Direction) → AllByRecursion Stays (put_line puts over)
-put_stays puts over = by (octets_over over puts)
-  where
-    by : (all : List ℕ) → AllByRecursion Stays (elim all [ [] ↦ [] | octet ∷ more ↦ lines.Put over.kind over.from over.to (octet ∷ more) ∷ [] ])
-    by [] = tt
-    by (octet ∷ more) = (refl, tt)
+pub none_goes : (all : List ReportLine) → AllByRecursion Stays all → list_any goes_on all ≡ false
+none_goes [] h = refl
+none_goes (line ∷ more) h = (λ i. h.0 i || none_goes more h.1 i)
 
-network_stays : (world : World) (before : List ReportLine) (found : Option (Behind (OctetNetwork Nodes))) (node : NodeId) → AllByRecursion Stays before → Says Stays (with_network world before found node)
-network_stays world before None node b = tt
-network_stays world before (Some new) node b = each_append Stays before (put_lines (scenario_of world) new.puts) b (each_flat Stays (put_line new.puts) (directions (scenario_of world)) (each_of (λ over. AllByRecursion Stays (put_line new.puts over)) (put_stays new.puts) (directions (scenario_of world))))
-
-aged_stays : (found : Result Acted NodeId) → Says Stays found → Says Stays (with_aged found)
-aged_stays (Err node) s = tt
-aged_stays (Ok new) s = s
-
--- no copy lands, and no datagram enters
-abbrev pub IsPlain : Act → Type 0
-IsPlain (Enter vrf) = ⊥
-IsPlain (Land from to place) = ⊥
-IsPlain other = Unit {0}
+-- the lines of an act by which no copy lands and no datagram enters
+pub plain_lines : (all : List ReportLine) → AllByRecursion IsPlainLine all → AllByRecursion Stays all
+plain_lines all = each_weaker IsPlainLine Stays (of_plain Stays (λ kind from to bytes. refl) (λ kind from to bytes. refl) (λ bytes copies buffers due unready. refl)) all
 
 pub plain_stays : (one : Act) → IsPlain one → (world : World) → Says Stays (act world one)
-plain_stays (Tick ticks) plain world = aged_stays (at_node world (record { 0 = 0 }) [] (octets.Call (Elapse ticks) ∷ [])) (network_stays world [] (octet_run system world.network (octets.Call (Elapse ticks) ∷ [])) (record { 0 = 0 }) tt)
-plain_stays (Timers n) plain world = network_stays world [] (octet_run system world.network (octets.Call (Own n steps.Timers) ∷ [])) n tt
-plain_stays (Move kind from to count) plain world = network_stays world (lines.Take kind from to (take count (world.network.transit (direction kind from to))) ∷ []) (octet_run system world.network (octets.Move (direction kind from to) count ∷ [])) to (refl, tt)
-plain_stays (Lose kind a b) plain world = network_stays world [] (octet_run system world.network (octets.Lose (is_of_session kind a b) ∷ [])) a tt
-plain_stays (Notice kind a b) plain world = network_stays world [] (octet_run system world.network (octets.Forget (is_from_peer kind a b) ∷ octets.Call (Own a (steps.Noticed kind b)) ∷ [])) a tt
-plain_stays (RaiseFirst kind a b) plain world = network_stays world [] (octet_run system world.network (octets.Join (is_of_session kind a b) ∷ octets.Call (Own a (steps.Raised kind b)) ∷ [])) a tt
-plain_stays (RaiseSecond kind a b) plain world = network_stays world [] (octet_run system world.network (octets.Call (Own b (steps.Raised kind a)) ∷ [])) b tt
-plain_stays (Restart n) plain world = network_stays world [] (octet_run system world.network (octets.Lose (is_at n) ∷ octets.Forget (leads_to n) ∷ octets.Call (Reset n) ∷ [])) n tt
-plain_stays (At n call) plain world = network_stays world [] (octet_run system world.network (octets.Call (Own n call) ∷ [])) n tt
-plain_stays (Enter vrf) plain world = absurd plain
-plain_stays (Land from to place) plain world = absurd plain
-plain_stays (Drop from to place) plain world = tt
-plain_stays Tell plain world = (refl, tt)
-plain_stays (SetCost a b cost) plain world = network_stays world [] (octet_run system world.network (octets.Call (Price a b cost) ∷ [])) a tt
-plain_stays (Reroute n) plain world = network_stays world [] (octet_run system world.network (octets.Call (Follow n) ∷ [])) n tt
+plain_stays one plain world = by (act world one) (act_plain one plain world)
+  where
+    by : (o : Result Acted NodeId) → Says IsPlainLine o → Says Stays o
+    by (Err node) s = tt
+    by (Ok new) s = plain_lines new.lines s
 
 -- ---- branches
 

@@ -67,7 +67,8 @@ use Rattle.license_laws.proofs.Said.{Said}
 use Rattle.license_laws.proofs.Also.{KeepsAlso, each_next, refused_step}
 use Rattle.license_laws.proofs.Branched.{Branched, may_hop, has_label}
 use Rattle.license_laws.proofs.Follows.{stepped}
-use Rattle.license_laws.proofs.Hops.{Stays, IsPlain, plain_stays, IsBranchOf, tree_branches}
+use Rattle.license_laws.proofs.Hops.{Stays, none_goes, plain_stays, IsBranchOf, tree_branches}
+use Rattle.rule_laws.proofs.Plain.{IsPlain}
 use Rattle.license_laws.proofs.Tabled.{Tabling, taken_route}
 use Rattle.license_laws.proofs.Taking.{Taking}
 
@@ -276,10 +277,6 @@ module _ (trace : List Traced) (world : World) (branched : Branched trace world)
       by (Some copy) = found copy (datagram_at (without_copy world a b place) copy.number)
 
 -- ---- runs
-
-none_goes : (all : List ReportLine) → AllByRecursion Stays all → list_any goes_on all ≡ false
-none_goes [] h = refl
-none_goes (line ∷ more) h = (λ i. h.0 i || none_goes more h.1 i)
 
 -- a copy lands at another node than it comes from
 abbrev pub IsLandFit : Act → Type 0

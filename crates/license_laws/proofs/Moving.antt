@@ -1,4 +1,5 @@
 -- Each act of the whole network keeps it that what was taken over a direction is a first part of what was put there.
+use Rattle.std.proofs.Math.Bool.{and_comm}
 use Rattle.std.specs.Prelude.{Result, Ok, Err, take}
 use Rattle.std.proofs.Common.{◌≡◌, ◌==◌, ◌&&◌, ◌||◌, ◌-◌, ℕ, Bool, false, cond, map, slice_get, length, List, [], ◌∷◌, ◌++◌, Option, Some, None, refl, sym, ap, subst, ◌∙◌}
 use Rattle.std.specs.List.{AllByRecursion}
@@ -20,7 +21,7 @@ use Rattle.edge_defs.specs.Datagrams.{Fate, entering_fate}
 use Rattle.edge_defs.specs.Place.{OwnVrf}
 use Rattle.edge_defs.specs.Steps as steps
 use Rattle.world_defs.specs.Acts.{Act, Tick, Timers, Move, Lose, Notice, RaiseFirst, RaiseSecond, Restart, At, Enter, Land, Drop, Tell, SetCost, Reroute, Acted, at_node, with_aged, aged, is_of_session, is_from_peer, is_at, leads_to, hop_line, fated, datagram_at, enters_at, entering, fate_at, with_ttl, landed, without_copy, landing, act}
-use Rattle.mvpn_model.specs.Sessions.{is_between}
+use Rattle.label_defs.specs.Between.{is_between}
 use Rattle.world_defs.specs.Counts.{direction}
 use Rattle.world_defs.specs.Local.{put_by, taken_by}
 use Rattle.world_defs.specs.Nodes.{NodeState, Edge, CoreNode, place_of}
@@ -35,7 +36,6 @@ use Rattle.license_laws.proofs.Flows.{IsIdle, FlowsBehind, IsQuiet, taken_by_mov
 use Rattle.license_laws.proofs.Follows.{stepped}
 use Rattle.license_laws.proofs.Since.{hit}
 use Rattle.license_laws.proofs.Takes.{puts_of, takes_of, Moves, network_moves, moves_again, rests}
-use Rattle.mvpn_model.proofs.ListLemmas.{and_swap}
 
 -- ---- tests, the other way round
 
@@ -45,14 +45,14 @@ kind_swap kinds.Bgp kinds.Ldp = refl
 kind_swap kinds.Ldp kinds.Bgp = refl
 kind_swap kinds.Ldp kinds.Ldp = refl
 
-between_swap : (a b u n : NodeId) → is_between a b u n ≡ is_between u n a b
-between_swap a b u n =
+between_turned : (a b u n : NodeId) → is_between a b u n ≡ is_between u n a b
+between_turned a b u n =
     (λ i. ((eq_turned u.0 a.0 i) && (eq_turned n.0 b.0 i)) || ((eq_turned u.0 b.0 i) && (eq_turned n.0 a.0 i)))
-    ∙ (λ i. ((a.0 == u.0) && (b.0 == n.0)) || and_swap (b.0 == u.0) (a.0 == n.0) i)
+    ∙ (λ i. ((a.0 == u.0) && (b.0 == n.0)) || and_comm (b.0 == u.0) (a.0 == n.0) i)
 
 -- the act raises the session of the direction
 pub raise_is : (kind : Kind) (from to : NodeId) (own : Kind) (u n : NodeId) → (same_kind kind own && is_between from to u n) ≡ is_of_session own u n (direction kind from to)
-raise_is kind from to own u n = λ i. kind_swap kind own i && between_swap from to u n i
+raise_is kind from to own u n = λ i. kind_swap kind own i && between_turned from to u n i
 
 pub way_swap : (kind : Kind) (from to : NodeId) (own : Kind) (u n : NodeId) → (same_kind kind own && (u.0 == from.0) && (n.0 == to.0)) ≡ same_direction (direction kind from to) (direction own u n)
 way_swap kind from to own u n = λ i. same_kind kind own && eq_turned u.0 from.0 i && eq_turned n.0 to.0 i

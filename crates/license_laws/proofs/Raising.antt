@@ -15,7 +15,7 @@ use Rattle.session_defs.specs.Octets.{Stream, OctetNetwork, octet_run}
 use Rattle.session_defs.specs.System.{Behind, with_earlier}
 use Rattle.edge_defs.specs.Steps as steps
 use Rattle.world_defs.specs.Acts.{RaiseFirst, RaiseSecond, Acted, is_of_session, act}
-use Rattle.mvpn_model.specs.Sessions.{is_between}
+use Rattle.label_defs.specs.Between.{is_between}
 use Rattle.world_defs.specs.Counts.{direction, directions, is_up as is_end}
 use Rattle.world_defs.specs.Local.{is_up_in, taken_since}
 use Rattle.world_defs.specs.Nodes.{NodeState, Nodes}

@@ -24,7 +24,8 @@ use Rattle.session_defs.specs.System.{Put, Behind, octets_over}
 use Rattle.session_defs.proofs.Lines.{are_spelled, are_both, sent_over}
 use Rattle.edge_defs.specs.Steps as steps
 use Rattle.world_defs.specs.Acts.{Act, Tick, Timers, Move, Lose, Notice, RaiseFirst, RaiseSecond, Restart, At, Enter, Land, Drop, Tell, SetCost, Reroute, Acted, with_network, at_node, put_lines, with_aged, aged, is_of_session, is_from_peer, is_at, leads_to, act}
-use Rattle.mvpn_model.specs.Sessions.{is_between}
+use Rattle.label_defs.specs.Between.{is_between}
+use Rattle.label_defs.proofs.BetweenLemmas.{between_swap}
 use Rattle.world_defs.specs.Counts.{direction, directions, is_up as is_end}
 use Rattle.world_defs.specs.Local.{put_by, is_up_after, is_up_in, put_since}
 use Rattle.world_defs.specs.Nodes.{part_of, Nodes}
@@ -236,21 +237,8 @@ module _ (scenario : Scenario) (from to : NodeId) where
           let old = k was in
           ends (labels_in (messages_of old.units)) old.says (λ same. said_more trace world first.world (stepped number (RaiseFirst session.kind session.a session.b) first) (raise_is kinds.Ldp from to session.kind session.a session.b ∙ other) same a old)
         where
-          or_swap : (p q : Bool) → (p || q) ≡ (q || p)
-          or_swap true true = refl
-          or_swap true false = refl
-          or_swap false true = refl
-          or_swap false false = refl
-
-          and_swap : (p q : Bool) → (p && q) ≡ (q && p)
-          and_swap true true = refl
-          and_swap true false = refl
-          and_swap false true = refl
-          and_swap false false = refl
-
           turned_off : is_of_session session.kind session.a session.b (direction kinds.Ldp from to) ≡ false → is_of_session session.kind session.a session.b (direction kinds.Ldp to from) ≡ false
-          turned_off e = ap (λ (b : Bool). same_kind session.kind kinds.Ldp && b)
-              (or_swap ((to.0 == session.a.0) && (from.0 == session.b.0)) ((to.0 == session.b.0) && (from.0 == session.a.0)) ∙ (λ i. and_swap (to.0 == session.b.0) (from.0 == session.a.0) i || and_swap (to.0 == session.a.0) (from.0 == session.b.0) i)) ∙ e
+          turned_off e = ap (λ (b : Bool). same_kind session.kind kinds.Ldp && b) (between_swap session.a session.b to from) ∙ e
 
 abbrev pub Said : Scenario → List Traced → World → Type 0
 Said scenario trace world = (from to : NodeId) → SaidAt scenario from to trace world

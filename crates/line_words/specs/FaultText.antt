@@ -31,10 +31,12 @@ reason_word reasons.Mixed = codes "mixed"
 reason_word reasons.Taken = codes "taken"
 reason_word reasons.Same = codes "self"
 reason_word reasons.Link = codes "link"
+reason_word reasons.Family = codes "family"
 reason_word reasons.Apart = codes "apart"
 reason_word reasons.Events = codes "events"
 reason_word reasons.Long = codes "long"
 
 -- the line that tells a fault
 abbrev pub fault_text : TextFault → List ℕ
-fault_text fault = codes "fault " ++ decimal fault.line ++ codes ":" ++ decimal fault.column ++ codes " " ++ reason_word fault.reason ++ codes "\n"
+fault_text fault =
+    codes "fault " ++ decimal fault.line ++ codes ":" ++ decimal fault.column ++ codes " " ++ reason_word fault.reason ++ codes "\n"

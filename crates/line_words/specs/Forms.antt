@@ -1,5 +1,6 @@
 -- The forms of the words: what a word writes, or the fault at it.
-use Rattle.std.specs.Prelude.{ℕ, ◌-◌, ◌%◌, ◌^◌, ◌==◌, ◌&&◌, Bool, true, false, not, nat_eq, nat_le, List, [], ◌∷◌, ◌++◌, length, slice_index, Option, None, Some, option_map, Result, Ok, Err, if◌then◌else◌, codes}
+use Rattle.std.specs.Prelude.{ℕ, ◌-◌, ◌%◌, ◌^◌, ◌==◌, ◌&&◌, Bool, true, false, not, nat_eq, nat_le, List, [], ◌∷◌, ◌++◌, length}
+use Rattle.std.specs.Prelude.{slice_index, Option, None, Some, option_map, Result, Ok, Err, if◌then◌else◌, codes}
 use Rattle.std.specs.Option.{option_or}
 use Rattle.std.specs.List.{list_any, slice_split}
 use Rattle.std.specs.Int.{w16, w32, to_be_bytes, from_be_bytes}
@@ -48,7 +49,9 @@ is_unicast (V6 octets) = false
 
 -- whether the address is of IPv4, has a first octet of 224 to 239 and is outside 224.0.0.0/24
 abbrev pub is_group : Addr → Bool
-is_group (V4 octets) = nat_le 224 (slice_index octets 0) && nat_le (slice_index octets 0) 239 && not (slice_index octets 0 == 224 && slice_index octets 1 == 0 && slice_index octets 2 == 0)
+is_group (V4 octets) =
+    nat_le 224 (slice_index octets 0) && nat_le (slice_index octets 0) 239 &&
+    not (slice_index octets 0 == 224 && slice_index octets 1 == 0 && slice_index octets 2 == 0)
 is_group (V6 octets) = false
 
 -- a word that writes an address
@@ -70,12 +73,14 @@ vrf_number_of text = number_of text >>? λ number. only_if (nat_le 1 number && n
 -- all eight octets that a text `N:M` writes: the two of the kind, then N, below 2^16, in two and M, below 2^32, in four
 unfoldable pub numbered_of : ℕ → ℕ → List ℕ → Option (List ℕ)
 numbered_of kind sub_kind text =
-    cut_of 58 text >>? λ cut. number_of cut.0 >>? λ n. number_of cut.1 >>? λ m. only_if (nat_le n 65535 && nat_le m 4294967295) (kind ∷ sub_kind ∷ (to_be_bytes w16 n ++ to_be_bytes w32 m))
+    cut_of 58 text >>? λ cut. number_of cut.0 >>? λ n. number_of cut.1 >>? λ m.
+    only_if (nat_le n 65535 && nat_le m 4294967295) (kind ∷ sub_kind ∷ (to_be_bytes w16 n ++ to_be_bytes w32 m))
 
 -- all eight octets that a text `ADDR:M` writes: the two of the kind, then the four of ADDR, and M, below 2^16, in two
 unfoldable pub addressed_of : ℕ → ℕ → List ℕ → Option (List ℕ)
 addressed_of kind sub_kind text =
-    cut_of 58 text >>? λ cut. dotted_of cut.0 >>? λ addr. number_of cut.1 >>? λ m. only_if (nat_le m 65535) (kind ∷ sub_kind ∷ (addr ++ to_be_bytes w16 m))
+    cut_of 58 text >>? λ cut. dotted_of cut.0 >>? λ addr. number_of cut.1 >>? λ m.
+    only_if (nat_le m 65535) (kind ∷ sub_kind ∷ (addr ++ to_be_bytes w16 m))
 
 -- the route distinguisher that a text writes, all eight octets, of which the first two are the type: `N:M` one of type 0,
 -- `ADDR:M` one of type 1 (RFC 4364 section 4.2)
@@ -99,7 +104,8 @@ are_distinct same (first ∷ rest) = not (list_any (same first) rest) && are_dis
 
 -- the list that a text writes with commas: 1 to 8, no two of them the same
 unfoldable pub list_of : {A : Type 0} → (A → A → Bool) → (List ℕ → Option A) → List ℕ → Option (List A)
-list_of same read text = each_of read (slice_split (λ b. b == 44) text) >>? λ found. only_if (nat_le (length found) 8 && are_distinct same found) found
+list_of same read text =
+    each_of read (slice_split (λ b. b == 44) text) >>? λ found. only_if (nat_le (length found) 8 && are_distinct same found) found
 
 -- a word that writes Route Targets
 unfoldable pub targets_at : Row → Placed → Result (List Target) TextFault

@@ -16,7 +16,8 @@ placed_word w = record { column = w.column; text = w.text.now }
 abbrev pub placed : ℕ → List (List ℕ) → List Placed
 placed column [] = []
 placed column (part ∷ parts) =
-    if length part == 0 then placed (column + (length part + 1)) parts else record { column = column; text = part } ∷ placed (column + (length part + 1)) parts
+    if length part == 0 then placed (column + (length part + 1)) parts else
+    record { column = column; text = part } ∷ placed (column + (length part + 1)) parts
 
 -- the words of a line
 unfoldable pub words_of : List ℕ → List Placed

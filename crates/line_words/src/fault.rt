@@ -33,6 +33,7 @@ pub enum Reason {
     /// A thing is named twice where two are needed. Its word is `self`.
     Same,
     Link,
+    Family,
     Apart,
     Events,
     Long,
@@ -70,6 +71,7 @@ pub fn reason_word(reason: Reason) -> &'static [u8]
         Reason::Taken => b"taken",
         Reason::Same => b"self",
         Reason::Link => b"link",
+        Reason::Family => b"family",
         Reason::Apart => b"apart",
         Reason::Events => b"events",
         Reason::Long => b"long",

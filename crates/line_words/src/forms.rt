@@ -6,7 +6,8 @@ ghost use Rattle.mv_base.specs.Dotted.{dotted_of};
 ghost use Rattle.line_words.specs.Answers.{Gives};
 ghost use Rattle.line_words.specs.Words.{placed_word};
 ghost use Rattle.scenario_defs.specs.Names.{is_letter, is_name_octet as name_octet, is_name};
-ghost use Rattle.line_words.specs.Forms.{addr_of, is_unicast, is_group, addr_at, source_at, group_at, vrf_number_of, numbered_of, addressed_of, rd_of, target_of, rule_at, prefix_if, prefix_of, payload_at, or_fault};
+ghost use Rattle.line_words.specs.Forms.{addr_of, is_unicast, is_group, addr_at, source_at, group_at, vrf_number_of, numbered_of};
+ghost use Rattle.line_words.specs.Forms.{addressed_of, rd_of, target_of, rule_at, prefix_if, prefix_of, payload_at, or_fault};
 
 use crate::fault::fault_at;
 use crate::{ReadFault, Reason, Row, TextFault, Word};

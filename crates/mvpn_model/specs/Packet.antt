@@ -9,7 +9,8 @@ use Rattle.mv_base.specs.Checksum.{checksum}
 -- checksum, source and group
 abbrev pub header : Addr → Addr → ℕ → ℕ → List ℕ
 header source group total sum =
-    (0x45 ∷ 0 ∷ []) ++ to_be_bytes w16 total ++ (0 ∷ 0 ∷ 0 ∷ 0 ∷ 64 ∷ 17 ∷ []) ++ to_be_bytes w16 sum ++ addr_octets source ++ addr_octets group
+    (0x45 ∷ 0 ∷ []) ++ to_be_bytes w16 total ++ (0 ∷ 0 ∷ 0 ∷ 0 ∷ 64 ∷ 17 ∷ []) ++ to_be_bytes w16 sum ++
+    addr_octets source ++ addr_octets group
 
 -- the header, its checksum taken over the header with a checksum of 0, and the payload
 abbrev pub packet : Addr → Addr → List ℕ → List ℕ

@@ -1,5 +1,6 @@
 -- IPv4 packets as octets (RFC 791 section 3.1): the first fault of octets, and the flow of a packet.
-use Rattle.std.specs.Prelude.{ℕ, ◌*◌, ◌==◌, ◌&&◌, ◌||◌, ◌/◌, ◌%◌, not, nat_lt, List, ◌∷◌, ◌++◌, length, take, drop, slice_index, Option, None, Some, if◌then◌else◌}
+use Rattle.std.specs.Prelude.{ℕ, ◌*◌, ◌==◌, ◌&&◌, ◌||◌, ◌/◌, ◌%◌, not, nat_lt, List, ◌∷◌, ◌++◌, length, take, drop, slice_index}
+use Rattle.std.specs.Prelude.{Option, None, Some, if◌then◌else◌}
 use Rattle.std.specs.Int.{w16, from_be_bytes}
 use Rattle.mv_base.specs.Checksum.{checksum}
 use Rattle.mv_base.specs.declared.addr.Addr.{Addr}

@@ -1,5 +1,5 @@
 -- The sessions of a network, in their order.
-use Rattle.std.specs.Prelude.{ℕ, ◌+◌, ◌==◌, ◌&&◌, ◌||◌, Bool, List, [], ◌∷◌, ◌++◌, map, if◌then◌else◌}
+use Rattle.std.specs.Prelude.{ℕ, ◌+◌, List, [], ◌∷◌, ◌++◌, map, if◌then◌else◌}
 use Rattle.mv_base.specs.declared.ids.NodeId.{NodeId}
 use Rattle.mv_base.specs.declared.core_link.Link.{Link}
 use Rattle.scenario_defs.specs.declared.event.Kind.TheVariants as kinds
@@ -32,7 +32,3 @@ ldp_session link = record { kind = kinds.Ldp; a = link.a; b = link.b }
 -- the sessions of a scenario: first those over BGP, then one over LDP for each link
 abbrev pub sessions : Scenario → List Session
 sessions scenario = bgp_sessions (edges scenario) ++ map ldp_session scenario.links
-
--- whether both are these two nodes, either way round
-abbrev pub is_between : NodeId → NodeId → NodeId → NodeId → Bool
-is_between a b u n = ((u.0 == a.0) && (n.0 == b.0)) || ((u.0 == b.0) && (n.0 == a.0))

@@ -1,5 +1,6 @@
 -- The state of the network, and what each event does to it.
-use Rattle.std.specs.Prelude.{ℕ, ◌+◌, ◌==◌, ◌&&◌, not, Bool, false, List, [], ◌∷◌, length, map, slice_index_or, slice_set, sum_by, Option, None, Some, Ok, Err, if◌then◌else◌}
+use Rattle.std.specs.Prelude.{ℕ, ◌+◌, ◌==◌, ◌&&◌, not, Bool, false, List, [], ◌∷◌, length, map, slice_index_or, slice_set, sum_by}
+use Rattle.std.specs.Prelude.{Option, None, Some, Ok, Err, if◌then◌else◌}
 use Rattle.std.specs.Option.{option_or}
 use Rattle.std.specs.FinMap.{empty}
 use Rattle.mv_base.specs.declared.ids.NodeId.{NodeId}
@@ -42,7 +43,8 @@ pub record Network : Type 0 where
 
 -- nothing has happened yet
 abbrev pub start : Scenario → Network
-start scenario = record { scenario = scenario; clock = 0; accepted = 0; entries = map (λ node. empty) scenario.nodes; sessions = sessions scenario }
+start scenario =
+    record { scenario = scenario; clock = 0; accepted = 0; entries = map (λ node. empty) scenario.nodes; sessions = sessions scenario }
 
 -- ---- the entries of a node
 
@@ -114,7 +116,10 @@ is_chosen scenario vrf source site = elim (local_choice scenario vrf source) [ N
 -- the interfaces at which the datagram leaves, in order: none where the VRF's upstream choice is not the site
 abbrev pub leaves : Network → SiteId → Addr → Addr → VrfId → List IfaceId
 leaves network site source group vrf =
-    if is_chosen network.scenario vrf source site then ifaces_where (leaves_at network vrf site source group) 0 network.scenario.ifaces else []
+    if is_chosen network.scenario vrf source site then
+        ifaces_where (leaves_at network vrf site source group) 0 network.scenario.ifaces
+    else
+        []
 
 -- the lines of a datagram's entering at a VRF
 abbrev pub entering : Network → SiteId → Addr → Addr → List ℕ → VrfId → List ReportLine
@@ -137,14 +142,16 @@ state_line network = lines.State 0 0 0 (due_timers network) (unready network.ses
 
 -- the lines of each act of an event that is not refused
 abbrev pub accepted_acts : Network → Event → List (List ReportLine)
-accepted_acts network (events.Send site source group payload) = map (entering network site source group payload) (entered network.scenario site)
+accepted_acts network (events.Send site source group payload) =
+    map (entering network site source group payload) (entered network.scenario site)
 accepted_acts network events.State = (state_line network ∷ []) ∷ []
 accepted_acts network events.Drain = []
 accepted_acts network other = [] ∷ []
 
 -- the lines of each act of an event; one that is refused has the one line that says so
 abbrev pub acts_of : Network → ℕ → Event → List (List ReportLine)
-acts_of network line event = elim (refusal network event) [ None ↦ accepted_acts network event | Some reason ↦ (lines.Refused line reason ∷ []) ∷ [] ]
+acts_of network line event =
+    elim (refusal network event) [ None ↦ accepted_acts network event | Some reason ↦ (lines.Refused line reason ∷ []) ∷ [] ]
 
 -- the state behind a message
 abbrev pub with_message : Network → Option Given → Network

@@ -14,7 +14,8 @@ entries_of number acts = map (λ act. record { event = number; lines = act }) ac
 abbrev pub Runs : Network → ℕ → List Timed → List Entry → Network → Type 0
 Runs old number [] report new = (report ≡ []) × (new ≡ old)
 Runs old number (timed ∷ more) report new =
-    (rest : List Entry) × (report ≡ entries_of number (acts_of old timed.line timed.event) ++ rest) × Runs (after old timed.event) (number + 1) more rest new
+    (rest : List Entry) × (report ≡ entries_of number (acts_of old timed.line timed.event) ++ rest) ×
+    Runs (after old timed.event) (number + 1) more rest new
 
 -- The events of a script, from the state in which nothing has happened.
 abbrev pub Run : Script → List Timed → List Entry → Network → Type 0

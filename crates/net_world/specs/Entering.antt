@@ -22,7 +22,8 @@ choosing table source site vrfs = filter (λ vrf. is_choice (slice_index_or tabl
 
 -- whether the interface of that number is of the VRF and belongs to another site
 abbrev pub is_outside : List Iface → VrfId → SiteId → IfaceId → Bool
-is_outside ifaces vrf site number = elim (slice_get ifaces number.0) [ None ↦ false | Some iface ↦ is_of_vrf vrf iface && not (is_of_site site iface) ]
+is_outside ifaces vrf site number =
+    elim (slice_get ifaces number.0) [ None ↦ false | Some iface ↦ is_of_vrf vrf iface && not (is_of_site site iface) ]
 
 -- a line for each of the interfaces that are of the VRF and belong to another site
 abbrev pub outs : List Iface → SiteId → ℕ → List ℕ → List IfaceId → VrfId → List ReportLine

@@ -41,7 +41,8 @@ AreKept ifaces (Some found) = found ≡ ifaces
 
 -- For each flow that the table has, it tells the interfaces that ask for it.
 abbrev pub Keeps : FlowTable → Network → Type 0
-Keeps flows network = (source group : Addr) → AreKept (asking network source group) (get same_flow flows (record { source = source; group = group }))
+Keeps flows network =
+    (source group : Addr) → AreKept (asking network source group) (get same_flow flows (record { source = source; group = group }))
 
 -- ---- flows that a message names
 

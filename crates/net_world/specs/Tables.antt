@@ -24,4 +24,5 @@ has_vrf vrfs vrf = list_any (λ other. other.0 == vrf.0) vrfs
 abbrev pub among_from : List VrfId → ℕ → List Vrf → List VrfId
 among_from own number [] = []
 among_from own number (vrf ∷ more) =
-    if has_vrf own (record { 0 = number }) then record { 0 = number } ∷ among_from own (number + 1) more else among_from own (number + 1) more
+    if has_vrf own (record { 0 = number }) then record { 0 = number } ∷ among_from own (number + 1) more else
+    among_from own (number + 1) more

@@ -62,7 +62,8 @@ abbrev pub message_lines : Network → ℕ → Given → List ReportLine
 message_lines network line given = elim (message_refusal network (Some given)) [ None ↦ [] | Some reason ↦ lines.Refused line reason ∷ [] ]
 
 abbrev pub after_message : Network → Given → Network
-after_message network given = elim (message_refusal network (Some given)) [ None ↦ with_message network (Some given) | Some reason ↦ network ]
+after_message network given =
+    elim (message_refusal network (Some given)) [ None ↦ with_message network (Some given) | Some reason ↦ network ]
 
 -- The world took or refused the message.
 pub record Meets (old : WorldState) (line : ℕ) (given : Given) (new : WorldState) (before behind : List ReportLine) : Type 0 where

@@ -1,5 +1,6 @@
 //! The joined state of each node.
-ghost use Rattle.std.specs.Prelude.{◌≡◌, ◌<◌, ◌≤◌, ◌^◌, true, false, All, length, map, slice_index_or, slice_set, sum_by, Err, IfOk, OnOk, OnErr};
+ghost use Rattle.std.specs.Prelude.{◌≡◌, ◌<◌, ◌≤◌, ◌^◌, true, false, All, length, map, slice_index_or, slice_set, sum_by, Err};
+ghost use Rattle.std.specs.Prelude.{IfOk, OnOk, OnErr};
 ghost use Rattle.std.specs.FinMap.{empty};
 ghost use Rattle.pim_defs.specs.Entries.{applied, are_too_many, asks, due, kept_at};
 

@@ -74,7 +74,8 @@ session_of put = record { kind = put.over.kind; peer = put.over.to }
 -- each unit that is put waits behind what waits for its session
 abbrev pub with_puts : List Put → FinMap peer_cmp (List ℕ) → FinMap peer_cmp (List ℕ)
 with_puts [] waiting = waiting
-with_puts (put ∷ more) waiting = with_puts more (maps.insert waiting (session_of put) (waiting_at waiting (session_of put) ++ put.unit.octets))
+with_puts (put ∷ more) waiting =
+    with_puts more (maps.insert waiting (session_of put) (waiting_at waiting (session_of put) ++ put.unit.octets))
 
 -- what a step of an edge puts: to its BGP peers, and then what the row of its label steps puts
 abbrev pub edge_puts : EdgePlace → ℕ → EdgeData → EdgeStepped → List Put

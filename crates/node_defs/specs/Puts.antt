@@ -26,7 +26,10 @@ use Rattle.mvpn_model.specs.Sessions.{edges}
 
 -- each change of a table goes in an UPDATE message of its own
 abbrev pub update_unit : Change Key Value → Spelled SessionMessage
-update_unit change = record { messages = Bgp (bgp_messages.Update (update_of (as_update change))) ∷ []; octets = written (as_update change) }
+update_unit change = record {
+  messages = Bgp (bgp_messages.Update (update_of (as_update change))) ∷ [];
+  octets = written (as_update change);
+}
 
 abbrev pub bgp_put : NodeId → NodeId → Change Key Value → Put
 bgp_put me peer change = record { over = record { kind = kinds.Bgp; from = me; to = peer }; unit = update_unit change }

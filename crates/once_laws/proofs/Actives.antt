@@ -34,7 +34,8 @@ use Rattle.edge_defs.specs.Edge.{Note, note_cmp, TakenRoute, Taken, Control}
 use Rattle.edge_defs.specs.Flows.{noted_flow, active_from, active_flows, same_flow, is_active}
 use Rattle.edge_defs.specs.Imported.{FlowRoute, active_of, imported_active, taken_from, is_admitted}
 use Rattle.edge_defs.specs.Keys.{Value}
-use Rattle.edge_defs.specs.Originated.{is_iface_of, notes_of, afi_of, active_key, plain_value, target_comms, unicast_routes, selective_routes, active_routes}
+use Rattle.bgp_update.specs.Written.{afi_of}
+use Rattle.edge_defs.specs.Originated.{is_iface_of, notes_of, active_key, plain_value, target_comms, unicast_routes, selective_routes, active_routes}
 use Rattle.edge_defs.specs.Place.{EdgePlace, OwnVrf, own_vrfs}
 use Rattle.world_defs.specs.Costs.{Cores}
 use Rattle.edge_defs.proofs.KeyLemmas.{note_total, note_exact, key_total, key_exact}

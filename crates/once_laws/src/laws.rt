@@ -1,12 +1,16 @@
 //! Laws of a network of which `state` tells of zeros alone, of the datagrams that are sent then, and of what leaves in any run.
-ghost use Rattle.std.specs.Prelude.{◌≡◌, ◌<◌, List, length, Some, slice_get};
+ghost use Rattle.std.specs.Prelude.{◌≡◌, ◌↔◌, ◌<◌, List, length, Some, slice_get};
+ghost use Rattle.mv_base.specs.declared.addr.Addr.{Addr};
 ghost use Rattle.mv_base.specs.declared.ids.NodeId.{NodeId};
+ghost use Rattle.mv_base.specs.declared.ids.SiteId.{SiteId};
 ghost use Rattle.mv_base.specs.declared.ids.VrfId.{VrfId};
 ghost use Rattle.mldp_fec.specs.declared.fec.Fec.{Fec};
+ghost use Rattle.scenario_defs.specs.Home.{home};
 ghost use Rattle.scenario_defs.specs.Rules.{Rules, Rises};
 ghost use Rattle.scenario_defs.specs.declared.event.Script.{Script};
 ghost use Rattle.scenario_defs.specs.declared.event.Timed.{Timed};
 ghost use Rattle.scenario_defs.specs.declared.report.ReportLine.TheVariants as lines;
+ghost use Rattle.scenario_defs.specs.declared.scenario.Scenario.{Scenario};
 ghost use Rattle.scenario_defs.specs.declared.scenario.Vrf.{Vrf};
 ghost use Rattle.mvpn_model.specs.Once.{Once};
 ghost use Rattle.mvpn_model.specs.Report.{Entry, refused_lines};
@@ -18,6 +22,7 @@ ghost use Rattle.world_defs.specs.Counts.{state_line};
 ghost use Rattle.world_defs.specs.Nodes.{Edge, place_of};
 ghost use Rattle.world_defs.specs.Run.{Traced, Run, report_of};
 ghost use Rattle.world_defs.specs.World.{World, Datagram, scenario_of};
+ghost use Rattle.world_laws.specs.Sound.{SoundScenario};
 ghost use Rattle.world_laws.specs.SoundRun.{SoundRun};
 ghost use Rattle.rule_laws.specs.SoundHalt.{SoundHalt};
 ghost use Rattle.delivery_laws.specs.Calm.{CalmTree};
@@ -25,6 +30,7 @@ ghost use Rattle.delivery_laws.specs.Choice.{CalmChoice, sends_on};
 ghost use Rattle.delivery_laws.specs.Labels.{CalmLabels};
 ghost use Rattle.delivery_laws.specs.Once.{past_of, receives_datagram};
 ghost use Rattle.once_laws.specs.Chooses.{ChoosesByTheRule};
+ghost use Rattle.once_laws.specs.Homes.{IsSiteOfLongest};
 ghost use Rattle.once_laws.specs.Run.{CalmRun};
 ghost use Rattle.once_laws.specs.Told.{AsksAreTold, NotesAreTold, EntriesAreTold};
 ghost use Rattle.once_laws.specs.Zeros.{Zeros};
@@ -72,6 +78,12 @@ pub fn asks_are_told()
     ensures { (cores : Cores) (script : Script) (events : List Timed) (trace : List Traced) (world : World) →
         Rules script.scenario → Rises 0 events → Run cores script events trace world →
         AsksAreTold (past_of script.scenario events trace) world }
+{}
+
+/// The home of a source is the site of the longest prefix of the source's family that covers it, of all prefixes of the sites of the VPN.
+pub fn homes_are_longest()
+    ensures { (scenario : Scenario) (vrf : VrfId) (source : Addr) (site : SiteId) → SoundScenario scenario →
+        (home scenario vrf source ≡ Some site) ↔ IsSiteOfLongest scenario vrf source site }
 {}
 
 /// Behind a run as that of `labels_are_calm` each receiver of a datagram is served by one of the VRFs at which it enters, each other

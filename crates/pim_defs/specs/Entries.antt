@@ -47,7 +47,8 @@ expiry_at entries iface entry = get entries (record { iface = iface; entry = ent
 -- the expiry of an entry behind a message at the interface that is taken at the clock
 abbrev pub expiry_then : Entries → IfaceId → JoinPrune → ℕ → IfaceEntry → Option Expiry
 expiry_then entries iface message clock at =
-    if at.iface.0 == iface.0 then expiry_after at.entry (mention_of message at.entry) clock message.holdtime (get entries at) else get entries at
+    if at.iface.0 == iface.0 then expiry_after at.entry (mention_of message at.entry) clock message.holdtime (get entries at) else
+    get entries at
 
 -- the entries of the interface that the message names
 abbrev pub named_in : IfaceId → JoinPrune → List IfaceEntry
@@ -56,12 +57,14 @@ named_in iface message = flat_map (λ group. map (λ source. record { iface = if
 -- of these entries each that has an expiry, with it
 abbrev pub with_expiries : (IfaceEntry → Option Expiry) → List IfaceEntry → List (IfaceEntry × Expiry)
 with_expiries expiry [] = []
-with_expiries expiry (at ∷ more) = elim (expiry at) [ None ↦ with_expiries expiry more | Some found ↦ (at, found) ∷ with_expiries expiry more ]
+with_expiries expiry (at ∷ more) =
+    elim (expiry at) [ None ↦ with_expiries expiry more | Some found ↦ (at, found) ∷ with_expiries expiry more ]
 
 -- The entries behind a message at the interface: of those that were there and those that it names, each that has an expiry
 -- then.
 abbrev pub applied : Entries → IfaceId → JoinPrune → ℕ → Entries
-applied entries iface message clock = from_entries (with_expiries (expiry_then entries iface message clock) (keys entries ++ named_in iface message))
+applied entries iface message clock =
+    from_entries (with_expiries (expiry_then entries iface message clock) (keys entries ++ named_in iface message))
 
 -- the most entries of an edge
 abbrev pub entry_limit : ℕ

@@ -44,7 +44,8 @@ prunes message entry = list_any (λ group. lists group.group group.prunes entry)
 
 -- what the message says of the entry
 abbrev pub mention_of : JoinPrune → JoinEntry → Mention
-mention_of message entry = record { joined = joins message entry; pruned = prunes message entry; shared = joins message (Star (group_of entry)) }
+mention_of message entry =
+    record { joined = joins message entry; pruned = prunes message entry; shared = joins message (Star (group_of entry)) }
 
 -- The expiry of an (S,G,rpt) prune behind a message. First, Join(*,G) ends the prunes of its group that the message does
 -- not repeat; second, Join(S,G,rpt) ends its prune; last, Prune(S,G,rpt) extends it.

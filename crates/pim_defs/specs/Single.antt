@@ -19,7 +19,8 @@ one_source neighbour entry = source_of neighbour entry ∷ []
 
 -- a message of one group, with the holdtime of 210
 abbrev pub message_with : Addr → Addr → List JpSource → List JpSource → JoinPrune
-message_with neighbour group joins prunes = record { neighbour = neighbour; holdtime = 210; groups = record { group = group; joins = joins; prunes = prunes } ∷ [] }
+message_with neighbour group joins prunes =
+    record { neighbour = neighbour; holdtime = 210; groups = record { group = group; joins = joins; prunes = prunes } ∷ [] }
 
 -- the messages that join and prune the entry
 abbrev pub join_of : Addr → JoinEntry → JoinPrune

@@ -1,7 +1,8 @@
 //! Writes the lines of a report.
 ghost use Rattle.std.specs.Prelude.{◌≡◌, ◌++◌, ◌<◌, length, OnOk, OnErr, codes};
 ghost use Rattle.std.specs.Fmt.{decimal};
-ghost use Rattle.scenario_defs.specs.Text.{line_text, IsLineOf, refusal_text, fault_word, kind_word, hex_text, iface_name, node_name, ends_text};
+ghost use Rattle.scenario_defs.specs.Text.{line_text, IsLineOf, refusal_text, fault_word, kind_word, hex_text, iface_name};
+ghost use Rattle.scenario_defs.specs.Text.{node_name, ends_text};
 
 use crate::pieces::{fault_word, kind_word, put_ends, put_hex, put_iface, put_node, put_number};
 use mv_base::{Bytes, IfaceId, NoMemory, NodeId};
@@ -114,7 +115,8 @@ fn put_octets(
 ) -> Result<(), NoMemory>
     requires from { from.0 < length scenario.now.nodes }
     requires to { to.0 < length scenario.now.nodes }
-    ensures { OnOk result (out.new ≡ out.old ++ kind_word kind ++ codes " " ++ ends_text scenario.now from to ++ codes " " ++ hex_text bytes.now ++ codes "\n") }
+    ensures { OnOk result (out.new ≡
+        out.old ++ kind_word kind ++ codes " " ++ ends_text scenario.now from to ++ codes " " ++ hex_text bytes.now ++ codes "\n") }
 {
     out.extend(kind_word(kind))?;
     out.extend(b" ")?;

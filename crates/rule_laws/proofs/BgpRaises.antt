@@ -26,7 +26,7 @@ use Rattle.edge_laws.specs.Network.{EdgeNetwork, behind}
 use Rattle.edge_laws.specs.Rule.{Rule}
 use Rattle.rule_laws.proofs.Honest.{EdgeRule, act_both}
 use Rattle.world_defs.specs.Acts.{is_of_session}
-use Rattle.mvpn_model.specs.Sessions.{is_between}
+use Rattle.label_defs.specs.Between.{is_between}
 use Rattle.world_defs.specs.Counts.{direction}
 use Rattle.world_defs.specs.Nodes.{NodeState, Edge, CoreNode, Nodes, is_edge, place_of, part_of}
 use Rattle.world_defs.specs.Refusals.{control_of}

@@ -9,9 +9,8 @@ use Rattle.std.proofs.lemmas.Option.{same_Some}
 use Rattle.mv_base.specs.Octets.{IsOctets}
 use Rattle.mv_base.specs.declared.ids.NodeId.{NodeId}
 use Rattle.mv_base.specs.declared.ids.VrfId.{VrfId}
-use Rattle.framing.specs.Cut.{Front, NoFault}
-use Rattle.framing.specs.Cut.Front.{more, bad}
 use Rattle.framing.specs.Cut.Yields.{sound as AllWhole}
+use Rattle.framing.proofs.Feedings.{no_fault}
 use Rattle.framing.specs.Units.{Spelled, octets_of, messages_of, AreUnits, NoUnit}
 use Rattle.mldp_fec.specs.declared.fec.Fec.{Fec}
 use Rattle.mldp_msgs.specs.FirstFault.{PduFault}
@@ -198,12 +197,6 @@ no_pdu ms text after spells e =
     let none : length {A = ℕ} [] ≡ length (to_be_bytes w16 1 ++ (rest ++ after)) = ap (λ (os : List ℕ). length os) whole in
     absurd (omega (arith, none))
 
--- where more of a PDU has to come, no fault stands
-pub no_pdu_fault : (rest : List ℕ) → IsOctets rest → pdu_front rest ≡ more → NoFault PduFault rest
-no_pdu_fault rest fits waits last offset e faulty =
-    let clash : ◌≡◌ {A = Front LabelMessage LdpFault} more (bad last offset e) = sym waits ∙ pdu_format.faulty rest last offset e fits faulty in
-    absurd cc
-
 withdrawn_to : (world : World) (pending : Direction → List SessionMessage) (u n : NodeId) (fec : Fec) (label : ℕ) → Carried kinds.Ldp (world.network.stream (direction kinds.Ldp n u)) (world.network.transit (direction kinds.Ldp n u)) (pending (direction kinds.Ldp n u))
     → filter (is_of_owner label) (labels_in (pending (direction kinds.Ldp n u))) ≡ messages.Withdraw fec label ∷ [] → IsWithdrawnTo world u n fec label
 withdrawn_to world pending u n fec label c e =
@@ -212,7 +205,7 @@ withdrawn_to world pending u n fec label c e =
     let same : labels_in (pending (direction kinds.Ldp n u)) ≡ all = ap labels_in c.messages ∙ p.messages in
     record {
       all = all;
-      octets = AllWhole [] (record { begins = record { units = p.plain; each = p.each; parts = c.octets ∙ p.octets ∙ sym (append-nil (octets_of p.plain)); carried = refl }; no_unit = no_pdu }) (no_pdu_fault [] (λ i. omega arith) pdu_format.stream.framing.empty);
+      octets = AllWhole [] (record { begins = record { units = p.plain; each = p.each; parts = c.octets ∙ p.octets ∙ sym (append-nil (octets_of p.plain)); carried = refl }; no_unit = no_pdu }) (no_fault pdu_front SpellsPdu PduFault 4100 pdu_format [] (λ i. omega arith) pdu_format.stream.framing.empty);
       among = subst (λ (ms : List LabelMessage). Contains ms (messages.Withdraw fec label)) same (contains_one (is_of_owner label) (labels_in (pending (direction kinds.Ldp n u))) (messages.Withdraw fec label) e);
     }
 

@@ -211,7 +211,7 @@ aged_plain : (found : Result Acted NodeId) → Says IsPlainLine found → Says I
 aged_plain (Err node) s = tt
 aged_plain (Ok new) s = s
 
-act_plain : (one : Act) → IsPlain one → (world : World) → Says IsPlainLine (act world one)
+pub act_plain : (one : Act) → IsPlain one → (world : World) → Says IsPlainLine (act world one)
 act_plain (Tick ticks) plain world = aged_plain (at_node world (record { 0 = 0 }) [] (octets.Call (Elapse ticks) ∷ [])) (network_plain world [] (octet_run system world.network (octets.Call (Elapse ticks) ∷ [])) (record { 0 = 0 }) tt)
 act_plain (Timers n) plain world = network_plain world [] (octet_run system world.network (octets.Call (Own n steps.Timers) ∷ [])) n tt
 act_plain (Move kind from to count) plain world = network_plain world (lines.Take kind from to (take count (world.network.transit (direction kind from to))) ∷ []) (octet_run system world.network (octets.Move (direction kind from to) count ∷ [])) to (tt, tt)

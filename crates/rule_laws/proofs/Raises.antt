@@ -27,7 +27,7 @@ use Rattle.edge_defs.specs.Place.{label_place}
 use Rattle.edge_defs.specs.Steps as steps
 use Rattle.edge_defs.specs.Steps.{LabelStep, part_after}
 use Rattle.world_defs.specs.Acts.{is_of_session}
-use Rattle.mvpn_model.specs.Sessions.{is_between}
+use Rattle.label_defs.specs.Between.{is_between}
 use Rattle.world_defs.specs.Counts.{direction}
 use Rattle.world_defs.specs.Nodes as nodes
 use Rattle.world_defs.specs.Nodes.{CoreNode, Nodes, is_edge, place_of, part_of, core_at}

@@ -8,10 +8,11 @@ use Rattle.mv_base.specs.Octets.{IsOctets}
 use Rattle.mv_base.specs.declared.addr.Addr.{Addr}
 use Rattle.mv_base.specs.declared.addr.Addr.TheVariants.{V4, V6}
 use Rattle.mv_base.specs.declared.ids.NodeId.{NodeId}
+use Rattle.mv_base.specs.declared.pattern.Pattern.{Pattern}
 use Rattle.core_walks.specs.Topology.{IsTopology}
 use Rattle.core_walks.proofs.WalkLemmas.{good}
 use Rattle.mvpn_nlri.specs.Spelling.{IsAnyOr}
-use Rattle.scenario_defs.specs.Rules.{Rules, ScriptRules, IsUnicast, IsGroup, IsEntry, HaveSession, IsEventOf}
+use Rattle.scenario_defs.specs.Rules.{Rules, ScriptRules, IsUnicast, IsGroup, AreOfOneFamily, NamesFlow, IsEntry, IsPattern, HaveSession, IsEventOf}
 use Rattle.scenario_defs.specs.declared.event.Event.{Event}
 use Rattle.scenario_defs.specs.declared.event.Event.TheVariants as events
 use Rattle.scenario_defs.specs.declared.event.JoinEntry.{JoinEntry}
@@ -25,48 +26,58 @@ use Rattle.world_defs.specs.Costs.{Cores, AreCoresOf}
 use Rattle.world_defs.specs.Run.{Traced, Run}
 use Rattle.world_defs.specs.World.{World}
 use Rattle.world_laws.specs.Honest.{IsSoundEvent}
-use Rattle.world_laws.specs.Sound.{IsCustomer, IsGroupAddr, IsFlow, AreAlike, SoundEntry}
+use Rattle.world_laws.specs.Sound.{IsCustomer, IsGroupAddr, IsFlow, AreAlike, SoundEntry, SoundPattern}
 use Rattle.world_laws.specs.SoundRun.{SoundRun}
-use Rattle.edge_defs.specs.Originated.{afi_of}
+use Rattle.bgp_update.specs.Written.{afi_of}
 use Rattle.world_laws.proofs.Lists.{each_front}
 use Rattle.delivery_laws.proofs.Splits.{cut_in_two}
 use Rattle.run_laws.specs.Octets.{entry_octets, word_octets, EventHasOctets, ScriptHasOctets}
 
 -- ---- addresses
 
-host : (addr : Addr) → IsUnicast addr → IsOctets (addr_octets addr) → IsCustomer addr
-host (V4 octets) unicast is = (unicast.0, is)
-host (V6 octets) unicast is = absurd unicast
+customer : (addr : Addr) → IsUnicast addr → IsOctets (addr_octets addr) → IsCustomer addr
+customer (V4 octets) unicast is = (unicast.0, is)
+customer (V6 octets) unicast is = (unicast.0, is)
 
 group_addr : (addr : Addr) → IsGroup addr → IsOctets (addr_octets addr) → IsGroupAddr addr
 group_addr (V4 octets) (four, low, high, apart) is = ((four, is), (low, high))
-group_addr (V6 octets) group is = absurd group
+group_addr (V6 octets) (sixteen, first, scope) is = ((sixteen, is), first)
 
-alike : (source group : Addr) → IsUnicast source → IsGroup group → afi_of source ≡ afi_of group
-alike (V4 s) (V4 g) a b = refl
-alike (V4 s) (V6 g) a b = absurd b
-alike (V6 s) group a b = absurd a
+alike : (source group : Addr) → AreOfOneFamily source group → afi_of source ≡ afi_of group
+alike (V4 s) (V4 g) one = refl
+alike (V6 s) (V6 g) one = refl
+alike (V4 s) (V6 g) one = absurd one
+alike (V6 s) (V4 g) one = absurd one
 
-flow_sound : (source group : Addr) → IsUnicast source → IsGroup group → IsOctets (addr_octets source) → IsOctets (addr_octets group) → IsFlow source group
-flow_sound source group a b o p = (host source a o, group_addr group b p, alike source group a b)
+flow_sound : (source group : Addr) → NamesFlow source group → IsOctets (addr_octets source) → IsOctets (addr_octets group) → IsFlow source group
+flow_sound source group names o p = (customer source names.unicast o, group_addr group names.multicast p, alike source group names.family)
 
 entry_sound : (entry : JoinEntry) → IsEntry entry → AllByRecursion IsOctets (entry_octets entry) → SoundEntry entry
 entry_sound (entries.Star group) is octets = group_addr group is octets.0
-entry_sound (entries.Source source group) is octets = flow_sound source group is.0 is.1 octets.0 octets.1.0
-entry_sound (entries.Rpt source group) is octets = flow_sound source group is.0 is.1 octets.0 octets.1.0
+entry_sound (entries.Source source group) is octets = flow_sound source group is octets.0 octets.1.0
+entry_sound (entries.Rpt source group) is octets = flow_sound source group is octets.0 octets.1.0
 
-any_host : (word : Option Addr) → IfSome word IsUnicast → AllByRecursion IsOctets (word_octets word) → IsAnyOr IsCustomer word
-any_host None is octets = tt
-any_host (Some addr) is octets = host addr is octets.0
+any_customer : (word : Option Addr) → IfSome word IsUnicast → AllByRecursion IsOctets (word_octets word) → IsAnyOr IsCustomer word
+any_customer None is octets = tt
+any_customer (Some addr) is octets = customer addr is octets.0
 
 any_group : (word : Option Addr) → IfSome word IsGroup → AllByRecursion IsOctets (word_octets word) → IsAnyOr IsGroupAddr word
 any_group None is octets = tt
 any_group (Some addr) is octets = group_addr addr is octets.0
 
-words_sound : (source group : Option Addr) → IfSome source IsUnicast → IfSome group IsGroup → AllByRecursion IsOctets (word_octets source ++ word_octets group) → IsAnyOr IsCustomer source × IsAnyOr IsGroupAddr group × AreAlike source group
-words_sound None group is given octets = (tt, any_group group given octets, tt)
-words_sound (Some addr) None is given octets = (host addr is octets.0, tt, tt)
-words_sound (Some addr) (Some group) is given octets = (host addr is octets.0, group_addr group given octets.1.0, alike addr group is given)
+words_alike : (source group : Option Addr) → IfSome source (λ addr. IfSome group (AreOfOneFamily addr)) → AreAlike source group
+words_alike None group one = tt
+words_alike (Some source) None one = tt
+words_alike (Some source) (Some group) one = alike source group one
+
+words_sound : (pattern : Pattern) → IsPattern pattern → AllByRecursion IsOctets (word_octets pattern.source ++ word_octets pattern.group) → SoundPattern pattern
+words_sound pattern is octets =
+    let each = each_of pattern.source pattern.group octets in
+    (any_customer pattern.source is.source each.0, any_group pattern.group is.group each.1, words_alike pattern.source pattern.group is.family)
+  where
+    each_of : (source group : Option Addr) → AllByRecursion IsOctets (word_octets source ++ word_octets group) → AllByRecursion IsOctets (word_octets source) × AllByRecursion IsOctets (word_octets group)
+    each_of None group octets = (tt, octets)
+    each_of (Some addr) group octets = ((octets.0, tt), octets.1)
 
 -- ---- events
 
@@ -85,11 +96,11 @@ sound_by scenario topology (events.Raise kind a b) is octets = tt
 sound_by scenario topology (events.Join iface entry) is octets = (is.0, entry_sound entry is.1 octets)
 sound_by scenario topology (events.Prune iface entry) is octets = (is.0, entry_sound entry is.1 octets)
 sound_by scenario topology (events.Pim iface bytes) is octets = octets.0
-sound_by scenario topology (events.Active iface source group) is octets = flow_sound source group is.1 is.2 octets.0 octets.1.0
+sound_by scenario topology (events.Active iface source group) is octets = flow_sound source group is.1 octets.0 octets.1.0
 sound_by scenario topology (events.Idle iface source group) is octets = tt
 sound_by scenario topology (events.Send site source group payload) is octets = tt
 sound_by scenario topology (events.Packet site bytes) is octets = tt
-sound_by scenario topology (events.Select vrf pattern) is octets = words_sound pattern.source pattern.group is.1.0 is.1.1 octets
+sound_by scenario topology (events.Select vrf pattern) is octets = words_sound pattern is.1 octets
 sound_by scenario topology (events.Unselect vrf pattern) is octets = tt
 sound_by scenario topology (events.Hop from to place) ((cost, linked), counted, few) octets = record { cost = cost; linked = linked; counted = counted }
 sound_by scenario topology (events.DropCopy from to place) ((cost, linked), counted, few) octets = record { cost = cost; linked = linked; counted = counted }

@@ -1,5 +1,6 @@
 -- The home of a source in a VPN: the site with the longest prefix that covers it (RFC 6513 section 5.1).
-use Rattle.std.specs.Prelude.{◌≡◌, ℕ, ◌+◌, ◌≤◌, nat_le, Bool, true, false, List, [], ◌∷◌, ◌++◌, map, filter, slice_get, Option, None, Some, option_map, if◌then◌else◌}
+use Rattle.std.specs.Prelude.{◌≡◌, ℕ, ◌+◌, ◌≤◌, nat_le, Bool, true, false, List, [], ◌∷◌, ◌++◌, map, filter, slice_get, Option}
+use Rattle.std.specs.Prelude.{None, Some, option_map, if◌then◌else◌}
 use Rattle.mv_base.specs.declared.ids.VrfId.{VrfId}
 use Rattle.mv_base.specs.declared.ids.SiteId.{SiteId}
 use Rattle.mv_base.specs.declared.addr.Addr.{Addr}
@@ -18,7 +19,8 @@ routes_of_site site prefixes = map (λ prefix. record { prefix = prefix; site = 
 abbrev pub routes_from : (SiteId → Bool) → ℕ → List Site → List Route
 routes_from passes number [] = []
 routes_from passes number (site ∷ more) =
-    (if passes (record { 0 = number }) then routes_of_site (record { 0 = number }) site.prefixes else []) ++ routes_from passes (number + 1) more
+    (if passes (record { 0 = number }) then routes_of_site (record { 0 = number }) site.prefixes else []) ++
+    routes_from passes (number + 1) more
 
 -- the routes of a VRF's VPN: each prefix of each site that is attached to the VPN
 abbrev pub routes : Scenario → VrfId → List Route
@@ -58,7 +60,11 @@ pub record IsLongest (all : List Route) (source : Addr) (site : SiteId) : Type 0
   pub among : slice_get all place ≡ Some route
   pub covering : covers route.prefix source ≡ true
   pub of_site : route.site ≡ site
-  pub longest : (other_place : ℕ) (other : Route) → slice_get all other_place ≡ Some other → covers other.prefix source ≡ true → other.prefix.bits ≤ route.prefix.bits
+  pub longest :
+      (other_place : ℕ) (other : Route) →
+      slice_get all other_place ≡ Some other →
+      covers other.prefix source ≡ true →
+      other.prefix.bits ≤ route.prefix.bits
 
 -- No route covers the source.
 abbrev pub IsUncovered : List Route → Addr → Type 0

@@ -1,5 +1,6 @@
 -- What every scenario and script that is read meets.
-use Rattle.std.specs.Prelude.{◌≡◌, ◌≢◌, ◌⊎◌, ℕ, ◌<◌, ◌≤◌, ◌%◌, true, false, List, [], ◌∷◌, length, take, slice_get, slice_index, Some, IfSome, All, AllPairs, count_by}
+use Rattle.std.specs.Prelude.{◌≡◌, ◌≢◌, ◌⊎◌, ℕ, ◌<◌, ◌≤◌, ◌%◌, true, false, List, [], ◌∷◌, length, take, slice_get, slice_index}
+use Rattle.std.specs.Prelude.{Some, IfSome, All, AllPairs, count_by}
 use Rattle.std.specs.List.{AllByRecursion}
 use Rattle.mv_base.specs.declared.ids.NodeId.{NodeId}
 use Rattle.mv_base.specs.declared.ids.IfaceId.{IfaceId}

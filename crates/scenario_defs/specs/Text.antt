@@ -59,14 +59,22 @@ ends_text scenario from to = node_name scenario from ++ codes " " ++ node_name s
 
 -- a line, with its LF
 abbrev pub line_text : Scenario → ReportLine → List ℕ
-line_text scenario (lines.Out number iface bytes) = codes "out " ++ decimal number ++ codes " " ++ iface_name scenario iface ++ codes " " ++ hex_text bytes ++ codes "\n"
+line_text scenario (lines.Out number iface bytes) =
+    codes "out " ++ decimal number ++ codes " " ++ iface_name scenario iface ++ codes " " ++ hex_text bytes ++ codes "\n"
 line_text scenario (lines.Refused line reason) = codes "refused " ++ decimal line ++ codes " " ++ refusal_text reason ++ codes "\n"
-line_text scenario (lines.State bytes copies buffers due unready) = codes "state " ++ decimal bytes ++ codes " " ++ decimal copies ++ codes " " ++ decimal buffers ++ codes " " ++ decimal due ++ codes " " ++ decimal unready ++ codes "\n"
+line_text scenario (lines.State bytes copies buffers due unready) =
+    codes "state " ++ decimal bytes ++ codes " " ++ decimal copies ++ codes " " ++ decimal buffers ++
+    codes " " ++ decimal due ++ codes " " ++ decimal unready ++ codes "\n"
 line_text scenario (lines.Halt line node) = codes "halt " ++ decimal line ++ codes " label " ++ node_name scenario node ++ codes "\n"
-line_text scenario (lines.Put kind from to bytes) = codes "put " ++ kind_word kind ++ codes " " ++ ends_text scenario from to ++ codes " " ++ hex_text bytes ++ codes "\n"
-line_text scenario (lines.Take kind from to bytes) = codes "take " ++ kind_word kind ++ codes " " ++ ends_text scenario from to ++ codes " " ++ hex_text bytes ++ codes "\n"
-line_text scenario (lines.Hop from to label ttl number) = codes "hop " ++ ends_text scenario from to ++ codes " " ++ decimal label ++ codes " " ++ decimal ttl ++ codes " " ++ decimal number ++ codes "\n"
-line_text scenario (lines.Land from to label number) = codes "land " ++ ends_text scenario from to ++ codes " " ++ decimal label ++ codes " " ++ decimal number ++ codes "\n"
+line_text scenario (lines.Put kind from to bytes) =
+    codes "put " ++ kind_word kind ++ codes " " ++ ends_text scenario from to ++ codes " " ++ hex_text bytes ++ codes "\n"
+line_text scenario (lines.Take kind from to bytes) =
+    codes "take " ++ kind_word kind ++ codes " " ++ ends_text scenario from to ++ codes " " ++ hex_text bytes ++ codes "\n"
+line_text scenario (lines.Hop from to label ttl number) =
+    codes "hop " ++ ends_text scenario from to ++ codes " " ++ decimal label ++ codes " " ++ decimal ttl ++
+    codes " " ++ decimal number ++ codes "\n"
+line_text scenario (lines.Land from to label number) =
+    codes "land " ++ ends_text scenario from to ++ codes " " ++ decimal label ++ codes " " ++ decimal number ++ codes "\n"
 
 -- The nodes and interfaces that a line names are of the scenario.
 abbrev pub IsLineOf : Scenario → ReportLine → Type 0

@@ -54,13 +54,17 @@ edge_of scenario iface = elim (slice_get scenario.ifaces iface.0) [
 abbrev pub ifaces_where : (IfaceId → Iface → Bool) → ℕ → List Iface → List IfaceId
 ifaces_where test number [] = []
 ifaces_where test number (iface ∷ more) =
-    if test (record { 0 = number }) iface then record { 0 = number } ∷ ifaces_where test (number + 1) more else ifaces_where test (number + 1) more
+    if test (record { 0 = number }) iface then record { 0 = number } ∷ ifaces_where test (number + 1) more else
+    ifaces_where test (number + 1) more
 
 -- the numbers of those of the VRFs, numbered from that one on, at which the site is attached
 abbrev pub entered_from : Scenario → SiteId → ℕ → List Vrf → List VrfId
 entered_from scenario site number [] = []
 entered_from scenario site number (vrf ∷ more) =
-    if is_attached_at scenario (record { 0 = number }) site then record { 0 = number } ∷ entered_from scenario site (number + 1) more else entered_from scenario site (number + 1) more
+    if is_attached_at scenario (record { 0 = number }) site then
+    record { 0 = number } ∷ entered_from scenario site (number + 1) more
+    else
+    entered_from scenario site (number + 1) more
 
 -- the VRFs at which a datagram of the site enters, in order of VRFs
 abbrev pub entered : Scenario → SiteId → List VrfId

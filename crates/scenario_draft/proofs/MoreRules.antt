@@ -9,7 +9,7 @@ use Rattle.scenario_defs.specs.declared.scenario.Vrf.{Vrf}
 use Rattle.scenario_defs.specs.declared.scenario.Site.{Site}
 use Rattle.scenario_defs.specs.declared.scenario.Iface.{Iface}
 use Rattle.scenario_defs.specs.declared.scenario.Scenario.{Scenario}
-use Rattle.scenario_defs.specs.Rules.{CoreRules, VrfRules, SiteRules, IfaceRules, IsUnicast, IsVrf, AreApart, IsSite, IsIface, AreOfVpns}
+use Rattle.scenario_defs.specs.Rules.{CoreRules, VrfRules, SiteRules, IfaceRules, IsIpv4, IsUnicast, IsVrf, AreApart, IsSite, IsIface, AreOfVpns}
 use Rattle.scenario_draft.specs.Declaring.{MayBeNode, MayBeLink, MayBeVrf, MayBeSite, MayBeIface}
 use Rattle.scenario_draft.proofs.OneMore.{longer, kept_get, one_more_pair, pairs_with, one_more_counted}
 use Rattle.scenario_draft.proofs.OtherRules.{vrf_still, AreKnown, iface_known}
@@ -29,6 +29,7 @@ pub node_core : (s : Scenario) (node : Node) → MayBeNode s node → CoreRules 
 node_core s node may r = record {
   topology = node_topology s node may r.topology;
   few_edges = one_more_counted (λ other. other.edge) 32 s.nodes node r.few_edges may.few_edges;
+  ipv4 = All-push (λ other. IsIpv4 other.addr) s.nodes node r.ipv4 may.ipv4;
   unicast = All-push (λ other. IsUnicast other.addr) s.nodes node r.unicast may.unicast;
   addresses = one_more_pair (λ x y. same_addr x.addr y.addr ≡ false) s.nodes node r.addresses may.address;
 }
@@ -43,6 +44,7 @@ link_core s link may r = record {
     once = one_more_pair (λ x y. ¬ (JoinsSamePair x y)) s.links link r.topology.once may.once;
   };
   few_edges = r.few_edges;
+  ipv4 = r.ipv4;
   unicast = r.unicast;
   addresses = r.addresses;
 }

@@ -13,19 +13,20 @@ use Rattle.scenario_defs.specs.declared.scenario.Scenario.{Scenario}
 use Rattle.scenario_defs.specs.Prefixes.{prefixes_of, share_prefix}
 use Rattle.scenario_defs.specs.Vpn.{targets_of, same_vpn}
 use Rattle.scenario_defs.specs.Rules.{SettingRules, CoreRules, VrfRules, SiteRules, IfaceRules, IsEdge, IsVrf, IsIface, AreOfVpns}
+use Rattle.scenario_defs.specs.Built.{IsBuiltScenario}
 use Rattle.scenario_draft.proofs.OneMore.{pairs_with}
 
 pub settings_else : (s t : Scenario) → SettingRules s → SettingRules (record t { life = s.life; delay = s.delay; labels = s.labels; system = s.system })
 settings_else s t r = record { life = r.life; delay = r.delay; labels = r.labels; system = r.system }
 
 pub core_else : (s t : Scenario) → CoreRules s → CoreRules (record t { nodes = s.nodes; links = s.links })
-core_else s t r = record { topology = r.topology; few_edges = r.few_edges; unicast = r.unicast; addresses = r.addresses }
+core_else s t r = record { topology = r.topology; few_edges = r.few_edges; ipv4 = r.ipv4; unicast = r.unicast; addresses = r.addresses }
 
 -- A VRF stays one where its edge does.
 pub vrf_still : (s t : Scenario) → ((k : ℕ) (node : Node) → slice_get s.nodes k ≡ Some node → slice_get t.nodes k ≡ Some node) → (vrf : Vrf) → IsVrf s vrf → IsVrf t vrf
 vrf_still s t still vrf r =
     let edge : IsEdge t vrf.edge = record { node = r.edge.node; at = still vrf.edge.0 r.edge.node r.edge.at; edge = r.edge.edge } in
-    record { edge = edge; number = r.number; rd = r.rd; some = r.some; few = r.few; each = r.each; distinct = r.distinct; rule = r.rule }
+    record { edge = edge; number = r.number; rd = r.rd; some = r.some; few = r.few; each = r.each; distinct = r.distinct }
 
 pub vrfs_still : (s t : Scenario) → ((k : ℕ) (node : Node) → slice_get s.nodes k ≡ Some node → slice_get t.nodes k ≡ Some node) → VrfRules s → VrfRules (record t { vrfs = s.vrfs })
 vrfs_still s t still r = record { few = r.few; each = All-weaker _ _ (λ vrf h. vrf_still s (record t { vrfs = s.vrfs }) still vrf h) s.vrfs r.each; apart = r.apart }
@@ -44,7 +45,7 @@ pub record AreKnown (s t : Scenario) : Type 0 where
   pub prefixes : (id : SiteId) → id.0 < length s.sites → prefixes_of s id ≡ prefixes_of t id
 
 pub iface_known : (s t : Scenario) → AreKnown s t → (iface : Iface) → IsIface s iface → IsIface t iface
-iface_known s t known iface r = record { vrf = omega (arith, r.vrf, known.more_vrfs); site = omega (arith, r.site, known.more_sites); ipv4 = r.ipv4 }
+iface_known s t known iface r = record { vrf = omega (arith, r.vrf, known.more_vrfs); site = omega (arith, r.site, known.more_sites); addr = r.addr }
 
 vpn_known : (s t : Scenario) → AreKnown s t → (x y : Iface) → IsIface s x → IsIface s y → same_vpn s x.vrf y.vrf ≡ same_vpn t x.vrf y.vrf
 vpn_known s t known x y a b =
@@ -71,3 +72,7 @@ pub ifaces_else : (s t : Scenario) → IfaceRules s → IfaceRules (record t { v
 ifaces_else s t r =
     let same : AreKnown s (record t { vrfs = s.vrfs; sites = s.sites; ifaces = s.ifaces }) = record { more_vrfs = omega arith; more_sites = omega arith; targets = λ id h. refl; prefixes = λ id h. refl } in
     ifaces_known s (record t { vrfs = s.vrfs; sites = s.sites }) same r
+
+-- The forms of VRFs, sites and interfaces do not rest on anything else.
+pub built_else : (s t : Scenario) → IsBuiltScenario s → IsBuiltScenario (record t { vrfs = s.vrfs; sites = s.sites; ifaces = s.ifaces })
+built_else s t r = record { vrfs = r.vrfs; sites = r.sites; ifaces = r.ifaces }

@@ -15,6 +15,7 @@ use Rattle.mv_base.specs.declared.addr.Addr.{Addr}
 use Rattle.mv_base.specs.declared.addr.Addr.TheVariants.{V4, V6}
 use Rattle.mv_base.specs.declared.ids.NodeId.{NodeId}
 use Rattle.mv_base.specs.declared.core_link.Link.{Link}
+use Rattle.mv_base.specs.declared.prefix.Prefix.{Prefix}
 use Rattle.mv_base.specs.declared.rd.Rd.{Rd}
 use Rattle.mv_base.specs.declared.rd.Rule.TheVariants.{Highest, Nearest}
 use Rattle.mv_base.specs.Address.{same_addr}
@@ -24,7 +25,7 @@ use Rattle.core_walks.specs.Topology.{JoinsSamePair}
 use Rattle.route_targets.specs.Targets.{same_target}
 use Rattle.scenario_defs.specs.declared.scenario.Vrf.{Vrf}
 use Rattle.scenario_defs.specs.Prefixes.{same_prefix}
-use Rattle.scenario_defs.specs.Rules.{IsIpv4, IsUnicast, IsGroup, IsEdge, IsRd, IsTarget, IsSitePrefix}
+use Rattle.scenario_defs.specs.Rules.{IsIpv4, IsUnicast, IsGroup, AreOfOneFamily, NamesFlow, IsEdge, IsRd, IsTarget, IsSitePrefix}
 use Rattle.line_words.specs.declared.fault.TextFault.{TextFault}
 use Rattle.line_words.specs.declared.fault.Reason.{Reason}
 use Rattle.line_words.specs.declared.fault.Reason.TheVariants as reasons
@@ -165,8 +166,8 @@ group_parts true true true h = absurd cc
 group_parts true false c h = absurd cc
 group_parts false b c h = absurd cc
 
-not_local : (x y z : ℕ) → (x == 224 && y == 0 && z == 0) ≡ false → x ≡ 224 → y ≡ 0 → z ≡ 0 → ⊥
-not_local x y z h a b c = grind (arith, nat_tests)
+not_local : (x y z : ℕ) → (x == 224 && y == 0 && z == 0) ≡ false → (x ≡ 224) × (y ≡ 0) × (z ≡ 0) → ⊥
+not_local x y z h (a, b, c) = grind (arith, nat_tests)
 
 is_group_addr : (addr : Addr) → IsIpv4 addr → is_group addr ≡ true → IsGroup addr
 is_group_addr (V4 octets) four h =
@@ -175,13 +176,32 @@ is_group_addr (V4 octets) four h =
     (four, w.0, w.1, not_local (slice_index octets 0) (slice_index octets 1) (slice_index octets 2) p.1)
 is_group_addr (V6 octets) four h = absurd four
 
-pub source_meets : (row : Row) (word : Placed) → Meets IsUnicast (source_at row word)
+pub source_meets : (row : Row) (word : Placed) → Meets (λ addr. IsIpv4 addr × IsUnicast addr) (source_at row word)
 unfolding source_at
-source_meets row word = bind_meets _ (addr_at row word) _ (λ addr a. then_meets _ _ _ _ (λ b. ok_meets _ addr (is_source addr ((addr_meets row word).holds addr a) b)))
+source_meets row word =
+    bind_meets _ (addr_at row word) _ (λ addr a. then_meets _ _ _ _ (λ b.
+    let four = (addr_meets row word).holds addr a in
+    let facts : IsIpv4 addr × IsUnicast addr = (four, is_source addr four b) in ok_meets _ addr facts))
 
-pub group_meets : (row : Row) (word : Placed) → Meets IsGroup (group_at row word)
+pub group_meets : (row : Row) (word : Placed) → Meets (λ addr. IsIpv4 addr × IsGroup addr) (group_at row word)
 unfolding group_at
-group_meets row word = bind_meets _ (addr_at row word) _ (λ addr a. then_meets _ _ _ _ (λ b. ok_meets _ addr (is_group_addr addr ((addr_meets row word).holds addr a) b)))
+group_meets row word =
+    bind_meets _ (addr_at row word) _ (λ addr a. then_meets _ _ _ _ (λ b.
+    let four = (addr_meets row word).holds addr a in
+    let facts : IsIpv4 addr × IsGroup addr = (four, is_group_addr addr four b) in ok_meets _ addr facts))
+
+-- Two addresses of IPv4 are of one family.
+pub one_family : (a b : Addr) → IsIpv4 a → IsIpv4 b → AreOfOneFamily a b
+one_family (V4 a) (V4 b) h k = tt
+one_family (V6 a) b h k = absurd h
+one_family (V4 a) (V6 b) h k = absurd k
+
+-- The two words name a flow.
+pub names_flow : (row : Row) (b c : Placed) (source group : Addr) → source_at row b ≡ Ok source → group_at row c ≡ Ok group → NamesFlow source group
+names_flow row b c source group s g =
+    let own = (source_meets row b).holds source s in
+    let all = (group_meets row c).holds group g in
+    record { unicast = own.1; multicast = all.1; family = one_family source group own.0 all.0 }
 
 decoded : (text : List ℕ) (e : TextFault) (r : Result (List ℕ) FromHexError) → length text ≤ 4096 → decode_of text ≡ r → Meets (λ payload. length payload ≤ 2048) (elim r [ Ok octets ↦ Ok octets | Err error ↦ Err e ])
 decoded text e (Ok octets) l h = ok_meets _ octets (omega (arith, (decode_of-ok text octets h).2))
@@ -203,11 +223,12 @@ below limit n h = grind (arith, nat_tests)
 all_weaker : {A : Type 0} (P Q : A → Type 0) (xs : List A) → ((x : A) → P x → Q x) → All P xs → All Q xs
 all_weaker P Q xs f h = λ k d within. f _ (h k d within)
 
-pub node_addr_meets : (draft : Drafted) (row : Row) (word : Placed) → Meets (λ addr. IsUnicast addr × All (λ other. same_addr other.addr addr ≡ false) draft.scenario.nodes) (node_addr_at draft row word)
+pub node_addr_meets : (draft : Drafted) (row : Row) (word : Placed) → Meets (λ addr. IsIpv4 addr × IsUnicast addr × All (λ other. same_addr other.addr addr ≡ false) draft.scenario.nodes) (node_addr_at draft row word)
 unfolding node_addr_at
 node_addr_meets draft row word =
     bind_meets _ (addr_at row word) _ (λ addr a. then_meets _ _ _ _ (λ b. if_meets _ (list_any (is_at addr) draft.scenario.nodes) _ _ (λ new.
-    ok_meets _ addr (is_source addr ((addr_meets row word).holds addr a) b, none_any (is_at addr) draft.scenario.nodes new))))
+    let four = (addr_meets row word).holds addr a in
+    ok_meets _ addr (four, is_source addr four b, none_any (is_at addr) draft.scenario.nodes new))))
 
 number_finds : (text : List ℕ) → Finds (λ number. (1 ≤ number) × (number ≤ 4095)) (vrf_number_of text)
 unfolding vrf_number_of
@@ -313,21 +334,40 @@ targets_formed row word = or_fault_meets _ _ row word _ (record {
 no_rest : (bits rest : ℕ) → (nat_le bits 32 && rest == 0) ≡ true → (bits ≤ 32) × (rest ≡ 0)
 no_rest bits rest h = grind (arith, nat_tests)
 
-site_prefix : (addr : Addr) (bits : ℕ) → IsIpv4 addr → is_prefix addr bits ≡ true → IsSitePrefix (record { addr = addr; bits = bits })
-site_prefix (V4 octets) bits four h = record { ipv4 = four; bits = no_rest bits (from_be_bytes w32 octets % 2 ^ (32 - bits)) h }
+-- a prefix of a site, of IPv4
+abbrev IsIpv4Prefix : Prefix → Type 0
+IsIpv4Prefix prefix = IsIpv4 prefix.addr × IsSitePrefix prefix
+
+site_prefix : (addr : Addr) (bits : ℕ) → IsIpv4 addr → is_prefix addr bits ≡ true → IsIpv4Prefix (record { addr = addr; bits = bits })
+site_prefix (V4 octets) bits four h = (four, record { addr = four; bits = no_rest bits (from_be_bytes w32 octets % 2 ^ (32 - bits)) h })
 site_prefix (V6 octets) bits four h = absurd four
 
-prefix_finds : (text : List ℕ) → Finds IsSitePrefix (prefix_of text)
+prefix_finds : (text : List ℕ) → Finds IsIpv4Prefix (prefix_of text)
 unfolding prefix_of
 prefix_finds text = bind_finds _ (cut_of 47 text) _ (λ cut _. bind_finds _ (addr_of cut.0) _ (λ addr a. bind_finds _ (number_of cut.1) _ (λ bits _. only_finds _ (is_prefix addr bits) _ (site_prefix addr bits ((addr_finds cut.0).holds addr a)))))
 
-pub prefixes_meets : (row : Row) (word : Placed) → Meets (λ prefixes. (0 < length prefixes) × (length prefixes ≤ 8) × All IsSitePrefix prefixes × AllPairs (λ prefix other. same_prefix prefix other ≡ false) prefixes) (prefixes_at row word)
+-- The prefixes are those of a site, and of IPv4.
+pub record ArePrefixes (prefixes : List Prefix) : Type 0 where
+  pub some : 0 < length prefixes
+  pub few : length prefixes ≤ 8
+  pub ipv4 : All (λ prefix. IsIpv4 prefix.addr) prefixes
+  pub each : All IsSitePrefix prefixes
+  pub distinct : AllPairs (λ prefix other. same_prefix prefix other ≡ false) prefixes
+
+pub prefixes_meets : (row : Row) (word : Placed) → Meets ArePrefixes (prefixes_at row word)
 unfolding prefixes_at
 prefixes_meets row word =
     or_fault_meets _ _ row word _ (record {
       holds = λ prefixes h.
           let list = list_is same_prefix prefix_of word.text prefixes h in
-          (list.some, list.few, each_holds IsSitePrefix prefix_of (λ text prefix p. (prefix_finds text).holds prefix p) _ prefixes list.each, distinct_pairs same_prefix prefixes list.distinct);
+          let each = each_holds IsIpv4Prefix prefix_of (λ text prefix p. (prefix_finds text).holds prefix p) _ prefixes list.each in
+          record {
+            some = list.some;
+            few = list.few;
+            ipv4 = all_weaker IsIpv4Prefix (λ prefix. IsIpv4 prefix.addr) prefixes (λ prefix p. p.0) each;
+            each = all_weaker IsIpv4Prefix IsSitePrefix prefixes (λ prefix p. p.1) each;
+            distinct = distinct_pairs same_prefix prefixes list.distinct;
+          };
     })
 
 pub rule_meets : (row : Row) (word : Placed) → Meets (λ rule. (rule ≡ Highest) ⊎ (rule ≡ Nearest)) (rule_at row word)

@@ -1,5 +1,5 @@
--- What a line of the scenario keeps to, given what the lines before it declared: the rules of a scenario, said of the one
--- thing that the line declares and of each that is there.
+-- What a line of the scenario keeps to, given what the lines before it declared: the rules of a scenario and the forms that are
+-- built, said of the one thing that the line declares and of each that is there.
 use Rattle.std.specs.Prelude.{◌≡◌, ℕ, ◌≤◌, ◌<◌, true, false, List, length, All, count_by}
 use Rattle.mv_base.specs.declared.core_link.Link.{Link}
 use Rattle.mv_base.specs.Address.{same_addr}
@@ -10,7 +10,8 @@ use Rattle.scenario_defs.specs.declared.scenario.Site.{Site}
 use Rattle.scenario_defs.specs.declared.scenario.Iface.{Iface}
 use Rattle.scenario_defs.specs.declared.scenario.Scenario.{Scenario}
 use Rattle.scenario_defs.specs.Names.{is_name}
-use Rattle.scenario_defs.specs.Rules.{IsUnicast, IsVrf, AreApart, IsSite, IsIface, AreOfVpns}
+use Rattle.scenario_defs.specs.Built.{HasBuiltRule, IsIpv4Site}
+use Rattle.scenario_defs.specs.Rules.{IsIpv4, IsUnicast, IsVrf, AreApart, IsSite, IsIface, AreOfVpns}
 use Rattle.scenario_draft.specs.declared.line.Line.{Line}
 use Rattle.scenario_draft.specs.declared.line.Line.TheVariants as says
 use Rattle.scenario_draft.specs.Drafted.{Drafted}
@@ -24,6 +25,7 @@ IsNewName draft name = (is_name name ≡ true) × IsFree draft name
 pub record MayBeNode (scenario : Scenario) (node : Node) : Type 0 where
   pub few : length scenario.nodes < 64
   pub few_edges : node.edge ≡ true → count_by (λ other. other.edge) scenario.nodes < 32
+  pub ipv4 : IsIpv4 node.addr
   pub unicast : IsUnicast node.addr
   pub address : All (λ other. same_addr other.addr node.addr ≡ false) scenario.nodes
 
@@ -36,15 +38,18 @@ pub record MayBeLink (scenario : Scenario) (link : Link) : Type 0 where
 pub record MayBeVrf (scenario : Scenario) (vrf : Vrf) : Type 0 where
   pub few : length scenario.vrfs < 256
   pub own : IsVrf scenario vrf
+  pub built : HasBuiltRule vrf
   pub apart : All (λ other. AreApart other vrf) scenario.vrfs
 
 pub record MayBeSite (scenario : Scenario) (site : Site) : Type 0 where
   pub few : length scenario.sites < 512
   pub own : IsSite site
+  pub built : IsIpv4Site site
 
 pub record MayBeIface (scenario : Scenario) (iface : Iface) : Type 0 where
   pub few : length scenario.ifaces < 1024
   pub own : IsIface scenario iface
+  pub built : IsIpv4 iface.addr
   pub vpns : All (λ other. AreOfVpns scenario other iface) scenario.ifaces
 
 -- A line of the scenario declares what may be declared, numbered as the next one, or ends it where the core is connected.
@@ -54,7 +59,8 @@ IsDeclared draft (says.Node id node) = (id.0 ≡ length draft.scenario.nodes) ×
 IsDeclared draft (says.Link link) = MayBeLink draft.scenario link
 IsDeclared draft (says.Vrf id vrf) = (id.0 ≡ length draft.scenario.vrfs) × IsNewName draft vrf.name × MayBeVrf draft.scenario vrf
 IsDeclared draft (says.Site id site) = (id.0 ≡ length draft.scenario.sites) × IsNewName draft site.name × MayBeSite draft.scenario site
-IsDeclared draft (says.Iface id iface) = (id.0 ≡ length draft.scenario.ifaces) × IsNewName draft iface.name × MayBeIface draft.scenario iface
+IsDeclared draft (says.Iface id iface) =
+    (id.0 ≡ length draft.scenario.ifaces) × IsNewName draft iface.name × MayBeIface draft.scenario iface
 IsDeclared draft says.Events = IsConnected (length draft.scenario.nodes) draft.scenario.links
 IsDeclared draft says.Blank = ⊥
 IsDeclared draft (says.Event event) = ⊥

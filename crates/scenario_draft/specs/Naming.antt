@@ -54,7 +54,8 @@ node_named draft text = named draft text >>? λ thing. node_of thing >>? λ id. 
 
 -- the edge that a text names
 unfoldable pub edge_named : Drafted → List ℕ → Option NodeId
-edge_named draft text = named draft text >>? λ thing. node_of thing >>? λ id. slice_get draft.scenario.nodes id.0 >>? λ node. only_if node.edge id
+edge_named draft text =
+    named draft text >>? λ thing. node_of thing >>? λ id. slice_get draft.scenario.nodes id.0 >>? λ node. only_if node.edge id
 
 -- the VRF that a text names
 unfoldable pub vrf_named : Drafted → List ℕ → Option VrfId
@@ -71,7 +72,10 @@ iface_named draft text = named draft text >>? λ thing. iface_of thing >>? λ id
 -- a word that declares a name: the fault is `Name` where it does not have the form of one, `Again` where a thing has it
 unfoldable pub new_name : Drafted → Row → Placed → Result (List ℕ) TextFault
 new_name draft row word =
-    if is_name word.text then elim (named draft word.text) [ None ↦ Ok word.text | Some thing ↦ fault row.number word.column reasons.Again ] else fault row.number word.column reasons.Name
+    if is_name word.text then
+    elim (named draft word.text) [ None ↦ Ok word.text | Some thing ↦ fault row.number word.column reasons.Again ]
+    else
+    fault row.number word.column reasons.Name
 
 -- a word that names a node
 unfoldable pub node_at : Drafted → Row → Placed → Result NodeId TextFault
@@ -101,7 +105,11 @@ is_at addr node = same_addr node.addr addr
 -- and `Again` where a node has it
 unfoldable pub node_addr_at : Drafted → Row → Placed → Result Addr TextFault
 node_addr_at draft row word =
-    addr_at row word >>= λ addr. if is_unicast addr then (if list_any (is_at addr) draft.scenario.nodes then fault row.number word.column reasons.Again else Ok addr) else fault row.number word.column reasons.Address
+    addr_at row word >>= λ addr.
+    if is_unicast addr then
+    (if list_any (is_at addr) draft.scenario.nodes then fault row.number word.column reasons.Again else Ok addr)
+    else
+    fault row.number word.column reasons.Address
 
 -- whether a VRF is of the edge and has the number
 abbrev pub has_number : NodeId → ℕ → Vrf → Bool
@@ -111,7 +119,8 @@ has_number edge number vrf = vrf.edge.0 == edge.0 && vrf.number == number
 -- `Again` where a VRF of the edge has it
 unfoldable pub vrf_number_at : Drafted → Row → NodeId → Placed → Result ℕ TextFault
 vrf_number_at draft row edge word =
-    or_fault (vrf_number_of word.text) row word reasons.Number >>= λ number. if list_any (has_number edge number) draft.scenario.vrfs then fault row.number word.column reasons.Again else Ok number
+    or_fault (vrf_number_of word.text) row word reasons.Number >>= λ number.
+    if list_any (has_number edge number) draft.scenario.vrfs then fault row.number word.column reasons.Again else Ok number
 
 -- whether a VRF is of the edge and has the route distinguisher
 abbrev pub has_rd : NodeId → Rd → Vrf → Bool
@@ -121,7 +130,8 @@ has_rd edge rd vrf = vrf.edge.0 == edge.0 && pointwise nat_eq vrf.rd.0 rd.0
 -- a VRF of the edge has it
 unfoldable pub rd_at : Drafted → Row → NodeId → Placed → Result Rd TextFault
 rd_at draft row edge word =
-    or_fault (rd_of word.text) row word reasons.Rd >>= λ rd. if list_any (has_rd edge rd) draft.scenario.vrfs then fault row.number word.column reasons.Again else Ok rd
+    or_fault (rd_of word.text) row word reasons.Rd >>= λ rd.
+    if list_any (has_rd edge rd) draft.scenario.vrfs then fault row.number word.column reasons.Again else Ok rd
 
 -- whether the link joins both nodes, in either order
 abbrev pub joins : NodeId → NodeId → Link → Bool

@@ -2,7 +2,9 @@
 ghost use Rattle.std.specs.Prelude.{◌≡◌};
 ghost use Rattle.std.specs.List.{list_any};
 ghost use Rattle.line_words.specs.Words.{placed_word};
-ghost use Rattle.scenario_draft.specs.Naming.{node_of, vrf_of, site_of, iface_of, node_named, edge_named, vrf_named, site_named, iface_named, new_name, node_at, edge_at, vrf_at, site_at, iface_at, is_at, node_addr_at, has_number, vrf_number_at, has_rd, rd_at, joins, other_end_at};
+ghost use Rattle.scenario_draft.specs.Naming.{node_of, vrf_of, site_of, iface_of, node_named, edge_named, vrf_named, site_named};
+ghost use Rattle.scenario_draft.specs.Naming.{iface_named, new_name, node_at, edge_at, vrf_at, site_at, iface_at, is_at};
+ghost use Rattle.scenario_draft.specs.Naming.{node_addr_at, has_number, vrf_number_at, has_rd, rd_at, joins, other_end_at};
 
 use crate::draft::Draft;
 use line_words::{

@@ -5,6 +5,9 @@ use Rattle.std.specs.List.{list_any}
 use Rattle.std.proofs.lemmas.Bool.{or_parts, and_from}
 use Rattle.std.proofs.lemmas.Bool.Decides.{nat_tests}
 use Rattle.mv_base.specs.declared.core_link.Link.{Link}
+use Rattle.mv_base.specs.declared.addr.Addr.{Addr}
+use Rattle.mv_base.specs.declared.addr.Addr.TheVariants.{V4, V6}
+use Rattle.mv_base.specs.Address.{IsAddr}
 use Rattle.mv_base.specs.declared.ids.NodeId.{NodeId}
 use Rattle.mv_base.specs.declared.ids.VrfId.{VrfId}
 use Rattle.mv_base.specs.declared.ids.SiteId.{SiteId}
@@ -20,7 +23,7 @@ use Rattle.scenario_defs.specs.declared.scenario.Iface.{Iface}
 use Rattle.scenario_defs.specs.declared.scenario.Scenario.{Scenario}
 use Rattle.scenario_defs.specs.Prefixes.{prefixes_of, share_prefix}
 use Rattle.scenario_defs.specs.Vpn.{same_vpn}
-use Rattle.scenario_defs.specs.Rules.{IsEdge, IsRd, IsTarget, IsVrf, AreApart, IsIface, AreOfVpns}
+use Rattle.scenario_defs.specs.Rules.{IsIpv4, IsEdge, IsRd, IsTarget, IsVrf, AreApart, IsIface, AreOfVpns}
 use Rattle.line_words.specs.declared.fault.Reason.TheVariants as reasons
 use Rattle.line_words.specs.declared.words.Row.{Row}
 use Rattle.line_words.specs.Words.{Placed}
@@ -95,7 +98,7 @@ unfolding node_words
 node_words_meets draft row edge id a b next has =
     bind_meets _ (new_name draft row a) _ (λ name n. bind_meets _ (node_addr_at draft row b) _ (λ addr p.
     let own = (node_addr_meets draft row b).holds addr p in
-    let may : MayBeNode draft.scenario (record { name = name; addr = addr; edge = edge }) = record { few = has.0; few_edges = has.1; unicast = own.0; address = own.1 } in
+    let may : MayBeNode draft.scenario (record { name = name; addr = addr; edge = edge }) = record { few = has.0; few_edges = has.1; ipv4 = own.0; unicast = own.1; address = own.2 } in
     let facts : (id.0 ≡ length draft.scenario.nodes) × IsNewName draft name × MayBeNode draft.scenario (record { name = name; addr = addr; edge = edge }) = (next, (name_meets draft row a).holds name n, may) in ok_meets _ _ facts))
 
 node_counted_meets : (draft : Drafted) (row : Row) (edge : Bool) (id : NodeId) (words : List Placed) → id.0 ≡ length draft.scenario.nodes → HasRoom draft edge → Meets (IsDeclared draft) (node_counted draft row edge id words)
@@ -195,11 +198,11 @@ unfolding vrf_rules
 vrf_rules_meets draft row id e head tail next few h t =
     if_meets _ (list_any (overlaps tail.targets) draft.scenario.vrfs) _ _ (λ sets. if_meets _ (list_any (is_vpn_at head.edge tail.targets) draft.scenario.vrfs) _ _ (λ vpns.
     let vrf : Vrf = record { name = head.name; edge = head.edge; number = head.number; rd = tail.rd; targets = tail.targets; rule = tail.rule } in
-    let own : IsVrf draft.scenario vrf = record { edge = h.edge; number = h.number; rd = t.rd; some = t.some; few = t.few; each = t.each; distinct = t.distinct; rule = t.rule } in
+    let own : IsVrf draft.scenario vrf = record { edge = h.edge; number = h.number; rd = t.rd; some = t.some; few = t.few; each = t.each; distinct = t.distinct } in
     let no_overlap = none_any (overlaps tail.targets) draft.scenario.vrfs sets in
     let no_vpn = none_any (is_vpn_at head.edge tail.targets) draft.scenario.vrfs vpns in
     let apart : All (λ other. AreApart other vrf) draft.scenario.vrfs = λ k d l. apart_from (slice_index_or draft.scenario.vrfs k d) vrf (no_overlap k d l) (no_vpn k d l) (h.numbers k d l) (t.rds k d l) in
-    let may : MayBeVrf draft.scenario vrf = record { few = few; own = own; apart = apart } in
+    let may : MayBeVrf draft.scenario vrf = record { few = few; own = own; built = t.rule; apart = apart } in
     let facts : (id.0 ≡ length draft.scenario.vrfs) × IsNewName draft head.name × MayBeVrf draft.scenario vrf = (next, h.name, may) in ok_meets _ _ facts))
 
 vrf_words_meets : (draft : Drafted) (row : Row) (id : VrfId) (a b c d e f : Placed) → id.0 ≡ length draft.scenario.vrfs → length draft.scenario.vrfs < 256 → Meets (IsDeclared draft) (vrf_words draft row id a b c d e f)
@@ -230,7 +233,7 @@ unfolding site_words
 site_words_meets draft row id a b next few =
     bind_meets _ (new_name draft row a) _ (λ name n. bind_meets _ (prefixes_at row b) _ (λ prefixes p.
     let own = (prefixes_meets row b).holds prefixes p in
-    let may : MayBeSite draft.scenario (record { name = name; prefixes = prefixes }) = record { few = few; own = record { some = own.0; few = own.1; each = own.2; distinct = own.3 } } in
+    let may : MayBeSite draft.scenario (record { name = name; prefixes = prefixes }) = record { few = few; own = record { some = own.some; few = own.few; each = own.each; distinct = own.distinct }; built = own.ipv4 } in
     let facts : (id.0 ≡ length draft.scenario.sites) × IsNewName draft name × MayBeSite draft.scenario (record { name = name; prefixes = prefixes }) = (next, (name_meets draft row a).holds name n, may) in ok_meets _ _ facts))
 
 site_counted_meets : (draft : Drafted) (row : Row) (id : SiteId) (words : List Placed) → id.0 ≡ length draft.scenario.sites → length draft.scenario.sites < 512 → Meets (IsDeclared draft) (site_counted draft row id words)
@@ -252,27 +255,32 @@ of_vpns scenario other iface mixed taken = record {
   taken = λ n e. both_fail (not (other.site.0 == iface.site.0) && same_vpn scenario other.vrf iface.vrf) (share_prefix (prefixes_of scenario iface.site) (prefixes_of scenario other.site)) taken (and_from _ _ (is_unequal other.site.0 iface.site.0 n) e);
 }
 
-iface_rules_meets : (draft : Drafted) (row : Row) (id : IfaceId) (c : Placed) (iface : Iface) → id.0 ≡ length draft.scenario.ifaces → length draft.scenario.ifaces < 1024 → IsNewName draft iface.name → IsIface draft.scenario iface → Meets (IsDeclared draft) (iface_rules draft row id c iface)
+iface_rules_meets : (draft : Drafted) (row : Row) (id : IfaceId) (c : Placed) (iface : Iface) → id.0 ≡ length draft.scenario.ifaces → length draft.scenario.ifaces < 1024 → IsNewName draft iface.name → IsIface draft.scenario iface → IsIpv4 iface.addr → Meets (IsDeclared draft) (iface_rules draft row id c iface)
 unfolding iface_rules
-iface_rules_meets draft row id c iface next few name own =
+iface_rules_meets draft row id c iface next few name own four =
     if_meets _ (list_any (is_mixed draft.scenario iface) draft.scenario.ifaces) _ _ (λ mixed. if_meets _ (list_any (is_taken draft.scenario iface) draft.scenario.ifaces) _ _ (λ taken.
     let none_mixed = none_any (is_mixed draft.scenario iface) draft.scenario.ifaces mixed in
     let none_taken = none_any (is_taken draft.scenario iface) draft.scenario.ifaces taken in
     let vpns : All (λ other. AreOfVpns draft.scenario other iface) draft.scenario.ifaces = λ k d l. of_vpns draft.scenario (slice_index_or draft.scenario.ifaces k d) iface (none_mixed k d l) (none_taken k d l) in
-    let may : MayBeIface draft.scenario iface = record { few = few; own = own; vpns = vpns } in
+    let may : MayBeIface draft.scenario iface = record { few = few; own = own; built = four; vpns = vpns } in
     let facts : (id.0 ≡ length draft.scenario.ifaces) × IsNewName draft iface.name × MayBeIface draft.scenario iface = (next, name, may) in ok_meets _ _ facts))
 
-iface_parts_meets : (draft : Drafted) (row : Row) (a b c d : Placed) → Meets (λ iface. IsNewName draft iface.name × IsIface draft.scenario iface) (iface_parts draft row a b c d)
+ipv4_addr : (addr : Addr) → IsIpv4 addr → IsAddr addr
+ipv4_addr (V4 octets) four = four
+ipv4_addr (V6 octets) four = absurd four
+
+iface_parts_meets : (draft : Drafted) (row : Row) (a b c d : Placed) → Meets (λ iface. IsNewName draft iface.name × IsIface draft.scenario iface × IsIpv4 iface.addr) (iface_parts draft row a b c d)
 unfolding iface_parts
 iface_parts_meets draft row a b c d =
     bind_meets _ (new_name draft row a) _ (λ name n. bind_meets _ (vrf_at draft row b) _ (λ vrf v. bind_meets _ (site_at draft row c) _ (λ site s. bind_meets _ (addr_at row d) _ (λ addr p.
-    let own : IsIface draft.scenario (record { name = name; vrf = vrf; site = site; addr = addr }) = record { vrf = (vrf_meets draft row b).holds vrf v; site = (site_meets draft row c).holds site s; ipv4 = (addr_meets row d).holds addr p } in
-    let facts : IsNewName draft name × IsIface draft.scenario (record { name = name; vrf = vrf; site = site; addr = addr }) = ((name_meets draft row a).holds name n, own) in ok_meets _ _ facts))))
+    let four = (addr_meets row d).holds addr p in
+    let own : IsIface draft.scenario (record { name = name; vrf = vrf; site = site; addr = addr }) = record { vrf = (vrf_meets draft row b).holds vrf v; site = (site_meets draft row c).holds site s; addr = ipv4_addr addr four } in
+    let facts : IsNewName draft name × IsIface draft.scenario (record { name = name; vrf = vrf; site = site; addr = addr }) × IsIpv4 addr = ((name_meets draft row a).holds name n, own, four) in ok_meets _ _ facts))))
 
 iface_words_meets : (draft : Drafted) (row : Row) (id : IfaceId) (a b c d : Placed) → id.0 ≡ length draft.scenario.ifaces → length draft.scenario.ifaces < 1024 → Meets (IsDeclared draft) (iface_words draft row id a b c d)
 unfolding iface_words
 iface_words_meets draft row id a b c d next few =
-    bind_meets _ (iface_parts draft row a b c d) _ (λ iface i. let known = (iface_parts_meets draft row a b c d).holds iface i in iface_rules_meets draft row id c iface next few known.0 known.1)
+    bind_meets _ (iface_parts draft row a b c d) _ (λ iface i. let known = (iface_parts_meets draft row a b c d).holds iface i in iface_rules_meets draft row id c iface next few known.0 known.1 known.2)
 
 iface_counted_meets : (draft : Drafted) (row : Row) (id : IfaceId) (words : List Placed) → id.0 ≡ length draft.scenario.ifaces → length draft.scenario.ifaces < 1024 → Meets (IsDeclared draft) (iface_counted draft row id words)
 unfolding iface_counted

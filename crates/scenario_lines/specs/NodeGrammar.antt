@@ -15,7 +15,9 @@ use Rattle.scenario_draft.specs.Naming.{new_name, node_addr_at, node_at, other_e
 
 -- `NAME ADDR` of a node, which is an edge or not
 unfoldable pub node_words : Drafted → Row → Bool → NodeId → Placed → Placed → Result Line TextFault
-node_words draft row edge id a b = new_name draft row a >>= λ name. node_addr_at draft row b >>= λ addr. Ok (says.Node id (record { name = name; addr = addr; edge = edge }))
+node_words draft row edge id a b =
+    new_name draft row a >>= λ name. node_addr_at draft row b >>= λ addr.
+    Ok (says.Node id (record { name = name; addr = addr; edge = edge }))
 
 -- the words behind `edge` or `core`
 unfoldable pub node_counted : Drafted → Row → Bool → NodeId → List Placed → Result Line TextFault
@@ -32,7 +34,8 @@ is_full scenario edge = nat_le 64 (length scenario.nodes) || (edge && nat_le 32 
 -- a line of a node
 unfoldable pub node_line : Drafted → Row → Bool → Placed → List Placed → Result Line TextFault
 node_line draft row edge first rest =
-    if is_full draft.scenario edge then fault row.number first.column reasons.Limit else node_counted draft row edge (record { 0 = length draft.scenario.nodes }) rest
+    if is_full draft.scenario edge then fault row.number first.column reasons.Limit else
+    node_counted draft row edge (record { 0 = length draft.scenario.nodes }) rest
 
 -- the cost of a link that a text writes
 unfoldable pub cost_of : List ℕ → Option ℕ
@@ -46,7 +49,8 @@ link_between row b from to cost =
 -- `A B COST` of a link
 unfoldable pub link_words : Drafted → Row → Placed → Placed → Placed → Result Line TextFault
 link_words draft row a b c =
-    node_at draft row a >>= λ from. other_end_at draft row from b >>= λ to. or_fault (cost_of c.text) row c reasons.Number >>= λ cost. link_between row b from to cost
+    node_at draft row a >>= λ from. other_end_at draft row from b >>= λ to.
+    or_fault (cost_of c.text) row c reasons.Number >>= λ cost. link_between row b from to cost
 
 -- the words behind `link`
 unfoldable pub link_counted : Drafted → Row → List Placed → Result Line TextFault

@@ -35,7 +35,8 @@ scenario_word row first =
 
 -- the line that ends the scenario, whose core is connected
 unfoldable pub events_line : Drafted → Row → List Placed → Result Line TextFault
-events_line draft row [] = if is_connected (length draft.scenario.nodes) draft.scenario.links then Ok says.Events else fault row.number 1 reasons.Apart
+events_line draft row [] =
+    if is_connected (length draft.scenario.nodes) draft.scenario.links then Ok says.Events else fault row.number 1 reasons.Apart
 events_line draft row (a ∷ more) = fault row.number a.column reasons.Count
 
 -- a line by what its first word begins

@@ -19,7 +19,8 @@ use Rattle.scenario_draft.specs.Naming.{new_name, vrf_at, site_at}
 
 -- `NAME PREFIXES` of a site
 unfoldable pub site_words : Drafted → Row → SiteId → Placed → Placed → Result Line TextFault
-site_words draft row id a b = new_name draft row a >>= λ name. prefixes_at row b >>= λ prefixes. Ok (says.Site id (record { name = name; prefixes = prefixes }))
+site_words draft row id a b =
+    new_name draft row a >>= λ name. prefixes_at row b >>= λ prefixes. Ok (says.Site id (record { name = name; prefixes = prefixes }))
 
 -- the words behind `site`
 unfoldable pub site_counted : Drafted → Row → SiteId → List Placed → Result Line TextFault
@@ -31,7 +32,8 @@ site_counted draft row id (a ∷ b ∷ c ∷ more) = fault row.number c.column r
 -- a line of a site, of which there are at most 512
 unfoldable pub site_line : Drafted → Row → Placed → List Placed → Result Line TextFault
 site_line draft row first rest =
-    if nat_le 512 (length draft.scenario.sites) then fault row.number first.column reasons.Limit else site_counted draft row (record { 0 = length draft.scenario.sites }) rest
+    if nat_le 512 (length draft.scenario.sites) then fault row.number first.column reasons.Limit else
+    site_counted draft row (record { 0 = length draft.scenario.sites }) rest
 
 -- whether an interface puts the site into another VPN than the VRF's
 abbrev pub is_mixed : Scenario → Iface → Iface → Bool
@@ -39,7 +41,9 @@ is_mixed scenario new iface = iface.site.0 == new.site.0 && not (same_vpn scenar
 
 -- whether an interface attaches another site with a prefix of this site to the VRF's VPN
 abbrev pub is_taken : Scenario → Iface → Iface → Bool
-is_taken scenario new iface = not (iface.site.0 == new.site.0) && same_vpn scenario iface.vrf new.vrf && share_prefix (prefixes_of scenario new.site) (prefixes_of scenario iface.site)
+is_taken scenario new iface =
+    not (iface.site.0 == new.site.0) && same_vpn scenario iface.vrf new.vrf &&
+    share_prefix (prefixes_of scenario new.site) (prefixes_of scenario iface.site)
 
 -- the rules of an interface: its site is in one VPN, in which no other site has a prefix of it
 unfoldable pub iface_rules : Drafted → Row → IfaceId → Placed → Iface → Result Line TextFault
@@ -51,7 +55,8 @@ iface_rules draft row id c iface =
 -- `NAME VRF SITE ADDR` of an interface
 unfoldable pub iface_parts : Drafted → Row → Placed → Placed → Placed → Placed → Result Iface TextFault
 iface_parts draft row a b c d =
-    new_name draft row a >>= λ name. vrf_at draft row b >>= λ vrf. site_at draft row c >>= λ site. addr_at row d >>= λ addr. Ok (record { name = name; vrf = vrf; site = site; addr = addr })
+    new_name draft row a >>= λ name. vrf_at draft row b >>= λ vrf. site_at draft row c >>= λ site.
+    addr_at row d >>= λ addr. Ok (record { name = name; vrf = vrf; site = site; addr = addr })
 
 -- `iface NAME VRF SITE ADDR`
 unfoldable pub iface_words : Drafted → Row → IfaceId → Placed → Placed → Placed → Placed → Result Line TextFault
@@ -69,4 +74,5 @@ iface_counted draft row id (a ∷ b ∷ c ∷ d ∷ e ∷ more) = fault row.numb
 -- a line of an interface, of which there are at most 1,024
 unfoldable pub iface_line : Drafted → Row → Placed → List Placed → Result Line TextFault
 iface_line draft row first rest =
-    if nat_le 1024 (length draft.scenario.ifaces) then fault row.number first.column reasons.Limit else iface_counted draft row (record { 0 = length draft.scenario.ifaces }) rest
+    if nat_le 1024 (length draft.scenario.ifaces) then fault row.number first.column reasons.Limit else
+    iface_counted draft row (record { 0 = length draft.scenario.ifaces }) rest

@@ -20,11 +20,15 @@ use Rattle.scenario_lines.specs.declared.vrf_lines.VrfTail.{VrfTail}
 
 -- `NAME EDGE NUMBER` of a VRF
 unfoldable pub vrf_head : Drafted → Row → Placed → Placed → Placed → Result VrfHead TextFault
-vrf_head draft row a b c = new_name draft row a >>= λ name. edge_at draft row b >>= λ edge. vrf_number_at draft row edge c >>= λ number. Ok (record { name = name; edge = edge; number = number })
+vrf_head draft row a b c =
+    new_name draft row a >>= λ name. edge_at draft row b >>= λ edge. vrf_number_at draft row edge c >>= λ number.
+    Ok (record { name = name; edge = edge; number = number })
 
 -- `RD TARGETS RULE` of a VRF
 unfoldable pub vrf_tail : Drafted → Row → NodeId → Placed → Placed → Placed → Result VrfTail TextFault
-vrf_tail draft row edge d e f = rd_at draft row edge d >>= λ rd. targets_at row e >>= λ targets. rule_at row f >>= λ rule. Ok (record { rd = rd; targets = targets; rule = rule })
+vrf_tail draft row edge d e f =
+    rd_at draft row edge d >>= λ rd. targets_at row e >>= λ targets. rule_at row f >>= λ rule.
+    Ok (record { rd = rd; targets = targets; rule = rule })
 
 -- whether the VRF has a member of the set among its targets, and its own set is not equal to it
 abbrev pub overlaps : List Target → Vrf → Bool
@@ -39,11 +43,19 @@ unfoldable pub vrf_rules : Drafted → Row → VrfId → Placed → VrfHead → 
 vrf_rules draft row id e head tail =
     if list_any (overlaps tail.targets) draft.scenario.vrfs then fault row.number e.column reasons.Overlap else
     if list_any (is_vpn_at head.edge tail.targets) draft.scenario.vrfs then fault row.number e.column reasons.Vpn else
-    Ok (says.Vrf id (record { name = head.name; edge = head.edge; number = head.number; rd = tail.rd; targets = tail.targets; rule = tail.rule }))
+    Ok (says.Vrf id (record {
+      name = head.name;
+      edge = head.edge;
+      number = head.number;
+      rd = tail.rd;
+      targets = tail.targets;
+      rule = tail.rule;
+    }))
 
 -- `vrf NAME EDGE NUMBER RD TARGETS RULE`
 unfoldable pub vrf_words : Drafted → Row → VrfId → Placed → Placed → Placed → Placed → Placed → Placed → Result Line TextFault
-vrf_words draft row id a b c d e f = vrf_head draft row a b c >>= λ head. vrf_tail draft row head.edge d e f >>= λ tail. vrf_rules draft row id e head tail
+vrf_words draft row id a b c d e f =
+    vrf_head draft row a b c >>= λ head. vrf_tail draft row head.edge d e f >>= λ tail. vrf_rules draft row id e head tail
 
 -- the words behind `vrf`
 unfoldable pub vrf_counted : Drafted → Row → VrfId → List Placed → Result Line TextFault
@@ -59,4 +71,5 @@ vrf_counted draft row id (a ∷ b ∷ c ∷ d ∷ e ∷ f ∷ g ∷ more) = faul
 -- a line of a VRF, of which there are at most 256
 unfoldable pub vrf_line : Drafted → Row → Placed → List Placed → Result Line TextFault
 vrf_line draft row first rest =
-    if nat_le 256 (length draft.scenario.vrfs) then fault row.number first.column reasons.Limit else vrf_counted draft row (record { 0 = length draft.scenario.vrfs }) rest
+    if nat_le 256 (length draft.scenario.vrfs) then fault row.number first.column reasons.Limit else
+    vrf_counted draft row (record { 0 = length draft.scenario.vrfs }) rest

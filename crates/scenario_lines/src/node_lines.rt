@@ -1,7 +1,8 @@
 //! The lines of nodes and links.
 ghost use Rattle.std.specs.Prelude.{◌≡◌, map, count_by};
 ghost use Rattle.line_words.specs.Words.{placed_word};
-ghost use Rattle.scenario_lines.specs.NodeGrammar.{node_words, node_counted, is_full, node_line, cost_of, link_between, link_words, link_counted, link_line};
+ghost use Rattle.scenario_lines.specs.NodeGrammar.{node_words, node_counted, is_full, node_line, cost_of, link_between, link_words};
+ghost use Rattle.scenario_lines.specs.NodeGrammar.{link_counted, link_line};
 
 use line_words::{Reason, Row, TextFault, Word, fault_at, or_fault};
 use mv_base::{Link, NodeId, read_number};

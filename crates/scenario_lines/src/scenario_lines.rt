@@ -4,7 +4,8 @@ ghost use Rattle.core_walks.specs.Topology.{IsTopology};
 ghost use Rattle.core_walks.specs.Reached.{is_connected};
 ghost use Rattle.line_words.specs.Answers.{Gives};
 ghost use Rattle.line_words.specs.Words.{placed_word};
-ghost use Rattle.scenario_lines.specs.ScenarioGrammar.{scenario_word, events_line, scenario_words, ends_in_hash, names_hash, has_ipv6_site, has_ipv6_addr, is_unbuilt_form, scenario_line};
+ghost use Rattle.scenario_lines.specs.ScenarioGrammar.{scenario_word, events_line, scenario_words, ends_in_hash, names_hash};
+ghost use Rattle.scenario_lines.specs.ScenarioGrammar.{has_ipv6_site, has_ipv6_addr, is_unbuilt_form, scenario_line};
 
 use crate::node_lines::{link_line, node_line};
 use crate::setting_lines::{setting_line, setting_of};

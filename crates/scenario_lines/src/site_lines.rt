@@ -2,7 +2,8 @@
 ghost use Rattle.std.specs.Prelude.{◌≡◌, map};
 ghost use Rattle.line_words.specs.Answers.{Gives};
 ghost use Rattle.line_words.specs.Words.{placed_word};
-ghost use Rattle.scenario_lines.specs.SiteGrammar.{site_words, site_counted, site_line, iface_rules, iface_parts, iface_words, iface_counted, iface_line};
+ghost use Rattle.scenario_lines.specs.SiteGrammar.{site_words, site_counted, site_line, iface_rules, iface_parts, iface_words};
+ghost use Rattle.scenario_lines.specs.SiteGrammar.{iface_counted, iface_line};
 
 use crate::lists::{is_any_mixed, is_any_taken};
 use line_words::{ReadFault, Reason, Row, TextFault, Word, addr_at, fault_at, prefixes_at};
@@ -102,7 +103,8 @@ fn iface_parts(
     site: &Word,
     addr: &Word,
 ) -> Result<Iface, TextFault>
-    ensures { result ≡ iface_parts draft.now row (placed_word name.now) (placed_word vrf.now) (placed_word site.now) (placed_word addr.now) }
+    ensures { result ≡ iface_parts draft.now row
+        (placed_word name.now) (placed_word vrf.now) (placed_word site.now) (placed_word addr.now) }
 {
     let name = new_name(draft, row, name)?;
     let vrf = vrf_at(draft, row, vrf)?;
@@ -126,7 +128,8 @@ fn iface_words(
     site: &Word,
     addr: &Word,
 ) -> Result<Line, TextFault>
-    ensures { result ≡ iface_words draft.now row id (placed_word name.now) (placed_word vrf.now) (placed_word site.now) (placed_word addr.now) }
+    ensures { result ≡ iface_words draft.now row id
+        (placed_word name.now) (placed_word vrf.now) (placed_word site.now) (placed_word addr.now) }
 {
     let iface = iface_parts(draft, row, name, vrf, site, addr)?;
     iface_rules(draft, row, id, site, iface)

@@ -108,7 +108,9 @@ fn vrf_words(
     targets: &Word,
     rule: &Word,
 ) -> Result<Line, ReadFault>
-    ensures { Gives result (vrf_words draft.now row id (placed_word name.now) (placed_word edge.now) (placed_word number.now) (placed_word rd.now) (placed_word targets.now) (placed_word rule.now)) }
+    ensures { Gives result (vrf_words draft.now row id
+        (placed_word name.now) (placed_word edge.now) (placed_word number.now)
+        (placed_word rd.now) (placed_word targets.now) (placed_word rule.now)) }
 {
     let head = vrf_head(draft, row, name, edge, number)?;
     let tail = vrf_tail(alloc, draft, row, head.edge, rd, targets, rule)?;

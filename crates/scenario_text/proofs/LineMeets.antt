@@ -4,6 +4,7 @@ use Rattle.std.specs.Prelude.{Result, Ok, Err}
 use Rattle.std.specs.List.{AllByRecursion, slice_split}
 use Rattle.std.proofs.lemmas.Bool.Decides.{nat_tests}
 use Rattle.core_walks.specs.Topology.{IsTopology}
+use Rattle.scenario_defs.specs.Built.{IsBuiltScenario}
 use Rattle.line_words.specs.declared.fault.TextFault.{TextFault}
 use Rattle.line_words.specs.declared.words.Row.{Row}
 use Rattle.line_words.specs.Words.{Placed, placed, words_of}
@@ -18,9 +19,10 @@ use Rattle.scenario_lines.proofs.LineFacts.{scenario_line_meets}
 use Rattle.event_lines.proofs.EventFacts.{IsTold, IsToldBelow, event_line_meets}
 use Rattle.scenario_text.specs.Grammar.{row_of, words_line, line_of}
 
--- The nodes and links so far are a topology.
-abbrev pub HasTopology : Drafted → Type 0
-HasTopology draft = IsTopology (length draft.scenario.nodes) draft.scenario.links
+-- The nodes and links so far are a topology, and all is of forms that are built.
+pub record IsSound (draft : Drafted) : Type 0 where
+  pub topology : IsTopology (length draft.scenario.nodes) draft.scenario.links
+  pub built : IsBuiltScenario draft.scenario
 
 -- What a line keeps to: it says nothing, is of the scenario, or is of an event.
 abbrev pub IsSaid : Drafted → Line → Type 0
@@ -30,10 +32,10 @@ begun_meets : (draft : Drafted) (b : Bool) (x y : Result Line TextFault) → dra
 begun_meets draft true x y e h k = record { holds = λ said s. inr (inr (e, h.holds said s)) }
 begun_meets draft false x y e h k = record { holds = λ said s. inr (inl (e, k.holds said s)) }
 
-words_line_meets : (draft : Drafted) (row : Row) (words : List Placed) → HasTopology draft → AllByRecursion (λ w. length w.text ≤ 4096) words → Meets (IsSaid draft) (words_line draft row words)
+words_line_meets : (draft : Drafted) (row : Row) (words : List Placed) → IsSound draft → AllByRecursion (λ w. length w.text ≤ 4096) words → Meets (IsSaid draft) (words_line draft row words)
 unfolding words_line
 words_line_meets draft row [] core h = ok_meets _ _ (inl refl)
-words_line_meets draft row (first ∷ rest) core h = begun_meets draft draft.begun _ _ refl (event_line_meets draft row first rest h.1) (scenario_line_meets draft row first rest core)
+words_line_meets draft row (first ∷ rest) core h = begun_meets draft draft.begun _ _ refl (event_line_meets draft core.built row first rest h.1) (scenario_line_meets draft row first rest core.topology)
 
 -- The words of a line are no longer than the line.
 placed_if : (n column : ℕ) (part : List ℕ) (more : List Placed) (b : Bool) → length part ≤ n → AllByRecursion (λ w. length w.text ≤ n) more → AllByRecursion (λ w. length w.text ≤ n) (cond b more (record { column = column; text = part } ∷ more))
@@ -60,7 +62,7 @@ at_most_line : (n : ℕ) → nat_lt 4096 n ≡ false → n ≤ 4096
 at_most_line n h = grind (arith, nat_tests)
 
 -- A line that is without fault keeps to what is said of its kind.
-pub line_meets : (draft : Drafted) (number : ℕ) (octets : List ℕ) → HasTopology draft → Meets (IsSaid draft) (line_of draft number octets)
+pub line_meets : (draft : Drafted) (number : ℕ) (octets : List ℕ) → IsSound draft → Meets (IsSaid draft) (line_of draft number octets)
 unfolding line_of
 line_meets draft number octets core =
     blank_meets draft _ _ (if_meets _ _ _ _ (λ short. outside_meets _ _ _ _ (words_line_meets draft (row_of number octets) (words_of octets) core (words_short octets (at_most_line (length octets) short)))))
@@ -93,5 +95,5 @@ said_new draft said (inr (inl declared)) = declared_new draft said declared.1
 said_new draft said (inr (inr told)) = told_new draft said told.1.1
 
 -- A line declares a new name.
-pub line_new : (draft : Drafted) (number : ℕ) (octets : List ℕ) (said : Line) → HasTopology draft → line_of draft number octets ≡ Ok said → IsNew draft said
+pub line_new : (draft : Drafted) (number : ℕ) (octets : List ℕ) (said : Line) → IsSound draft → line_of draft number octets ≡ Ok said → IsNew draft said
 line_new draft number octets said core e = said_new draft said ((line_meets draft number octets core).holds said e)

@@ -14,7 +14,7 @@ use Rattle.scenario_draft.specs.Declaring.{IsDeclared}
 use Rattle.scenario_draft.proofs.KeptRules.{Kept, kept_empty, kept_added, kept_told, rules_of_kept}
 use Rattle.event_lines.proofs.EventFacts.{IsToldBelow}
 use Rattle.scenario_text.specs.Grammar.{line_of, script_at}
-use Rattle.scenario_text.proofs.LineMeets.{IsSaid, line_meets}
+use Rattle.scenario_text.proofs.LineMeets.{IsSaid, IsSound, line_meets}
 
 -- Events one after the other.
 all_snoc : (P : Timed → Type 0) (xs : List Timed) (y : Timed) → AllByRecursion P xs → P y → AllByRecursion P (xs ++ y ∷ [])
@@ -127,9 +127,12 @@ said_holds draft number said h (inl blank) = subst (λ (x : Line). Holds (added 
 said_holds draft number said h (inr (inl declared)) = declared_holds draft number said h declared.0 declared.1
 said_holds draft number said h (inr (inr told)) = told_holds draft number said h told.0 told.1
 
+pub sound : (draft : Drafted) (number : ℕ) → Holds draft number → IsSound draft
+sound draft number h = record { topology = h.kept.core.topology; built = h.kept.built }
+
 -- A line that is without fault keeps that.
 pub line_holds : (draft : Drafted) (number : ℕ) (octets : List ℕ) (said : Line) → Holds draft number → line_of draft number octets ≡ Ok said → Holds (added draft number said) (number + 1)
-line_holds draft number octets said h e = said_holds draft number said h ((line_meets draft number octets h.kept.core.topology).holds said e)
+line_holds draft number octets said h e = said_holds draft number said h ((line_meets draft number octets (sound draft number h)).holds said e)
 
 -- The script meets the rules once the scenario has ended.
 pub script_rules : (draft : Drafted) (number : ℕ) → Holds draft number → draft.begun ≡ true → ScriptRules (script_at draft number)

@@ -12,7 +12,8 @@ use Rattle.scenario_text.specs.Grammar.{line_of, script_at, script_of}
 -- The lines from that number on are without fault, and take the old draft to the new one.
 abbrev pub Says : Drafted → ℕ → List (List ℕ) → Drafted → Type 0
 Says old number [] new = new ≡ old
-Says old number (octets ∷ more) new = (said : Line) × (line_of old number octets ≡ Ok said) × Says (added old number said) (number + 1) more new
+Says old number (octets ∷ more) new =
+    (said : Line) × (line_of old number octets ≡ Ok said) × Says (added old number said) (number + 1) more new
 
 -- The fault is that of the next line, or of the end.
 abbrev pub IsFaultyAt : Drafted → ℕ → List (List ℕ) → TextFault → Type 0

@@ -1,5 +1,6 @@
 -- The grammar of a text: what each line says, given what the lines before it declared, or its first fault.
-use Rattle.std.specs.Prelude.{ℕ, ◌+◌, ◌==◌, ◌||◌, Bool, true, nat_lt, List, [], ◌∷◌, length, None, Some, Result, Ok, if◌then◌else◌, position}
+use Rattle.std.specs.Prelude.{ℕ, ◌+◌, ◌==◌, ◌||◌, Bool, true, nat_lt, List, [], ◌∷◌, length, None, Some, Result, Ok, if◌then◌else◌}
+use Rattle.std.specs.Prelude.{position}
 use Rattle.std.specs.List.{list_all}
 use Rattle.std.specs.Str.Lines.{lines}
 use Rattle.scenario_defs.specs.declared.event.Script.{Script}

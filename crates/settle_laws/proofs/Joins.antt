@@ -22,7 +22,8 @@ use Rattle.edge_defs.specs.Edge.{VrfFlow, Upstream, Site, Remote, Taken, Control
 use Rattle.edge_defs.specs.Held.{join_route, join_routes, held_for, told, put_to}
 use Rattle.edge_defs.specs.Imported.{found_in}
 use Rattle.edge_defs.specs.Keys.{Value, Table, key_cmp, same_value}
-use Rattle.edge_defs.specs.Originated.{afi_of, import_target, originated}
+use Rattle.bgp_update.specs.Written.{afi_of}
+use Rattle.edge_defs.specs.Originated.{import_target, originated}
 use Rattle.edge_defs.specs.Place.{EdgePlace, own_addr}
 use Rattle.edge_defs.specs.Steps as steps
 use Rattle.edge_defs.specs.Steps.{taken_change, control_step, refreshed}

@@ -23,11 +23,15 @@ source_line word source = word ++ source_kind_text source.kind ++ codes " " ++ a
 
 -- the line of a group, and then those of its joins and of its prunes
 abbrev pub group_lines : Group → List ℕ
-group_lines group = codes "group " ++ addr_text group.group ++ codes "\n" ++ flat_map (source_line (codes "join ")) group.joins ++ flat_map (source_line (codes "prune ")) group.prunes
+group_lines group =
+    codes "group " ++ addr_text group.group ++ codes "\n" ++ flat_map (source_line (codes "join ")) group.joins ++
+    flat_map (source_line (codes "prune ")) group.prunes
 
 -- the line of the neighbour and the holdtime, and then those of the groups
 abbrev pub joinprune_lines : JoinPrune → List ℕ
-joinprune_lines message = codes "joinprune " ++ addr_text message.neighbour ++ codes " " ++ decimal message.holdtime ++ codes "\n" ++ flat_map group_lines message.groups
+joinprune_lines message =
+    codes "joinprune " ++ addr_text message.neighbour ++ codes " " ++ decimal message.holdtime ++ codes "\n" ++
+    flat_map group_lines message.groups
 
 -- the word of a fault
 abbrev pub pim_word : PimFault → List ℕ

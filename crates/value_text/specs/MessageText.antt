@@ -60,7 +60,9 @@ attribute_text (Some pmsi) = encode_lower (pmsis.written pmsi)
 
 -- the line of an announced route: next hop, communities, tunnel, and what it is announced by
 abbrev pub reach_line : Advert → List ℕ
-reach_line a = codes "reach " ++ addr_text a.next_hop ++ codes " " ++ comms_text a.comms ++ codes " " ++ attribute_text a.pmsi ++ codes " " ++ nlri_text a.key ++ codes "\n"
+reach_line a =
+    codes "reach " ++ addr_text a.next_hop ++ codes " " ++ comms_text a.comms ++ codes " " ++
+    attribute_text a.pmsi ++ codes " " ++ nlri_text a.key ++ codes "\n"
 
 -- the line of a withdrawn route
 abbrev pub unreach_line : Key → List ℕ

@@ -30,11 +30,15 @@ group_text octets place = encode_lower (take 2 (drop place octets))
 
 -- four such groups with colons between them
 abbrev pub groups_text : List ℕ → ℕ → List ℕ
-groups_text octets place = group_text octets place ++ codes ":" ++ group_text octets (place + 2) ++ codes ":" ++ group_text octets (place + 4) ++ codes ":" ++ group_text octets (place + 6)
+groups_text octets place =
+    group_text octets place ++ codes ":" ++ group_text octets (place + 2) ++ codes ":" ++
+    group_text octets (place + 4) ++ codes ":" ++ group_text octets (place + 6)
 
 -- an address: four decimal numbers with points between them, or eight groups with colons between them
 abbrev pub addr_text : Addr → List ℕ
-addr_text (V4 octets) = decimal (slice_index octets 0) ++ codes "." ++ decimal (slice_index octets 1) ++ codes "." ++ decimal (slice_index octets 2) ++ codes "." ++ decimal (slice_index octets 3)
+addr_text (V4 octets) =
+    decimal (slice_index octets 0) ++ codes "." ++ decimal (slice_index octets 1) ++ codes "." ++
+    decimal (slice_index octets 2) ++ codes "." ++ decimal (slice_index octets 3)
 addr_text (V6 octets) = groups_text octets 0 ++ codes ":" ++ groups_text octets 8
 
 -- the word of a kind
@@ -79,7 +83,9 @@ flag_text false = codes "0"
 
 -- the line of a tunnel attribute: the flag, the tunnel type, the label and the identifier
 abbrev pub pmsi_line : Pmsi → List ℕ
-pmsi_line pmsi = codes "pmsi " ++ flag_text pmsi.leaf_info ++ codes " " ++ decimal (type_octet pmsi.tunnel) ++ codes " " ++ label_text pmsi.label ++ codes " " ++ tunnel_text pmsi.tunnel ++ codes "\n"
+pmsi_line pmsi =
+    codes "pmsi " ++ flag_text pmsi.leaf_info ++ codes " " ++ decimal (type_octet pmsi.tunnel) ++ codes " " ++
+    label_text pmsi.label ++ codes " " ++ tunnel_text pmsi.tunnel ++ codes "\n"
 
 -- the word of a fault of a tunnel attribute
 abbrev pub pmsi_word : PmsiReason → List ℕ
@@ -103,7 +109,9 @@ inter_text rd source_as = codes "inter " ++ encode_lower rd.0 ++ codes " " ++ de
 
 -- an S-PMSI route
 abbrev pub selective_text : Rd → Option Addr → Option Addr → Addr → List ℕ
-selective_text rd source group originator = codes "selective " ++ encode_lower rd.0 ++ codes " " ++ any_text source ++ codes " " ++ any_text group ++ codes " " ++ addr_text originator
+selective_text rd source group originator =
+    codes "selective " ++ encode_lower rd.0 ++ codes " " ++ any_text source ++ codes " " ++ any_text group ++
+    codes " " ++ addr_text originator
 
 -- source and group
 abbrev pub flow_text : Addr → Addr → List ℕ

@@ -2,7 +2,8 @@
 ghost use Rattle.std.specs.Prelude.{◌≡◌, ◌++◌, OnOk};
 ghost use Rattle.std.specs.List.{flat_map, AllByRecursion};
 ghost use Rattle.hex.specs.Hex.{encode_lower};
-ghost use Rattle.value_text.specs.MessageText.{prefix_text, unicast_text, family_text, nlri_text, more_text, comms_text, attribute_text, HasOctets, reach_line, unreach_line, other_line};
+ghost use Rattle.value_text.specs.MessageText.{prefix_text, unicast_text, family_text, nlri_text, more_text, comms_text};
+ghost use Rattle.value_text.specs.MessageText.{attribute_text, HasOctets, reach_line, unreach_line, other_line};
 
 use crate::addr_text::put_addr;
 use crate::digits::put_digits;

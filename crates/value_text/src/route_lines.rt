@@ -1,7 +1,8 @@
 //! MCAST-VPN routes, and their lines.
 ghost use Rattle.std.specs.Prelude.{◌≡◌, ◌++◌, ◌+◌, ◌<◌, ◌^◌, OnOk};
 ghost use Rattle.hex.specs.Hex.{encode_lower};
-ghost use Rattle.value_text.specs.ValueText.{any_text, intra_text, active_text, inter_text, selective_text, flow_text, join_text, key_text, route_text, route_line, route_word, refused_line};
+ghost use Rattle.value_text.specs.ValueText.{any_text, intra_text, active_text, inter_text, selective_text, flow_text, join_text};
+ghost use Rattle.value_text.specs.ValueText.{key_text, route_text, route_line, route_word, refused_line};
 
 use crate::addr_text::put_addr;
 use crate::digits::put_digits;

@@ -1,5 +1,6 @@
 -- The acts of a network, each with its lines.
-use Rattle.std.specs.Prelude.{ℕ, ◌+◌, ◌-◌, ◌==◌, ◌&&◌, ◌||◌, Bool, nat_le, List, [], ◌∷◌, ◌++◌, map, length, take, slice_get, Option, None, Some, Result, Ok, Err, if◌then◌else◌}
+use Rattle.std.specs.Prelude.{ℕ, ◌+◌, ◌-◌, ◌==◌, ◌&&◌, ◌||◌, Bool, nat_le, List, [], ◌∷◌, ◌++◌, map, length, take}
+use Rattle.std.specs.Prelude.{slice_get, Option, None, Some, Result, Ok, Err, if◌then◌else◌}
 use Rattle.std.specs.List.{filter, flat_map, remove}
 use Rattle.mv_base.specs.declared.ids.NodeId.{NodeId}
 use Rattle.mv_base.specs.declared.ids.VrfId.{VrfId}
@@ -18,7 +19,7 @@ use Rattle.session_defs.specs.declared.direction.Direction.{Direction}
 use Rattle.edge_defs.specs.Datagrams.{Fate, discarded, tree_of, entering_fate, arriving_fate}
 use Rattle.edge_defs.specs.Place.{OwnVrf}
 use Rattle.edge_defs.specs.Steps as steps
-use Rattle.mvpn_model.specs.Sessions.{is_between}
+use Rattle.label_defs.specs.Between.{is_between, is_either}
 use Rattle.world_defs.specs.Counts.{direction, directions, state_line}
 use Rattle.world_defs.specs.Nodes.{NodeState, Edge, CoreNode, Nodes, place_of}
 use Rattle.world_defs.specs.System.{NodeCall, Own, Elapse, Reset, Price, Follow, system}
@@ -75,7 +76,7 @@ abbrev pub is_of_session : Kind → NodeId → NodeId → Direction → Bool
 is_of_session kind a b over = same_kind kind over.kind && is_between a b over.from over.to
 
 abbrev pub is_at : NodeId → Direction → Bool
-is_at node over = (over.from.0 == node.0) || (over.to.0 == node.0)
+is_at node over = is_either node over.from over.to
 
 -- whether the direction leads to the node, and whether it does so within the session
 abbrev pub leads_to : NodeId → Direction → Bool

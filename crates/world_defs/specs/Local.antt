@@ -1,5 +1,6 @@
 -- What a report licenses, hop by hop, by the octets of its own lines (RFC 6513 section 9.1.1, RFC 6388 section 2.4, RFC 6514 section 11).
-use Rattle.std.specs.Prelude.{◌≡◌, ◌⊎◌, ℕ, ◌==◌, ◌&&◌, ◌||◌, ◌<◌, ◌-◌, Bool, true, false, List, [], ◌∷◌, ◌++◌, fold, slice_get, Option, Some, if◌then◌else◌}
+use Rattle.std.specs.Prelude.{◌≡◌, ◌⊎◌, ℕ, ◌==◌, ◌&&◌, ◌||◌, ◌<◌, ◌-◌, Bool, true, false, List, [], ◌∷◌, ◌++◌, fold}
+use Rattle.std.specs.Prelude.{slice_get, Option, Some, if◌then◌else◌}
 use Rattle.std.specs.List.{flat_map, list_any, AllByRecursion}
 use Rattle.mv_base.specs.declared.ids.IfaceId.{IfaceId}
 use Rattle.mv_base.specs.declared.ids.NodeId.{NodeId}
@@ -24,7 +25,7 @@ use Rattle.scenario_defs.specs.Kinds.{same_kind}
 use Rattle.edge_defs.specs.Imported.{lsp_of, is_admitted, has_comm}
 use Rattle.edge_defs.specs.Originated.{import_target}
 use Rattle.edge_defs.specs.Place.{addr_of, lsp, tunnel_number}
-use Rattle.mvpn_model.specs.Sessions.{is_between}
+use Rattle.label_defs.specs.Between.{is_between}
 use Rattle.world_defs.specs.Acts.{Act, RaiseFirst, RaiseSecond, Notice, Restart, Enter, Land}
 use Rattle.world_defs.specs.Run.{Traced}
 use Rattle.world_defs.specs.World.{World, Datagram, numbered, scenario_of}

@@ -16,7 +16,8 @@ use Rattle.scenario_defs.specs.declared.scenario.Vrf.{Vrf}
 use Rattle.edge_defs.specs.Edge.{Note, VrfPattern, Selected, VrfFlow, Import, Upstream, Site, Remote, Control}
 use Rattle.edge_defs.specs.Held.{join_route, join_routes, held_for}
 use Rattle.edge_defs.specs.Keys.{Value}
-use Rattle.edge_defs.specs.Originated.{target_comms, import_comm, source_as_comm, import_target, own_import, afi_of, selective_key, active_key, plain_value, unicast_value, tunnel_value, unicast_routes, is_iface_of, notes_of, active_routes, selective_routes, routes_of, originated}
+use Rattle.bgp_update.specs.Written.{afi_of}
+use Rattle.edge_defs.specs.Originated.{target_comms, import_comm, source_as_comm, import_target, own_import, selective_key, active_key, plain_value, unicast_value, tunnel_value, unicast_routes, is_iface_of, notes_of, active_routes, selective_routes, routes_of, originated}
 use Rattle.edge_defs.specs.Place.{EdgePlace, OwnVrf, own_addr, own_vrfs, tunnel_number}
 use Rattle.world_laws.specs.Sound.{IsHost, IsFlow, AreEight, SoundScenario, SoundPattern, SoundUpstream, SoundControl}
 use Rattle.edge_defs.proofs.KeyLemmas.{key_total, key_exact, note_total, pattern_total, flow_total}

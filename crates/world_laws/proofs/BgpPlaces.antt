@@ -14,7 +14,7 @@ use Rattle.mv_base.specs.declared.ids.VrfId.{VrfId}
 use Rattle.mv_base.specs.declared.prefix.Prefix.{Prefix}
 use Rattle.route_targets.specs.declared.communities.Target.{Target}
 use Rattle.scenario_defs.specs.Home.{routes_of_site, routes_from, local_routes}
-use Rattle.scenario_defs.specs.Rules.{IsUnicast, IsTarget, IsVrf, IsSite, IsSitePrefix}
+use Rattle.scenario_defs.specs.Rules.{IsIpv4, IsTarget, IsVrf, IsSite, IsSitePrefix}
 use Rattle.scenario_defs.specs.Vpn.{is_attached_at}
 use Rattle.scenario_defs.specs.declared.scenario.Node.{Node}
 use Rattle.scenario_defs.specs.declared.scenario.Route.{Route}
@@ -31,9 +31,9 @@ all_both P Q S f (x ∷ xs) a b = (f x a.0 b.0, all_both P Q S f xs a.1 b.1)
 
 -- ---- the address of a node
 
-unicast_host : (addr : Addr) → IsUnicast addr → IsOctets (addr_octets addr) → IsHost addr
-unicast_host (V4 octets) is fits = (is.0, fits)
-unicast_host (V6 octets) is fits = absurd is
+ipv4_host : (addr : Addr) → IsIpv4 addr → IsOctets (addr_octets addr) → IsHost addr
+ipv4_host (V4 octets) is fits = (is, fits)
+ipv4_host (V6 octets) is fits = absurd is
 
 node_host : (found : Option Node) (node : Node) → found ≡ Some node → IsHost node.addr → IsHost (elim found [ None ↦ V4 [] | Some other ↦ other.addr ])
 node_host None node e h = absurd cc
@@ -43,9 +43,9 @@ pub addr_host : (scenario : Scenario) → SoundScenario scenario → (n : NodeId
 addr_host scenario sound n lt = elim (slice_get_cases scenario.nodes n.0).1 [
   | inl there ↦
       (let node = there.0 in
-      let is = subst (λ (x : Node). IsUnicast x.addr) there.3 (All-get_or (λ (x : Node). IsUnicast x.addr) scenario.nodes n.0 node lt sound.rules.core.unicast) in
+      let is = subst (λ (x : Node). IsIpv4 x.addr) there.3 (All-get_or (λ (x : Node). IsIpv4 x.addr) scenario.nodes n.0 node lt sound.rules.core.ipv4) in
       let fits = subst (λ (x : Node). IsOctets (addr_octets x.addr)) there.3 (All-get_or (λ (x : Node). IsOctets (addr_octets x.addr)) scenario.nodes n.0 node lt sound.octets.nodes) in
-      node_host (slice_get scenario.nodes n.0) node there.2 (unicast_host node.addr is fits))
+      node_host (slice_get scenario.nodes n.0) node there.2 (ipv4_host node.addr is fits))
   | inr past ↦ absurd (omega (arith, past.0, lt))
 ]
 

@@ -19,8 +19,9 @@ use Rattle.mvpn_nlri.specs.declared.route.Route.TheVariants as routes
 use Rattle.bgp_attributes.specs.Spelling.{octets_for}
 use Rattle.bgp_attributes.specs.declared.key.Key.TheVariants.{Mcast, Unicast}
 use Rattle.bgp_update.specs.Written.{advertised, withdrawn, vpn_text}
-use Rattle.scenario_defs.specs.Rules.{IsIpv4, IsSitePrefix}
-use Rattle.edge_defs.specs.Originated.{afi_of, afi_by}
+use Rattle.scenario_defs.specs.Rules.{IsSitePrefix}
+use Rattle.bgp_update.specs.Written.{afi_of}
+use Rattle.edge_defs.specs.Originated.{afi_by}
 use Rattle.world_laws.specs.Sound.{IsHost, IsCustomer, IsGroupAddr, IsFlow, AreAlike, AreEight, SoundPattern}
 use Rattle.world_laws.proofs.BgpOctets.{octets_cons, octets_append, one_octet, octets_of_32, host_octets, host_length}
 use Rattle.world_laws.proofs.BgpTexts.{FitsKey, host_addr}
@@ -144,10 +145,6 @@ vpn_length : (addr : Addr) → IsAddr addr → length (addr_octets addr) ≤ 16
 vpn_length (V4 octets) len = omega (arith, len)
 vpn_length (V6 octets) len = omega (arith, len)
 
-ipv4_addr : (addr : Addr) → IsIpv4 addr → IsAddr addr
-ipv4_addr (V4 octets) len = len
-ipv4_addr (V6 octets) len = absurd len
-
 vpn_fits : (label : List ℕ) (rd : Rd) (addr : Addr) (bits : ℕ) → IsOctets label → AreEight rd.0 → bits ≤ 128 → IsOctets (addr_octets addr) → IsOctets (vpn_text label rd (record { addr = addr; bits = bits }))
 vpn_fits label rd addr bits l r le fits =
     let front : List ℕ = take (octets_for bits) (addr_octets addr) in
@@ -162,10 +159,9 @@ vpn_few label rd addr bits l r few =
 pub unicast_fits : (rd : Rd) (prefix : Prefix) → AreEight rd.0 → IsSitePrefix prefix → IsOctets (addr_octets prefix.addr) → FitsKey (Unicast rd prefix)
 unicast_fits rd prefix r is fits =
     let le : prefix.bits ≤ 128 = vpn_bits prefix.addr prefix.bits is.bits in
-    let own : IsAddr prefix.addr = ipv4_addr prefix.addr is.ipv4 in
-    let few = vpn_length prefix.addr own in
+    let few = vpn_length prefix.addr is.addr in
     record {
-      writable = record { rd_len = r.0; is_prefix = (own, is.bits) };
+      writable = record { rd_len = r.0; is_prefix = (is.addr, is.bits) };
       prefix = fits;
       reach = vpn_fits advertised rd prefix.addr prefix.bits (octets_cons 0 (0 ∷ 0x31 ∷ []) (omega arith) (octets_cons 0 (0x31 ∷ []) (omega arith) (one_octet 0x31 (omega arith)))) r le fits;
       reach_few = vpn_few advertised rd prefix.addr prefix.bits refl r few;

@@ -29,7 +29,7 @@ use Rattle.mvpn_model.specs.declared.message.Given.{Given}
 use Rattle.scenario_defs.specs.declared.event.JoinEntry.{JoinEntry}
 use Rattle.scenario_defs.specs.declared.event.JoinEntry.TheVariants as entries
 use Rattle.scenario_defs.specs.declared.scenario.Scenario.{Scenario}
-use Rattle.edge_defs.specs.Originated.{afi_of}
+use Rattle.bgp_update.specs.Written.{afi_of}
 use Rattle.world_laws.specs.Honest.{SoundGroup, SoundMessage}
 use Rattle.world_laws.specs.Sound.{IsGroupAddr, SoundEntry}
 

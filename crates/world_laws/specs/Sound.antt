@@ -29,7 +29,7 @@ use Rattle.label_defs.specs.declared.label_use.LabelUse.TheVariants as uses
 use Rattle.edge_defs.specs.Edge.{Note, VrfPattern, Selected, VrfFlow, Upstream, Remote, TakenRoute, Taken, Control}
 use Rattle.edge_defs.specs.Imported.{lsp_of}
 use Rattle.edge_defs.specs.Keys.{Value}
-use Rattle.edge_defs.specs.Originated.{afi_of}
+use Rattle.bgp_update.specs.Written.{afi_of}
 use Rattle.world_defs.specs.Costs.{AreRepriced}
 use Rattle.world_defs.specs.Nodes.{NodeState, Edge, CoreNode, Nodes}
 

@@ -1,10 +1,10 @@
 use Rattle.std.proofs.Common.{rules, ◌≡◌, true, arith, sym}
 use Rattle.scenario_text.proofs.LineMeets.{line_new}
-use Rattle.scenario_text.proofs.RulesLemmas.{line_holds, script_rules}
+use Rattle.scenario_text.proofs.RulesLemmas.{sound, line_holds, script_rules}
 use Rattle.scenario_text.proofs.reader.read.Goals as goal
 
 pub add-requires : goal.add-requires
-add-requires c = line_new c.lines.draft c.lines.number c.split_line.result.0.now c.in_ok-said.said c.lines.invariant.holds.kept.core.topology c.in_ok-said.ensures
+add-requires c = line_new c.lines.draft c.lines.number c.split_line.result.0.now c.in_ok-said.said (sound c.lines.draft c.lines.number c.lines.invariant.holds) c.in_ok-said.ensures
 
 pub lines-preserved : goal.lines-preserved
 lines-preserved c = record {
@@ -20,3 +20,6 @@ returns-clause-rules c =
 
 pub returns-clause-built : goal.returns-clause-built
 returns-clause-built c = rw c.into_script.ensures c.lines.invariant.holds.built
+
+pub returns-clause-forms : goal.returns-clause-forms
+returns-clause-forms c = rw c.into_script.ensures c.lines.invariant.holds.kept.built

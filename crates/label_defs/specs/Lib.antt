@@ -4,5 +4,6 @@ pub mod LabelData
 pub mod Settling
 pub mod Steps
 pub mod Settled
+pub mod Node
 pub mod Laws
 pub mod Row

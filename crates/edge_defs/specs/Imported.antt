@@ -26,7 +26,8 @@ use Rattle.scenario_defs.specs.declared.scenario.Vrf.{Vrf}
 use Rattle.edge_defs.specs.Edge.{Import, TakenRoute, Taken, Control}
 use Rattle.edge_defs.specs.Keys.{Value}
 use Rattle.edge_defs.specs.Originated.{import_target, own_import}
-use Rattle.edge_defs.specs.Place.{EdgePlace, is_lsp_opaque, is_p2mp}
+use Rattle.label_defs.specs.Node.{is_p2mp}
+use Rattle.edge_defs.specs.Place.{EdgePlace, is_lsp_opaque}
 
 -- ---- communities
 

@@ -12,11 +12,11 @@ use Rattle.mv_base.specs.declared.ids.NodeId.{NodeId}
 use Rattle.mv_base.specs.declared.ids.VrfId.{VrfId}
 use Rattle.core_walks.specs.Core.{Core}
 use Rattle.mldp_fec.specs.declared.fec.Fec.{Fec}
-use Rattle.mldp_fec.specs.declared.fec.FecKind.{FecKind}
 use Rattle.mldp_fec.specs.declared.fec.FecKind.TheVariants.{P2mp}
 use Rattle.scenario_defs.specs.declared.scenario.Vrf.{Vrf}
 use Rattle.scenario_defs.specs.declared.scenario.Scenario.{Scenario}
 use Rattle.label_defs.specs.LabelData as labels
+use Rattle.label_defs.specs.Node.{is_p2mp}
 
 -- An edge of a scenario, and the core that it knows: that of the links at the costs that it has acted on.
 pub record EdgePlace : Type 0 where
@@ -66,10 +66,6 @@ is_lsp_opaque opaque = pointwise nat_eq (take 3 opaque) (1 ∷ 0 ∷ 4 ∷ []) &
 -- the P2MP LSP of that root and number
 abbrev pub lsp : Addr → ℕ → Fec
 lsp root number = record { kind = P2mp; root = root; opaque = lsp_opaque number }
-
-abbrev pub is_p2mp : FecKind → Bool
-is_p2mp P2mp = true
-is_p2mp other = false
 
 -- The number of a VRF's inclusive tunnel. A selective tunnel adds its own number, from 1 on and below 2^20 (this project's profile).
 abbrev pub tunnel_number : Vrf → ℕ → ℕ

@@ -5,5 +5,6 @@ pub mod Between
 pub mod Settling
 pub mod Steps
 pub mod Settled
+pub mod Node
 pub mod Laws
 pub mod Row

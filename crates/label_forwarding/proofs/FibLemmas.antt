@@ -1,9 +1,11 @@
 -- A forwarding table: what is seen of its maps, and what a change of one slot changes.
-use Rattle.std.proofs.Common.{◌≡◌, ℕ, ◌+◌, ◌≤◌, ◌&&◌, ◌||◌, Bool, true, false, not, cond, T, List, [], ◌∷◌, map, Option, Some, None, refl, sym, ap, subst, ◌∙◌, arith}
+use Rattle.std.proofs.Common.{◌≡◌, ℕ, suc, ◌+◌, ◌≤◌, ◌&&◌, ◌||◌, ◌==◌, Bool, true, false, not, cond, T, List, [], ◌∷◌, length, map, Option, Some, None, refl, sym, ap, subst, ◌∙◌, arith}
 use Rattle.std.specs.List.{AllByRecursion}
 use Rattle.std.specs.List.Sorted.{IsStrictlySortedBy}
 use Rattle.std.specs.Map.{lookup}
-use Rattle.std.specs.Ordering.{eq_by_cmp, is_lt}
+use Rattle.std.specs.Ordering.{eq_by_cmp, is_eq, is_lt}
+use Rattle.std.specs.List.{list_any}
+use Rattle.std.specs.Cmp.{Equal-is, tied_itself}
 use Rattle.std.specs.declared.cmp.Ordering.{Ordering}
 use Rattle.std.specs.declared.cmp.Ordering.TheVariants.{Less, Equal, Greater}
 use Rattle.std.specs.FinMap as maps
@@ -15,14 +17,19 @@ use Rattle.std.proofs.lemmas.List.Sums.{sum_by-cons}
 use Rattle.indexmap.specs.IndexMap.{get, IsUnique}
 use Rattle.mldp_fec.specs.declared.fec.Fec.{Fec}
 use Rattle.label_defs.specs.Keys.{fec_cmp}
-use Rattle.label_defs.proofs.KeyLemmas.{fec_cmp_total, fec_cmp_exact}
+use Rattle.label_defs.specs.declared.branch.Branch.{Branch as TreeBranch}
+use Rattle.label_defs.specs.LabelData.{same_fec}
+use Rattle.label_defs.specs.Members.{in_order}
+use Rattle.label_defs.proofs.KeyLemmas.{fec_cmp_total, fec_cmp_exact, branch_cmp_total, branch_cmp_exact, same_fec_itself}
+use Rattle.label_defs.proofs.SetLemmas.{member_passes, passing_member}
+use Rattle.std.proofs.lemmas.Bool.{or_left, ne_eqb}
 use Rattle.label_forwarding.specs.declared.branch.Branch.{Branch}
 use Rattle.label_forwarding.specs.declared.slots.Slot.{Slot}
 use Rattle.label_forwarding.specs.Hops.{hop_cmp, is_hop}
-use Rattle.label_forwarding.specs.FibData.{branch_in, with_leaf, AreHops, IsEntry}
+use Rattle.label_forwarding.specs.FibData.{FibData, branch_in, with_leaf, is_on, AreHops, IsEntry}
 use Rattle.label_forwarding.specs.Slots.{is_fec, kept, Pairs, Slots, fib_of, leaves_in, noted, mapped_of, IsFib}
 use Rattle.label_forwarding.proofs.HopLemmas.{hop_cmp_total, hop-ties}
-use Rattle.label_forwarding.proofs.SlotLemmas.{fec_equal, fec_itself, fec-ties, fec_flips, leaf_of, has_hop, leaf_seen, branch_seen, kept_leaf, kept_hop, kept_count}
+use Rattle.label_forwarding.proofs.SlotLemmas.{fec_equal, fec_itself, fec-ties, fec_flips, hop_of, leaf_of, has_hop, leaf_seen, branch_seen, kept_leaf, kept_hop, kept_count}
 
 -- ---- order
 
@@ -194,3 +201,39 @@ not_missing pairs slots fib at fec note none =
 pub found_is : (pairs : Pairs) (slots : Slots) → IsFib pairs slots → (at : Branch) (fec : Fec) (slot : Slot) → get is_hop pairs at ≡ Some fec → get is_fec slots fec ≡ Some slot
     → (maps.get (fib_of pairs slots).pairs at ≡ Some slot.entry.fec) × IsEntry (fib_of pairs slots) slot.entry
 found_is pairs slots fib at fec slot note here = (pair_seen pairs slots at ∙ (note ∙ ap (λ (x : Fec). Some x) (sym (fib.own fec slot here))), entry_is pairs slots fib fec slot here)
+
+-- ---- whether the node is on a tree
+
+hop_back : (b : TreeBranch) (fec : Fec) → same_fec b.fec fec ≡ true → branch_in fec (hop_of b) ≡ b
+hop_back b fec e = λ i. record { fec = sym (fec_cmp_exact b.fec fec ((Equal-is (fec_cmp b.fec fec)).0 e)) i; node = b.node; label = b.label }
+
+hops_none : (fib : FibData) (fec : Fec) → AreHops fib fec [] → (t : Bool) → list_any (λ b. same_fec b.fec fec) (in_order fib.branches) ≡ t → t ≡ false
+hops_none fib fec h false e = refl
+hops_none fib fec h true e =
+    let x = passing_member branch_cmp_total branch_cmp_exact (λ b. same_fec b.fec fec) fib.branches e in
+    sym (h.each (hop_of x.0) ∙ (ap (λ (b : TreeBranch). sets.contains fib.branches b) (hop_back x.0 fec x.2) ∙ x.1))
+
+pub hops_any : (fib : FibData) (fec : Fec) (hops : List Branch) → AreHops fib fec hops → list_any (λ b. same_fec b.fec fec) (in_order fib.branches) ≡ not (length hops == 0)
+hops_any fib fec [] h = hops_none fib fec h _ refl
+hops_any fib fec (own ∷ more) h = member_passes branch_cmp_total branch_cmp_exact (λ b. same_fec b.fec fec) fib.branches (branch_in fec own)
+    (sym (h.each own) ∙ or_left (eq_by_cmp hop_cmp own own) (list_any (eq_by_cmp hop_cmp own) more) (ap is_eq (tied_itself hop_cmp_total own))) (same_fec_itself fec)
+    ∙ sym (ap not (ne_eqb (suc (length more)) 0 (λ e. omega (arith, e))))
+
+pub on_slot : (pairs : Pairs) (slots : Slots) → IsFib pairs slots → (fec : Fec) (slot : Slot) → get is_fec slots fec ≡ Some slot
+    → (slot.entry.leaf || not (length (maps.keys slot.entry.branches) == 0)) ≡ is_on (fib_of pairs slots) fec
+on_slot pairs slots fib fec slot at =
+    let leaf : sets.contains (fib_of pairs slots).leaves fec ≡ slot.entry.leaf = leaf_seen slots.entries fib.one_slot fec ∙ ap leaf_of at in
+    let any = hops_any (fib_of pairs slots) fec (maps.keys slot.entry.branches) (hops_are pairs slots fib fec slot at (maps.keys slot.entry.branches) refl) in
+    sym ((λ i. any i || leaf i) ∙ or_flips (not (length (maps.keys slot.entry.branches) == 0)) slot.entry.leaf)
+  where
+    or_flips : (a b : Bool) → (a || b) ≡ (b || a)
+    or_flips true true = refl
+    or_flips true false = refl
+    or_flips false true = refl
+    or_flips false false = refl
+
+pub off_slot : (pairs : Pairs) (slots : Slots) → IsFib pairs slots → (fec : Fec) → get is_fec slots fec ≡ None → false ≡ is_on (fib_of pairs slots) fec
+off_slot pairs slots fib fec at =
+    let leaf : sets.contains (fib_of pairs slots).leaves fec ≡ false = leaf_seen slots.entries fib.one_slot fec ∙ ap leaf_of at in
+    let any = hops_any (fib_of pairs slots) fec [] (no_hops_are pairs slots fib fec at [] refl) in
+    sym (λ i. any i || leaf i)

@@ -1,5 +1,5 @@
 -- What a forwarding table holds, as plain data.
-use Rattle.std.specs.Prelude.{◌≡◌, ℕ, Bool, List, refl, if◌then◌else◌}
+use Rattle.std.specs.Prelude.{◌≡◌, ◌||◌, ℕ, Bool, List, refl, if◌then◌else◌}
 use Rattle.std.specs.Coded.{Coded, code_by, coded×}
 use Rattle.std.specs.List.{list_any}
 use Rattle.std.specs.List.Sorted.{IsStrictlySortedBy}
@@ -14,6 +14,8 @@ use Rattle.mldp_fec.specs.contracts.fec.Fec as fecs
 use Rattle.label_defs.specs.declared.branch.Branch.{Branch as TreeBranch}
 use Rattle.label_defs.specs.contracts.branch.Branch as tree_branches
 use Rattle.label_defs.specs.Keys.{fec_cmp, branch_cmp}
+use Rattle.label_defs.specs.LabelData.{same_fec}
+use Rattle.label_defs.specs.Members.{in_order}
 use Rattle.label_forwarding.specs.declared.branch.Branch.{Branch}
 use Rattle.label_forwarding.specs.declared.entry.Entry.{Entry}
 use Rattle.label_forwarding.specs.Hops.{hop_cmp, branch_code}
@@ -45,6 +47,10 @@ branch_in fec own = record { fec = fec; node = own.node; label = own.label }
 -- the leaves, with the tree or without it
 abbrev pub with_leaf : FinSet fec_cmp → Fec → Bool → FinSet fec_cmp
 with_leaf leaves fec leaf = if leaf then sets.insert leaves fec else sets.remove leaves fec
+
+-- whether the node is on the tree: it has a branch or is a leaf
+abbrev pub is_on : FibData → Fec → Bool
+is_on fib fec = list_any (λ branch. same_fec branch.fec fec) (in_order fib.branches) || sets.contains fib.leaves fec
 
 -- These are the branches of the tree, in order and each once.
 pub record AreHops (fib : FibData) (fec : Fec) (hops : List Branch) : Type 0 where

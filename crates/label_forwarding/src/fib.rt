@@ -2,7 +2,7 @@
 ghost use Rattle.std.specs.Prelude.{◌≡◌, None, Some, OnOk, OnErr, IfSome, IfNone};
 ghost use Rattle.std.specs.FinMap as maps;
 ghost use Rattle.std.specs.FinSet as sets;
-ghost use Rattle.label_forwarding.specs.FibData.{FibData, IsEntry, AreHops, nothing, with_leaf, branch_in, hop};
+ghost use Rattle.label_forwarding.specs.FibData.{FibData, IsEntry, AreHops, nothing, with_leaf, is_on, branch_in, hop};
 
 use crate::branch::Branch;
 use crate::entry::Entry;
@@ -131,6 +131,16 @@ impl Fib {
         match self.slots.get(fec) {
             Some(slot) => slot.entry.branches(),
             None => &[],
+        }
+    }
+
+    /// Whether the node is on the tree: it is a leaf of it, or has a branch. It takes no memory.
+    pub fn is_on(&self, fec: &Fec) -> bool
+        ensures { result ≡ is_on self.now fec.now }
+    {
+        match self.slots.get(fec) {
+            Some(slot) => slot.is_on(),
+            None => false,
         }
     }
 }

@@ -1,5 +1,6 @@
 //! The entries of a forwarding table, each with the number of labels that name its FEC.
-ghost use Rattle.std.specs.Prelude.{◌≡◌, ◌<◌, true, false, None, is_some, if◌then◌else◌};
+ghost use Rattle.std.specs.Prelude.{◌≡◌, ◌<◌, ◌==◌, ◌||◌, true, false, not, length, None, is_some, if◌then◌else◌};
+ghost use Rattle.std.specs.FinMap as maps;
 ghost use Rattle.std.specs.Option.{unwrap_or};
 ghost use Rattle.indexmap.specs.IndexMap.{get, spare, IsUnique};
 ghost use Rattle.mldp_fec.specs.declared.fec.Fec.{Fec};
@@ -34,6 +35,13 @@ impl Slot {
             },
             mapped: 0,
         }
+    }
+
+    /// Whether the node is a leaf of the tree, or has a branch of it.
+    pub(crate) fn is_on(&self) -> bool
+        ensures { result ≡ (self.now.entry.leaf || not (length (maps.keys self.now.entry.branches) == 0)) }
+    {
+        self.entry.leaf || !self.entry.branches.is_empty()
     }
 
     /// Whether nothing needs it.

@@ -9,6 +9,7 @@ use Rattle.std.specs.declared.cmp.Ordering.{Ordering}
 use Rattle.std.specs.List.{flat_map}
 use Rattle.mv_base.specs.declared.ids.NodeId.{NodeId}
 use Rattle.framing.specs.Feed.{fed, unfed}
+use Rattle.label_defs.specs.Node.{Spent, LacksLabel}
 use Rattle.scenario_defs.specs.declared.event.Kind.{Kind}
 use Rattle.scenario_defs.specs.declared.event.Kind.TheVariants as kinds
 use Rattle.session_defs.specs.Message.{SessionMessage, Bgp, Label, SessionFault, front_of}
@@ -35,11 +36,6 @@ abbrev pub peer_cmp : PeerSession → PeerSession → Ordering
 peer_cmp a b = slice_cmp nat_cmp (kind_number a.kind ∷ a.peer.0 ∷ []) (kind_number b.kind ∷ b.peer.0 ∷ [])
 
 -- ---- what is seen
-
--- Why a node makes no more steps: it lacked a label, or memory.
-pub data Spent : Type 0 where
-  LacksLabel : Spent
-  LacksMemory : Spent
 
 pub record EdgeState : Type 0 where
   pub edge : EdgeData

@@ -26,7 +26,8 @@ use Rattle.label_defs.proofs.SettleLemmas.{bind_some}
 use Rattle.edge_defs.specs.Edge.{VrfFlow, Upstream, Site, Remote, TakenRoute, Taken, Control}
 use Rattle.edge_defs.specs.Imported.{is_admitted, lsp_of, tunnel_by, inclusive_of, SelectiveRoute, selective_of, taken_from, imported_inclusive, ImportedSelective, imported_selective}
 use Rattle.edge_defs.specs.Keys.{Value}
-use Rattle.edge_defs.specs.Place.{EdgePlace, OwnVrf, addr_of, own_vrfs, is_p2mp, is_lsp_opaque, is_tree}
+use Rattle.label_defs.specs.Node.{is_p2mp}
+use Rattle.edge_defs.specs.Place.{EdgePlace, OwnVrf, addr_of, own_vrfs, is_lsp_opaque, is_tree}
 use Rattle.edge_defs.specs.Tunnels.{learned_route, learned_routes, inclusive_tunnels, flow_tunnels, flows_of, tunnels_of, leaves}
 use Rattle.world_laws.specs.Sound.{IsSoundFec, SoundControl}
 use Rattle.world_laws.proofs.LabelLeaves.{leaves_are_sound}

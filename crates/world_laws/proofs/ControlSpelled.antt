@@ -30,7 +30,8 @@ use Rattle.bgp_attributes.specs.declared.key.Key.{Key}
 use Rattle.bgp_attributes.specs.declared.key.Key.TheVariants.{Mcast, Unicast}
 use Rattle.bgp_attributes.specs.Spelling.{pair, SpellsVpn, SpellsKey, SpellsUnit, AreKeys, SpellsReachable, AreComms, SpellsValue, len_field, SpellsAttribute, IsNew, comms_in, comms_of, pmsi_of}
 use Rattle.edge_defs.specs.Imported.{lsp_of}
-use Rattle.edge_defs.specs.Place.{is_lsp_opaque, is_p2mp}
+use Rattle.label_defs.specs.Node.{is_p2mp}
+use Rattle.edge_defs.specs.Place.{is_lsp_opaque}
 use Rattle.world_laws.specs.Sound.{AreEight, IsSoundFec, SoundKey}
 use Rattle.world_laws.proofs.Lists.{each_flat}
 

@@ -1,0 +1,7 @@
+//! The labels of a node and its forwarding table, which says the same: its notes are the mapped labels (RFC 6388 section 2.4).
+#![tactic(auto)]
+
+mod mapped;
+mod trees;
+
+pub use trees::LabelTrees;

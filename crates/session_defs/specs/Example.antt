@@ -46,7 +46,12 @@ keeping = record {
 
 -- the one direction is joined, and nothing has happened
 abbrev pub start : OctetNetwork (List SessionMessage)
-start = record { state = []; joined = λ direction. same_direction direction upstream; transit = λ direction. []; stream = λ direction. unfed }
+start = record {
+  state = [];
+  joined = λ direction. same_direction direction upstream;
+  transit = λ direction. [];
+  stream = λ direction. unfed;
+}
 
 -- the messages that have come behind these acts
 abbrev pub kept : List (OctetAct ⊤) → Option (List SessionMessage)

@@ -19,7 +19,8 @@ pub record OctetNetwork (S : Type 0) : Type 0 where
 
 -- What may happen: the first so many octets in transit over a direction are taken, or all where there are fewer; the nodes are
 -- called; the sessions of some directions are lost, and the octets in transit there; the receivers of some directions whose
--- sessions are not joined forget what they hold back; the sessions of some directions are joined, with fresh streams and nothing in transit.
+-- sessions are not joined forget what they hold back; the sessions of some directions are joined, with fresh streams and nothing in
+-- transit.
 pub data OctetAct (X : Type 0) : Type 0 where
   Move : (direction : Direction) → (count : ℕ) → OctetAct X
   Call : (call : X) → OctetAct X
@@ -28,7 +29,13 @@ pub data OctetAct (X : Type 0) : Type 0 where
   Join : (hit : Direction → Bool) → OctetAct X
 
 abbrev pub with_octets : {S : Type 0} → OctetNetwork S → Stepped S → OctetNetwork S
-with_octets old new = record old { state = new.state; transit = λ direction. if old.joined direction then old.transit direction ++ octets_over direction new.puts else old.transit direction }
+with_octets old new = record old {
+  state = new.state;
+  transit = λ direction.
+      if old.joined direction
+      then old.transit direction ++ octets_over direction new.puts
+      else old.transit direction;
+}
 
 abbrev pub with_step : {S : Type 0} → OctetNetwork S → Option (Stepped S) → Option (Behind (OctetNetwork S))
 with_step old None = None
@@ -37,7 +44,9 @@ with_step old (Some new) = Some (record { network = with_octets old new; puts = 
 -- the messages are taken one after another
 abbrev pub all_taken : {S X : Type 0} → System S X → OctetNetwork S → Direction → List SessionMessage → Option (Behind (OctetNetwork S))
 all_taken system old direction [] = Some (record { network = old; puts = [] })
-all_taken system old direction (message ∷ more) = with_step old (system.taken direction message old.state) >>? λ next. with_earlier next.puts (all_taken system next.network direction more)
+all_taken system old direction (message ∷ more) =
+    with_step old (system.taken direction message old.state) >>? λ next.
+    with_earlier next.puts (all_taken system next.network direction more)
 
 -- the piece goes from what is in transit to the receiver's stream, and the messages that are whole then are taken
 abbrev pub moved : {S X : Type 0} → System S X → OctetNetwork S → Direction → ℕ → Option (Behind (OctetNetwork S))
@@ -50,10 +59,22 @@ moved system old direction count =
     all_taken system left direction new.waiting
 
 abbrev pub octet_act : {S X : Type 0} → System S X → OctetNetwork S → OctetAct X → Option (Behind (OctetNetwork S))
-octet_act system old (Move direction count) = if old.joined direction then moved system old direction count else Some (record { network = old; puts = [] })
+octet_act system old (Move direction count) =
+    if old.joined direction then moved system old direction count else Some (record { network = old; puts = [] })
 octet_act system old (Call call) = with_step old (system.called call old.state)
-octet_act system old (Lose hit) = Some (record { network = record old { joined = λ direction. old.joined direction && not (hit direction); transit = λ direction. if hit direction then [] else old.transit direction }; puts = [] })
-octet_act system old (Forget hit) = Some (record { network = record old { stream = λ direction. if hit direction && not (old.joined direction) then unfed else old.stream direction }; puts = [] })
+octet_act system old (Lose hit) = Some (record {
+  network = record old {
+    joined = λ direction. old.joined direction && not (hit direction);
+    transit = λ direction. if hit direction then [] else old.transit direction;
+  };
+  puts = [];
+})
+octet_act system old (Forget hit) = Some (record {
+  network = record old {
+    stream = λ direction. if hit direction && not (old.joined direction) then unfed else old.stream direction;
+  };
+  puts = [];
+})
 octet_act system old (Join hit) = Some (record {
   network = record old {
     joined = λ direction. old.joined direction || hit direction;

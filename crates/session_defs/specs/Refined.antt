@@ -86,7 +86,9 @@ pub record MovesFirst {S X : Type 0} (system : System S X) (old : OctetNetwork S
   pub all : length (old.transit direction) ≤ count → rest ≡ []
   pub left : Direction → List SessionMessage
   pub lines : AreLines new.network left
-  pub same : message_run system (seen old pending) (deliveries direction first) ≡ Some (record { network = seen new.network left; puts = new.puts })
+  pub same :
+      message_run system (seen old pending) (deliveries direction first)
+      ≡ Some (record { network = seen new.network left; puts = new.puts })
 
 -- The acts on messages that an act on octets is where it ends: a call is itself alone, and a move some first messages of those
 -- that are pending. No other act ends.

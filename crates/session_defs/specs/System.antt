@@ -52,22 +52,46 @@ pub data MessageAct (X : Type 0) : Type 0 where
 
 -- what is put goes behind what is in transit; it is lost where the session is not joined
 abbrev pub with_messages : {S : Type 0} → MessageNetwork S → Stepped S → MessageNetwork S
-with_messages old new = record { state = new.state; joined = old.joined; transit = λ direction. if old.joined direction then old.transit direction ++ messages_over direction new.puts else old.transit direction }
+with_messages old new = record {
+  state = new.state;
+  joined = old.joined;
+  transit = λ direction.
+      if old.joined direction
+      then old.transit direction ++ messages_over direction new.puts
+      else old.transit direction;
+}
 
 abbrev pub with_step : {S : Type 0} → MessageNetwork S → Option (Stepped S) → Option (Behind (MessageNetwork S))
 with_step old None = None
 with_step old (Some new) = Some (record { network = with_messages old new; puts = new.puts })
 
-abbrev pub delivered : {S X : Type 0} → System S X → MessageNetwork S → Direction → List SessionMessage → Option (Behind (MessageNetwork S))
+-- the network with the rest in transit over the direction
+abbrev pub with_rest : {S : Type 0} → MessageNetwork S → Direction → List SessionMessage → MessageNetwork S
+with_rest old direction rest = record old { transit = λ other. if same_direction other direction then rest else old.transit other }
+
+abbrev pub delivered :
+    {S X : Type 0} → System S X → MessageNetwork S → Direction → List SessionMessage → Option (Behind (MessageNetwork S))
 delivered system old direction [] = Some (record { network = old; puts = [] })
 delivered system old direction (message ∷ rest) =
-    with_step (record old { transit = λ other. if same_direction other direction then rest else old.transit other }) (system.taken direction message old.state)
+    with_step (with_rest old direction rest) (system.taken direction message old.state)
 
 abbrev pub message_act : {S X : Type 0} → System S X → MessageNetwork S → MessageAct X → Option (Behind (MessageNetwork S))
 message_act system old (Deliver direction) = delivered system old direction (old.transit direction)
 message_act system old (Call call) = with_step old (system.called call old.state)
-message_act system old (Lose hit) = Some (record { network = record old { joined = λ direction. old.joined direction && not (hit direction); transit = λ direction. if hit direction then [] else old.transit direction }; puts = [] })
-message_act system old (Join hit) = Some (record { network = record old { joined = λ direction. old.joined direction || hit direction; transit = λ direction. if hit direction then [] else old.transit direction }; puts = [] })
+message_act system old (Lose hit) = Some (record {
+  network = record old {
+    joined = λ direction. old.joined direction && not (hit direction);
+    transit = λ direction. if hit direction then [] else old.transit direction;
+  };
+  puts = [];
+})
+message_act system old (Join hit) = Some (record {
+  network = record old {
+    joined = λ direction. old.joined direction || hit direction;
+    transit = λ direction. if hit direction then [] else old.transit direction;
+  };
+  puts = [];
+})
 
 -- the network behind, with what was put before it
 abbrev pub with_earlier : {N : Type 0} → List Put → Option (Behind N) → Option (Behind N)

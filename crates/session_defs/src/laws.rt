@@ -11,15 +11,21 @@ ghost use Rattle.session_defs.specs.Example.{CutInTwo};
 /// it ends, it does so at one of its acts, and a run in messages ends at what that act is: the same call, or a delivery over the
 /// same direction. No stream of a joined session has a fault.
 pub fn octets_carry_messages<S, X>()
-    ensures refined { (system : System S X) (old : OctetNetwork S) (pending : Direction → List SessionMessage) (acts : List (OctetAct X)) (new : Behind (OctetNetwork S)) → IsHonest system → AreLines old pending →
+    ensures refined { (system : System S X) (old : OctetNetwork S) (pending : Direction → List SessionMessage) →
+        (acts : List (OctetAct X)) (new : Behind (OctetNetwork S)) →
+        IsHonest system → AreLines old pending →
         octet_run system old acts ≡ Some new → Refined system old pending new }
-    ensures ended { (system : System S X) (old : OctetNetwork S) (pending : Direction → List SessionMessage) (acts : List (OctetAct X)) → IsHonest system → AreLines old pending →
+    ensures ended { (system : System S X) (old : OctetNetwork S) (pending : Direction → List SessionMessage) →
+        (acts : List (OctetAct X)) →
+        IsHonest system → AreLines old pending →
         octet_run system old acts ≡ None → Ends system old pending acts }
 {}
 
 /// A move over a joined session delivers some first messages of those that are pending, in order: all where all octets are moved.
 pub fn moves_deliver<S, X>()
-    ensures { (system : System S X) (old : OctetNetwork S) (pending : Direction → List SessionMessage) (direction : Direction) (count : ℕ) (new : Behind (OctetNetwork S)) → IsHonest system → AreLines old pending →
+    ensures { (system : System S X) (old : OctetNetwork S) (pending : Direction → List SessionMessage) →
+        (direction : Direction) (count : ℕ) (new : Behind (OctetNetwork S)) →
+        IsHonest system → AreLines old pending →
         old.joined direction ≡ true → moved system old direction count ≡ Some new → MovesFirst system old pending direction count new }
 {}
 

@@ -44,4 +44,5 @@ lowest_of after best (next ∷ more) = lowest_of after (lowest after best next) 
 -- what the rule compares first, among the routes of that length
 abbrev pub cost_at : Routes → Addr → Addr → ℕ → (NodeId → ℕ) → NodeId → ℕ
 cost_at routes source group bits cost =
-    measure routes.rule cost (named_by routes.rule (hashed_of (hash_of source group) (edges_in (at_length source bits (maps.entries routes.learned)))))
+    measure routes.rule cost
+    (named_by routes.rule (hashed_of (hash_of source group) (edges_in (at_length source bits (maps.entries routes.learned)))))

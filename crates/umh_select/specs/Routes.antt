@@ -1,5 +1,6 @@
 -- What a VRF keeps of its routes, and which of them it chooses.
-use Rattle.std.specs.Prelude.{◌≡◌, ℕ, ◌<◌, ◌≤◌, ◌==◌, ◌&&◌, Bool, true, false, not, List, [], ◌∷◌, ◌++◌, map, refl, Option, None, Some, if◌then◌else◌, slice_index_or}
+use Rattle.std.specs.Prelude.{◌≡◌, ℕ, ◌<◌, ◌≤◌, ◌==◌, ◌&&◌, Bool, true, false, not, List, [], ◌∷◌}
+use Rattle.std.specs.Prelude.{◌++◌, map, refl, Option, None, Some, if◌then◌else◌, slice_index_or}
 use Rattle.std.specs.List.{filter}
 use Rattle.std.specs.BTreeMap.{is_at}
 use Rattle.std.specs.Coded.{Coded, code_by, coded×}
@@ -45,7 +46,8 @@ pub record Routes : Type 0 where
 abbrev pub routes_code : Coded Routes
 routes_code =
     code_by (Rule × (FinMap key_cmp Held × FinMap key_cmp SiteId))
-    (coded× rules.the_row.coded (coded× (maps.code keys.the_row.coded helds.the_row.coded) (maps.code keys.the_row.coded sites.the_row.coded)))
+    (coded× rules.the_row.coded
+    (coded× (maps.code keys.the_row.coded helds.the_row.coded) (maps.code keys.the_row.coded sites.the_row.coded)))
     (λ r. (r.rule, (r.learned, r.attached))) (λ p. record { rule = p.0; learned = p.1.0; attached = p.1.1 }) (λ _. refl)
 
 -- the key of a route from a peer
@@ -182,7 +184,9 @@ choice_of (Some best) = choices.Remote (peer_of best.key.place) (rd_of best.key.
 
 -- the routes that the VRF knows of that length and that cover the source
 abbrev pub known_at : Routes → Addr → ℕ → List KnownRoute
-known_at routes source bits = map known_here (at_length source bits (maps.entries routes.attached)) ++ map known_from (at_length source bits (maps.entries routes.learned))
+known_at routes source bits =
+    map known_here (at_length source bits (maps.entries routes.attached))
+    ++ map known_from (at_length source bits (maps.entries routes.learned))
 
 -- ---- what is true of the tables
 

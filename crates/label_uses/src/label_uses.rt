@@ -41,7 +41,7 @@ impl Model for LabelUses {
     ghost use Rattle.indexmap.specs.IndexMap.{get};
     ghost use Rattle.tunnel_bindings.specs.Labels.{state_of};
     ghost use Rattle.label_uses.specs.Uses.{Uses, uses_code};
-    ghost use Rattle.label_uses.specs.Held.{Holds, seen, is_fec, is_node};
+    ghost use Rattle.label_uses.specs.Held.{HoldsOwned, seen, is_fec, is_node};
 
     ghost Value = { Uses };
 
@@ -50,7 +50,7 @@ impl Model for LabelUses {
     ghost view = { λ u. seen u.space (get nat_eq u.held) u.waiting.entries u.sessions.entries };
 
     ghost invariant = { λ u.
-        Holds (state_of u.space) (get nat_eq u.held) (maps.get u.bindings.kept) (get is_node u.sessions) (get is_fec u.mapped)
+        HoldsOwned (state_of u.space) (get nat_eq u.held) (maps.get u.bindings.kept) (get is_node u.sessions) (get is_fec u.mapped)
         (get is_fec u.waiting) };
 }
 

@@ -50,4 +50,6 @@ IsFirst (Err (Bad place fault)) octets = faults.AttributesFault octets place fau
 
 -- The first fault is answered, unless memory ran out.
 abbrev pub IsOnlyFirst : Result Update AttributesFault → List ℕ → Type 0
-IsOnlyFirst result octets = (place : ℕ) (fault : StreamFault) → faults.AttributesFault octets place fault → (result ≡ Err (Bad place fault)) ⊎ (result ≡ Err NoMemory)
+IsOnlyFirst result octets =
+    (place : ℕ) (fault : StreamFault) → faults.AttributesFault octets place fault →
+    (result ≡ Err (Bad place fault)) ⊎ (result ≡ Err NoMemory)

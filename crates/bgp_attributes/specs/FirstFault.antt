@@ -14,7 +14,8 @@ use Rattle.bgp_attributes.specs.declared.key.Key.{Key}
 use Rattle.bgp_attributes.specs.declared.family.Family.{Family}
 use Rattle.bgp_attributes.specs.declared.family.Family.TheVariants.{Mcast, Vpn}
 use Rattle.bgp_attributes.specs.declared.attribute.Attribute.{Attribute}
-use Rattle.bgp_attributes.specs.Spelling.{pair, SpellsNextHop, addr_bits, octets_for, AreKeys, FitsLen, len_field, SpellsAttribute, IsNewType, IsNew}
+use Rattle.bgp_attributes.specs.Spelling.{pair, SpellsNextHop, addr_bits, octets_for, AreKeys}
+use Rattle.bgp_attributes.specs.Spelling.{FitsLen, len_field, SpellsAttribute, IsNewType, IsNew}
 
 -- the first octets, of which there are some, are no key
 pub data KeyFault (f : Family) (octets : List ℕ) (offset : ℕ) (e : StreamFault) : Type 0 where

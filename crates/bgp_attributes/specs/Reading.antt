@@ -1,5 +1,6 @@
 -- Reading the path attributes of an UPDATE message from left to right, with the first fault that is met.
-use Rattle.std.specs.Prelude.{ℕ, ◌+◌, ◌-◌, ◌/◌, ◌%◌, List, [], ◌∷◌, length, take, drop, map, fold, nat_eq, unwrap_or, Option, Some, None, Result, Ok, Err, nat_lt, ◌==◌, ◌&&◌, ◌||◌, not, Bool, false, is_some, if◌then◌else◌}
+use Rattle.std.specs.Prelude.{ℕ, ◌+◌, ◌-◌, ◌/◌, ◌%◌, List, [], ◌∷◌, length, take, drop, map, fold, nat_eq, unwrap_or, Option}
+use Rattle.std.specs.Prelude.{Some, None, Result, Ok, Err, nat_lt, ◌==◌, ◌&&◌, ◌||◌, not, Bool, false, is_some, if◌then◌else◌}
 use Rattle.std.specs.Int.{w16, from_be_bytes}
 use Rattle.std.specs.List.{list_any}
 use Rattle.std.specs.Cmp.Lexicographic.{pointwise}
@@ -72,7 +73,9 @@ mcast_at afi octets = mcast_key afi (route_at afi octets)
 
 -- the route of a length, a label, a Route Distinguisher and a prefix
 abbrev pub vpn_of : Afi → ℕ → List ℕ → Key
-vpn_of afi len rest = keys.Unicast (record { 0 = take 8 (drop 3 rest) }) (record { addr = address afi (len - 88) (take (octets_for len - 11) (drop 11 rest)); bits = len - 88 })
+vpn_of afi len rest = keys.Unicast
+    (record { 0 = take 8 (drop 3 rest) })
+    (record { addr = address afi (len - 88) (take (octets_for len - 11) (drop 11 rest)); bits = len - 88 })
 
 -- the VPN route at the front
 unfoldable pub vpn_at : Afi → List ℕ → Option (Key × ℕ)
@@ -133,7 +136,8 @@ unfoldable pub hop_at : Family → ℕ → ℕ → List ℕ → Read Reachable
 hop_at f place len rest =
     if not (is_hop_len f len) then Err (place, faults.NextHop) else
     if nat_lt (length rest) (len + 1) then Err misfit else
-    (keys_at f (place + len + 2) (drop (len + 1) rest) >>= λ ks. Ok (record { next_hop = hop_addr f (take (len - before_addr f) (drop (before_addr f) rest)); keys = ks }))
+    (keys_at f (place + len + 2) (drop (len + 1) rest) >>= λ ks.
+    Ok (record { next_hop = hop_addr f (take (len - before_addr f) (drop (before_addr f) rest)); keys = ks }))
 
 -- what stands behind AFI and SAFI in MP_REACH_NLRI
 unfoldable pub reachable_at : Family → ℕ → List ℕ → Read Reachable

@@ -1,5 +1,6 @@
 -- The path attributes of an UPDATE message (RFC 4271 section 4.3), and what spells each.
-use Rattle.std.specs.Prelude.{◌≡◌, ◌≢◌, ℕ, ◌+◌, ◌-◌, ◌*◌, ◌/◌, ◌<◌, ◌≤◌, ◌^◌, ◌⊎◌, List, [], ◌∷◌, ◌++◌, length, take, replicate, map, Option, Some, None, ◌==◌, bit_and, Bool, if◌then◌else◌}
+use Rattle.std.specs.Prelude.{◌≡◌, ◌≢◌, ℕ, ◌+◌, ◌-◌, ◌*◌, ◌/◌, ◌<◌, ◌≤◌, ◌^◌, ◌⊎◌, List, [], ◌∷◌, ◌++◌, length}
+use Rattle.std.specs.Prelude.{take, replicate, map, Option, Some, None, ◌==◌, bit_and, Bool, if◌then◌else◌}
 use Rattle.std.specs.List.{flat_map, AllByRecursion}
 use Rattle.std.specs.Int.{w16, w32, w128, to_be_bytes, from_be_bytes}
 use Rattle.mv_base.specs.Address.{addr_octets, IsAddr}
@@ -228,7 +229,10 @@ keys_in a = []
 
 -- what the attributes say together
 abbrev pub update_of : List Attribute → Update
-update_of attributes = record { reach = flat_map (adverts_in (comms_of attributes) (pmsi_of attributes)) attributes; unreach = flat_map keys_in attributes }
+update_of attributes = record {
+  reach = flat_map (adverts_in (comms_of attributes) (pmsi_of attributes)) attributes;
+  unreach = flat_map keys_in attributes;
+}
 
 -- the octets are attributes that say this
 abbrev pub Spells : Update → List ℕ → Type 0

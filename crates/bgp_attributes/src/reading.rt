@@ -2,7 +2,8 @@
 ghost use Rattle.std.specs.Prelude.{◌≡◌, ◌+◌, ◌<◌, ◌≤◌, ◌^◌, length, option_map, IfOk};
 ghost use Rattle.bgp_attributes.specs.Answers.{Gives, IsPart, IsWithin, IsOnly, IsFirst, IsOnlyFirst};
 ghost use Rattle.bgp_attributes.specs.Spelling.{is_extended, Spells};
-ghost use Rattle.bgp_attributes.specs.Reading.{front_of, wide_value, narrow_value, value_of, value_place, new_at, attribute_unless, has, found_at, update_at};
+ghost use Rattle.bgp_attributes.specs.Reading.{front_of, wide_value, narrow_value, value_of, value_place};
+ghost use Rattle.bgp_attributes.specs.Reading.{new_at, attribute_unless, has, found_at, update_at};
 
 use crate::attribute::Attribute;
 use crate::fault::{AttributesFault, StreamFault, misfit};

@@ -1,7 +1,8 @@
 //! The values of path attributes.
 ghost use Rattle.std.specs.Prelude.{◌≡◌, ◌+◌, ◌<◌, ◌^◌, ◌⊎◌, drop, length, map, IfOk};
 ghost use Rattle.bgp_attributes.specs.Answers.{Gives, IsWithin};
-ghost use Rattle.bgp_attributes.specs.Reading.{addr_of, is_mapped, unmapped, hop_addr, hop_at, reachable_at, reach_at, unreach_at, comms_at, tunnel_at, value_at, comm};
+ghost use Rattle.bgp_attributes.specs.Reading.{addr_of, is_mapped, unmapped, hop_addr, hop_at, reachable_at};
+ghost use Rattle.bgp_attributes.specs.Reading.{reach_at, unreach_at, comms_at, tunnel_at, value_at, comm};
 
 use crate::attribute::{Attribute, Reachable};
 use crate::family::{Family, before_addr, family_of, is_hop_len};

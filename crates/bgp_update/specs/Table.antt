@@ -28,7 +28,7 @@ changes_of (messages.Update update) = unannounced update.unreach ++ announced up
 changes_of (messages.Other kind) = []
 
 -- the last change about the key announces it so
-pub record Holds (changes : List Change) (key : Key) (advert : Advert) : Type 0 where
+pub record AnnouncesLast (changes : List Change) (key : Key) (advert : Advert) : Type 0 where
   pub before : List Change
   pub after : List Change
   pub parts : changes ≡ before ++ (Reach advert ∷ after)
@@ -37,4 +37,6 @@ pub record Holds (changes : List Change) (key : Key) (advert : Advert) : Type 0 
 
 -- whole messages at the front of the octets leave the route
 abbrev pub HasRoute : List ℕ → Key → Advert → Type 0
-HasRoute octets key advert = (ms : List Message) × (rest : List ℕ) × Splits SpellsMessage octets ms rest × Holds (flat_map changes_of ms) key advert
+HasRoute octets key advert =
+    (ms : List Message) × (rest : List ℕ) × Splits SpellsMessage octets ms rest
+    × AnnouncesLast (flat_map changes_of ms) key advert

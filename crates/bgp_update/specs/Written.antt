@@ -1,5 +1,6 @@
 -- What is written: an UPDATE message for each change.
-use Rattle.std.specs.Prelude.{◌≡◌, ◌+◌, ◌<◌, ◌≤◌, ℕ, Bool, false, nat_lt, bit_or, ⊤, List, [], ◌∷◌, ◌++◌, length, take, replicate, Option, Some, None, Result, Ok, Err, if◌then◌else◌}
+use Rattle.std.specs.Prelude.{◌≡◌, ◌+◌, ◌<◌, ◌≤◌, ℕ, Bool, false, nat_lt, bit_or, ⊤, List, [], ◌∷◌, ◌++◌}
+use Rattle.std.specs.Prelude.{length, take, replicate, Option, Some, None, Result, Ok, Err, if◌then◌else◌}
 use Rattle.std.specs.List.{flat_map}
 use Rattle.std.specs.Int.{w16, w32, to_be_bytes}
 use Rattle.mv_base.specs.Address.{addr_octets, IsAddr}
@@ -96,7 +97,10 @@ tunnel_text None = []
 tunnel_text (Some pmsi) = attribute 0xC0 22 (tunnels.written pmsi)
 
 abbrev pub advert_text : Advert → List ℕ
-advert_text advert = path_text ++ (attribute 0x80 14 (reach_value advert) ++ (attribute 0xC0 16 (comms_octets advert.comms) ++ tunnel_text advert.pmsi))
+advert_text advert =
+    path_text
+    ++ (attribute 0x80 14 (reach_value advert)
+    ++ (attribute 0xC0 16 (comms_octets advert.comms) ++ tunnel_text advert.pmsi))
 
 abbrev pub attributes_of : Change → List ℕ
 attributes_of (Reach advert) = advert_text advert

@@ -12,16 +12,27 @@ use bgp_attributes::{Change, Message};
 
 /// However the octets are cut into pieces, the messages are the same, and so are the fault and what is held back.
 pub fn any_cut()
-    ensures { (ps qs : List (List ℕ)) → IsOctets (flat_map (λ p. p) ps) → flat_map (λ p. p) ps ≡ flat_map (λ p. p) qs → fed_all message_front unfed ps ≡ fed_all message_front unfed qs }
+    ensures { (ps qs : List (List ℕ)) →
+        IsOctets (flat_map (λ p. p) ps) → flat_map (λ p. p) ps ≡ flat_map (λ p. p) qs →
+        fed_all message_front unfed ps ≡ fed_all message_front unfed qs }
 {}
 
 /// No spelling of a message begins another's.
 pub fn one_spelling()
-    ensures { (ms ns : List Message) (text other x y : List ℕ) → SpellsMessage ms text → SpellsMessage ns other → text ++ x ≡ other ++ y → (text ≡ other) × (ms ≡ ns) }
+    ensures { (ms ns : List Message) (text other x y : List ℕ) →
+        SpellsMessage ms text → SpellsMessage ns other → text ++ x ≡ other ++ y →
+        (text ≡ other) × (ms ≡ ns) }
 {}
 
 /// A change that is written spells the UPDATE that makes it, and a fresh stream that is fed it has just that message.
 pub fn reads_back()
-    ensures spelled { (change : Change) → IsWritable change → HasOctets (key_of change) → length (written change) ≤ 4096 → SpellsMessage (Message.Update (update_of change) ∷ []) (written change) }
-    ensures fed { (change : Change) → IsWritable change → HasOctets (key_of change) → length (written change) ≤ 4096 → fed message_front unfed (written change) ≡ record { waiting = Message.Update (update_of change) ∷ []; held = []; before = length (written change); fault = None } }
+    ensures spelled { (change : Change) → IsWritable change → HasOctets (key_of change) → length (written change) ≤ 4096 →
+        SpellsMessage (Message.Update (update_of change) ∷ []) (written change) }
+    ensures fed { (change : Change) → IsWritable change → HasOctets (key_of change) → length (written change) ≤ 4096 →
+        fed message_front unfed (written change) ≡ record {
+          waiting = Message.Update (update_of change) ∷ [];
+          held = [];
+          before = length (written change);
+          fault = None;
+        } }
 {}

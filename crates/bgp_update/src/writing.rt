@@ -9,7 +9,10 @@ ghost use Rattle.bgp_attributes.specs.declared.family.Family.TheVariants as fami
 ghost use Rattle.mvpn_nlri.specs.Spelling as routes;
 ghost use Rattle.pmsi_attr.specs.Spelling as tunnels;
 ghost use Rattle.bgp_attributes.specs.Spelling.{pair};
-ghost use Rattle.bgp_update.specs.Written.{attribute_head, attribute, afi_of, family_of, mapped, hop_of, vpn_text, key_text, reach_value, unreach_value, path_text, tunnel_text, advert_text, attributes_of, message_text, written, has_many, comms_octets, IsVpn, IsWritableKey, IsTunnel, IsWritableAdvert, IsWritable, Encodes};
+ghost use Rattle.bgp_update.specs.Written.{attribute_head, attribute, afi_of, family_of, mapped, hop_of, vpn_text};
+ghost use Rattle.bgp_update.specs.Written.{key_text, reach_value, unreach_value, path_text, tunnel_text, advert_text};
+ghost use Rattle.bgp_update.specs.Written.{attributes_of, message_text, written, has_many, comms_octets, IsVpn};
+ghost use Rattle.bgp_update.specs.Written.{IsWritableKey, IsTunnel, IsWritableAdvert, IsWritable, Encodes};
 
 use crate::front::{MESSAGE_LIMIT, UPDATE};
 use bgp_attributes::{Advert, Change, Key};

@@ -5,6 +5,7 @@ use Rattle.std.specs.Ordering.{nat_cmp, is_lt, ordering_then}
 use Rattle.std.specs.declared.cmp.Ordering.{Ordering}
 use Rattle.std.specs.declared.cmp.Ordering.TheVariants.{Less, Equal, Greater}
 use Rattle.std.specs.Cmp.Lexicographic.{slice_cmp}
+pub use Rattle.mv_base.specs.Lists.{Among}
 use Rattle.mv_base.specs.Address.{addr_octets}
 use Rattle.mv_base.specs.Prefix.{covers, same_front}
 use Rattle.mv_base.specs.declared.addr.Addr.{Addr}
@@ -19,11 +20,6 @@ use Rattle.scenario_defs.specs.declared.scenario.Route.{Route}
 use Rattle.choice_defs.specs.declared.known_route.KnownRoute.{KnownRoute}
 use Rattle.choice_defs.specs.declared.origin.Origin.{Origin}
 use Rattle.choice_defs.specs.declared.origin.Origin.TheVariants.{Local, Remote}
-
--- it is one of the list
-abbrev pub Among : {X : Type 0} → X → List X → Type 0
-Among x [] = ⊥
-Among x (y ∷ ys) = (x ≡ y) ⊎ Among x ys
 
 -- ---- addresses and route distinguishers
 

@@ -8,8 +8,8 @@ ghost use Rattle.scenario_defs.specs.Home.{home_by};
 ghost use Rattle.choice_defs.specs.declared.known_route.KnownRoute.{KnownRoute};
 ghost use Rattle.choice_defs.specs.declared.origin.Origin.{Origin};
 ghost use Rattle.choice_defs.specs.declared.origin.Origin.TheVariants.{Local};
-ghost use Rattle.choice_defs.specs.Choice.{Among, choose, of_site, IsChosen, IsEdgeOfCandidate, IsHashed, IsUncovered};
-ghost use Rattle.choice_defs.specs.Choice.{AreOfEdges, AreOfSites, AreLocal, IsSiteOfLongest};
+ghost use Rattle.choice_defs.specs.Choice.{Among, choose, of_site, IsChosen, IsEdgeOfCandidate, IsHashed};
+ghost use Rattle.choice_defs.specs.Choice.{IsUncovered, AreOfEdges, AreOfSites, AreLocal, IsSiteOfLongest};
 ghost use Rattle.choice_defs.specs.Example.{Worked};
 
 /// Where each edge has an address of its own, what a VRF chooses is chosen as the rule says; and it chooses nothing exactly

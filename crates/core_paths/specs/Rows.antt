@@ -1,5 +1,6 @@
 -- Rows: an entry for each node, all toward one node.
-use Rattle.std.specs.Prelude.{◌≡◌, ◌≢◌, ◌+◌, ◌<◌, ◌≤◌, ◌&&◌, ◌==◌, ℕ, Bool, nat_lt, nat_le, List, fold, length, slice_index, slice_set, if◌then◌else◌}
+use Rattle.std.specs.Prelude.{◌≡◌, ◌≢◌, ◌+◌, ◌<◌, ◌≤◌, ◌&&◌, ◌==◌, ℕ, Bool, nat_lt, nat_le}
+use Rattle.std.specs.Prelude.{List, fold, length, slice_index, slice_set, if◌then◌else◌}
 use Rattle.mv_base.specs.declared.core_link.Link.{Link}
 use Rattle.core_walks.specs.Walks.{Reaches, IsLeast, IsToward}
 

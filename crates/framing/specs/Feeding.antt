@@ -1,6 +1,7 @@
 -- What the calls of a stream answer and leave. A format tells units by `Spells`; `Faulty` tells the first
 -- fault of octets, with the messages that stand before it in the unit at fault.
-use Rattle.std.specs.Prelude.{◌≡◌, ℕ, List, [], ◌∷◌, ◌-◌, ◌<◌, ◌≤◌, ◌++◌, ◌⊎◌, length, take, drop, Result, Ok, Err, Option, Some, None, IsSome}
+use Rattle.std.specs.Prelude.{◌≡◌, ℕ, List, [], ◌∷◌, ◌-◌, ◌<◌, ◌≤◌, ◌++◌, ◌⊎◌, length}
+use Rattle.std.specs.Prelude.{take, drop, Result, Ok, Err, Option, Some, None, IsSome}
 use Rattle.mv_base.specs.Octets.{IsOctets}
 use Rattle.mv_base.specs.declared.memory.NoMemory.{NoMemory}
 use Rattle.framing.specs.Units.{Splits}
@@ -40,7 +41,8 @@ Accepts old len (Err e) (Err faults.Failed) new = ⊥
 Accepts old len (Err e) (Err (faults.First place fault)) new = ⊥
 
 -- a piece was taken by what stands at the fronts, and this fault stands then
-pub record Takes {M E : Type 0} (front : List ℕ → Front M E) (old : Fed M E) (piece : List ℕ) (new : Fed M E) (stop : Option (ℕ × E)) : Type 0 where
+pub record Takes {M E : Type 0}
+    (front : List ℕ → Front M E) (old : Fed M E) (piece : List ℕ) (new : Fed M E) (stop : Option (ℕ × E)) : Type 0 where
   pub octets : IsOctets (old.held ++ piece)
   pub unfailed : old.fault ≡ None
   pub taken : new ≡ fed front old piece

@@ -6,14 +6,17 @@ use Rattle.std.specs.Prelude.{◌≡◌, ℕ, zero, suc, ◌+◌, ◌-◌, ◌<�
 abbrev pub ArePartsAfter : {M : Type 0} → (M → List ℕ → Type 0) → (List M → M → Type 0) → List M → List ℕ → List M → List ℕ → Type 0
 ArePartsAfter Spells Fits before octets [] rest = octets ≡ rest
 ArePartsAfter Spells Fits before octets (m ∷ ms) rest =
-    (text after : List ℕ) × Spells m text × Fits before m × (octets ≡ text ++ after) × ArePartsAfter Spells Fits (before ++ m ∷ []) after ms rest
+    (text after : List ℕ) × Spells m text × Fits before m × (octets ≡ text ++ after)
+    × ArePartsAfter Spells Fits (before ++ m ∷ []) after ms rest
 
 -- the parts, of which the first stands at the start
 abbrev pub AreParts : {M : Type 0} → (M → List ℕ → Type 0) → (List M → M → Type 0) → List ℕ → List M → List ℕ → Type 0
 AreParts Spells Fits octets ms rest = ArePartsAfter Spells Fits [] octets ms rest
 
 -- Whole parts stand first, octets follow, and there the next part has a fault.
-pub record PartFails {M E : Type 0} (Spells : M → List ℕ → Type 0) (Fits : List M → M → Type 0) (Faulty : List M → List ℕ → ℕ → E → Type 0) (octets : List ℕ) (place : ℕ) (e : E) : Type 0 where
+pub record PartFails {M E : Type 0}
+    (Spells : M → List ℕ → Type 0) (Fits : List M → M → Type 0) (Faulty : List M → List ℕ → ℕ → E → Type 0)
+    (octets : List ℕ) (place : ℕ) (e : E) : Type 0 where
   pub parts : List M
   pub rest : List ℕ
   pub offset : ℕ

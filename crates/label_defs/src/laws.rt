@@ -13,10 +13,13 @@ ghost use Rattle.label_defs.specs.declared.label_use.LabelUse.TheVariants as use
 ghost use Rattle.label_defs.specs.declared.put.Put.{Put};
 ghost use Rattle.label_defs.specs.LabelData.{Place, LabelData, fresh, use_of, has_tree, is_up, is_ready};
 ghost use Rattle.label_defs.specs.Settling.{Stepped, settle_all};
-ghost use Rattle.label_defs.specs.Steps.{Call, Taken, Raised, Noticed, Timers, Rerouted, Numbered, effect, ends_after, label_step, step_puts};
+ghost use Rattle.label_defs.specs.Steps.{Call, Taken, Raised, Noticed, Timers, Rerouted};
+ghost use Rattle.label_defs.specs.Steps.{Numbered, effect, ends_after, label_step, step_puts};
 ghost use Rattle.label_defs.specs.Settled.{Maps, Settled, AllSettled, MayBe, WereSettled, IdsFit};
 ghost use Rattle.label_defs.specs.Row.{LeafToRoot};
-ghost use Rattle.label_defs.specs.Laws.{releases, owed_releases, StopsLeaving, is_towards, withdraw_to, WithdrawIs, WithdrawnThen, MappedThen, FreeIn, FreeThen, mapping_to, MappingIs, MovedThen, HeldBefore, HeldSince, LacksLabels};
+ghost use Rattle.label_defs.specs.Laws.{releases, owed_releases, StopsLeaving, is_towards, withdraw_to};
+ghost use Rattle.label_defs.specs.Laws.{WithdrawIs, WithdrawnThen, MappedThen, FreeIn, FreeThen, mapping_to};
+ghost use Rattle.label_defs.specs.Laws.{MappingIs, MovedThen, HeldBefore, HeldSince, LacksLabels};
 
 /// In a node in which nothing has happened each tree is settled.
 pub fn fresh_is_settled()

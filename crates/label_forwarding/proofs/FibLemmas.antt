@@ -9,12 +9,12 @@ use Rattle.std.specs.Cmp.{Equal-is, tied_itself}
 use Rattle.std.specs.declared.cmp.Ordering.{Ordering}
 use Rattle.std.specs.declared.cmp.Ordering.TheVariants.{Less, Equal, Greater}
 use Rattle.std.specs.FinMap as maps
-use Rattle.std.specs.FinMap.{is_sorted, find}
-use Rattle.std.specs.FinMap.Entries.{below_all}
+use Rattle.std.specs.FinMap.{find}
 use Rattle.std.specs.FinSet as sets
 use Rattle.std.specs.FinSet.{FinSet}
 use Rattle.std.proofs.lemmas.List.Sums.{sum_by-cons}
 use Rattle.indexmap.specs.IndexMap.{get, IsUnique}
+use Rattle.mv_base.proofs.SortedMaps.{map_sorted}
 use Rattle.mldp_fec.specs.declared.fec.Fec.{Fec}
 use Rattle.label_defs.specs.Keys.{fec_cmp}
 use Rattle.label_defs.specs.declared.branch.Branch.{Branch as TreeBranch}
@@ -33,28 +33,6 @@ use Rattle.label_forwarding.proofs.SlotLemmas.{fec_equal, fec_itself, fec-ties, 
 
 -- ---- order
 
-first : (a b : Bool) → T (a && b) → T a
-first true b p = tt
-first false b p = p
-
-second : (a b : Bool) → T (a && b) → T b
-second true b p = p
-second false b p = absurd p
-
-less : (o : Ordering) → T (is_lt o) → o ≡ Less
-less Less p = refl
-less Equal p = absurd p
-less Greater p = absurd p
-
-all_below : (x : Branch) (es : List (Branch × Unit {0})) → T (below_all hop_cmp x es) → AllByRecursion (λ y. hop_cmp x y ≡ Less) (map (λ e. e.0) es)
-all_below x [] h = tt
-all_below x (e ∷ es) h = (less (hop_cmp x e.0) (first _ _ h), all_below x es (second _ _ h))
-
-strictly : (es : List (Branch × Unit {0})) → T (is_sorted hop_cmp es) → IsStrictlySortedBy hop_cmp (map (λ e. e.0) es)
-unfolding IsStrictlySortedBy
-strictly [] h = tt
-strictly (e ∷ es) h = (all_below e.0 es (first _ _ h), strictly es (second _ _ h))
-
 none_sorted : IsStrictlySortedBy hop_cmp []
 unfolding IsStrictlySortedBy
 none_sorted = tt
@@ -64,7 +42,7 @@ none_sorted = tt
 pub hops_are : (pairs : Pairs) (slots : Slots) → IsFib pairs slots → (fec : Fec) (slot : Slot) → get is_fec slots fec ≡ Some slot → (hops : List Branch) → hops ≡ maps.keys slot.entry.branches → AreHops (fib_of pairs slots) fec hops
 hops_are pairs slots fib fec slot at hops is =
     subst (λ (xs : List Branch). AreHops (fib_of pairs slots) fec xs) (sym is) (record {
-      ordered = strictly (maps.entries slot.entry.branches) (maps.entries_sorted slot.entry.branches);
+      ordered = map_sorted hop_cmp slot.entry.branches;
       each = λ own. sym (maps.contains_key-keys slot.entry.branches own) ∙ (ap (λ (o : Option Slot). has_hop o own) (sym at) ∙ sym (branch_seen slots.entries fib.one_slot (branch_in fec own)));
     })
 

@@ -4,7 +4,8 @@ ghost use Rattle.mv_base.specs.Checksum.{checksum};
 ghost use Rattle.mv_base.specs.declared.addr.Addr.{Addr};
 ghost use Rattle.label_forwarding.specs.Spelling.{IsPacket};
 ghost use Rattle.label_forwarding.specs.FirstFault.{FirstFault};
-ghost use Rattle.label_forwarding.specs.Reading.{octets_in, number_at, header_len, unsummed, four_fault, six_fault, four_of, six_of, packet_of};
+ghost use Rattle.label_forwarding.specs.Reading.{octets_in, number_at, header_len, unsummed};
+ghost use Rattle.label_forwarding.specs.Reading.{four_fault, six_fault, four_of, six_of, packet_of};
 
 use crate::datagram::Datagram;
 use crate::fault::{PacketFault, PacketReason};

@@ -17,7 +17,7 @@ use Rattle.label_defs.proofs.KeyLemmas.{branch_cmp_total, node_equal, node_itsel
 use Rattle.label_defs.proofs.MemberLemmas.{each_in_order}
 use Rattle.label_laws.specs.Network.{PacketCopy, LabelNetwork}
 use Rattle.label_laws.specs.Acts.{with_copies, labels_to, copied, without_copy, forwarded, landed}
-use Rattle.label_laws.specs.Rule.{Holds, LabelCovers, mapped, leaving, resting, Unheld, Covered, CopyOk, Rule, Kept, end_of, branch_trees, is_held}
+use Rattle.label_laws.specs.Rule.{IsUsedTowards, LabelCovers, mapped, leaving, resting, Unheld, Covered, CopyOk, Rule, Kept, end_of, branch_trees, is_held}
 use Rattle.label_laws.proofs.Phases.{branch_held}
 use Rattle.label_laws.proofs.Times.{each_filtered}
 
@@ -83,7 +83,7 @@ each_label d to fec =
 
 -- ---- copies are put
 
-held_stands : (life : ℕ) (vpn_of : Fec → ℕ) (u : NodeId) (f : Fec) (vpn t : ℕ) (s : Option LabelUse) → vpn_of f ≡ vpn → Holds f u s → LabelCovers life vpn_of u s vpn t
+held_stands : (life : ℕ) (vpn_of : Fec → ℕ) (u : NodeId) (f : Fec) (vpn t : ℕ) (s : Option LabelUse) → vpn_of f ≡ vpn → IsUsedTowards f u s → LabelCovers life vpn_of u s vpn t
 held_stands life vpn_of u f vpn t s fits h = elim h [ inl e ↦ mapped f e fits | inr e ↦ leaving f e ]
 
 -- a copy that is put on a branch

@@ -7,7 +7,7 @@ use Rattle.mldp_msgs.specs.declared.message.LabelMessage.TheVariants as messages
 use Rattle.label_defs.specs.declared.label_use.LabelUse.{LabelUse}
 use Rattle.label_defs.specs.declared.label_use.LabelUse.TheVariants as uses
 use Rattle.label_defs.proofs.KeyLemmas.{same_fec_equal}
-use Rattle.label_laws.specs.Rule.{Holds, IsOther, Kind, Mapping, Stands, MappingAndWithdraw, Withdraw, Release, Idle, none, only, Phase, PhaseIs}
+use Rattle.label_laws.specs.Rule.{IsUsedTowards, IsOther, Kind, Mapping, Stands, MappingAndWithdraw, Withdraw, Release, Idle, none, only, Phase, PhaseIs}
 
 -- ---- a mapping is taken: the branch stands
 
@@ -24,7 +24,7 @@ mapping_taken u l f s ms bs o h = mapping_taken_at h.kind u l f s ms bs o h.hold
 
 -- a mapping comes where no branch is, for a label that is held
 pub record Comes (f : Fec) (u : NodeId) (s : Option LabelUse) (o : Fec → Bool) : Type 0 where
-  pub held : Holds f u s
+  pub held : IsUsedTowards f u s
   pub branch : o ≡ none
 
 mapping_comes_at : (k : Kind) (u : NodeId) (l : ℕ) (f : Fec) (s : Option LabelUse) (ms bs : List LabelMessage) (o : Fec → Bool) → PhaseIs k u l s (messages.Mapping f l ∷ ms) bs o → Comes f u s o
@@ -148,5 +148,5 @@ pub branch_stands : (u : NodeId) (l : ℕ) (f : Fec) (s : Option LabelUse) (ms b
     → (s ≡ Some (uses.Mapped f u)) ⊎ ((s ≡ Some (uses.Leaving f u)) × (ms ≡ messages.Withdraw f l ∷ []))
 branch_stands u l f s ms bs o e h = branch_held_at h.kind u l f s ms bs o e h.holds
 
-pub branch_held : (u : NodeId) (l : ℕ) (f : Fec) (s : Option LabelUse) (ms bs : List LabelMessage) (o : Fec → Bool) → o f ≡ true → Phase u l s ms bs o → Holds f u s
+pub branch_held : (u : NodeId) (l : ℕ) (f : Fec) (s : Option LabelUse) (ms bs : List LabelMessage) (o : Fec → Bool) → o f ≡ true → Phase u l s ms bs o → IsUsedTowards f u s
 branch_held u l f s ms bs o e h = elim (branch_stands u l f s ms bs o e h) [ inl x ↦ inl x | inr x ↦ inr x.0 ]

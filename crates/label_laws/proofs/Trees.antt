@@ -8,7 +8,7 @@ use Rattle.label_defs.specs.declared.branch.Branch.{Branch}
 use Rattle.label_defs.specs.LabelData.{LabelData, same_fec, has_branch, has_tree, use_of}
 use Rattle.label_defs.proofs.KeyLemmas.{branch_cmp_total, branch_cmp_exact, same_fec_equal}
 use Rattle.label_defs.proofs.SetLemmas.{passing_member}
-use Rattle.label_laws.specs.Rule.{Holds, OfTrees}
+use Rattle.label_laws.specs.Rule.{IsUsedTowards, OfTrees}
 
 -- the tree that a node is on is one
 pub tree_of : (is_tree : Fec → Bool) (d : LabelData) (f : Fec) → OfTrees is_tree d → has_tree d f ≡ true → is_tree f ≡ true
@@ -25,6 +25,6 @@ one_more P s t k p all new q h = elim (new q h) [ inl e ↦ subst P (sym e) p | 
 
 -- what the node has is fewer or the same
 pub fewer_trees : (is_tree : Fec → Bool) (old new : LabelData) → ((f : Fec) → sets.contains new.leaves f ≡ true → sets.contains old.leaves f ≡ true) → ((b : Branch) → sets.contains new.branches b ≡ true → sets.contains old.branches b ≡ true)
-    → ((l : ℕ) (f : Fec) (u : NodeId) → Holds f u (use_of new l) → Holds f u (use_of old l)) → OfTrees is_tree old → OfTrees is_tree new
+    → ((l : ℕ) (f : Fec) (u : NodeId) → IsUsedTowards f u (use_of new l) → IsUsedTowards f u (use_of old l)) → OfTrees is_tree old → OfTrees is_tree new
 fewer_trees is_tree old new leaves branches labels t =
     record { leaves = λ f h. t.leaves f (leaves f h); branches = λ b h. t.branches b (branches b h); labels = λ l f u h. t.labels l f u (labels l f u h) }

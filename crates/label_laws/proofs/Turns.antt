@@ -22,7 +22,7 @@ use Rattle.label_defs.proofs.UseLemmas.{used, set_here, set_there}
 use Rattle.label_defs.proofs.TurnLemmas.{Turn, SameRest}
 use Rattle.label_defs.proofs.IdLemmas.{passed, passed_held, passed_raised}
 use Rattle.label_laws.specs.Network.{LabelNetwork, place_of, sent, behind}
-use Rattle.label_laws.specs.Rule.{Holds, View, ViewAt, LabelCovers, Covered, Unheld, Rule, is_held, end_of, branch_trees, is_of_owner, is_release_of}
+use Rattle.label_laws.specs.Rule.{IsUsedTowards, View, ViewAt, LabelCovers, Covered, Unheld, Rule, is_held, end_of, branch_trees, is_of_owner, is_release_of}
 use Rattle.label_laws.proofs.Frames.{along_view, none_to, fails_to, sent_other, sent_quiet, sent_skips, sent_passes, stand_along, covered_along, covered_if, behind_silent}
 use Rattle.label_laws.proofs.Phases.{free_other}
 use Rattle.label_laws.proofs.Views.{SameOrOther, same_view, free_view, left_view}
@@ -111,7 +111,7 @@ module _ (w : LabelNetwork) (b x : NodeId) (d : LabelData) (l : ℕ) (s : Option
     (stands : (u : NodeId) (vpn t : ℕ) → LabelCovers w.life w.vpn_of u (use_of (w.node b) l) vpn t → LabelCovers w.life w.vpn_of u s vpn t)
     (here : (live : Bool) (far : Option End) (ms ns bs : List LabelMessage) (o : Fec → Bool) → (live ≡ true → ns ≡ ms ++ m ∷ []) → View x l live (end_of (w.node b) x) far (use_of (w.node b) l) ms bs o → View x l live (end_of (w.node b) x) far s ns bs o)
     (other : (u : NodeId) → u ≢ x → SameOrOther u (use_of (w.node b) l) s)
-    (trees : (f : Fec) (u : NodeId) → Holds f u s → w.is_tree f ≡ true) where
+    (trees : (f : Fec) (u : NodeId) → IsUsedTowards f u s → w.is_tree f ≡ true) where
   abbrev puts : List Put
   puts = record { to = x; message = m } ∷ []
 
@@ -173,10 +173,10 @@ module _ (w : LabelNetwork) (b x : NodeId) (d : LabelData) (l : ℕ) (s : Option
         };
       }) rule
 
-one_fec : (f g : Fec) (u v : NodeId) → Holds f u (Some (uses.Mapped g v)) → f ≡ g
+one_fec : (f g : Fec) (u v : NodeId) → IsUsedTowards f u (Some (uses.Mapped g v)) → f ≡ g
 one_fec f g u v h = elim h [ inl x ↦ cc | inr x ↦ absurd cc ]
 
-left_fec : (f g : Fec) (u v : NodeId) → Holds f u (Some (uses.Leaving g v)) → f ≡ g
+left_fec : (f g : Fec) (u v : NodeId) → IsUsedTowards f u (Some (uses.Leaving g v)) → f ≡ g
 left_fec f g u v h = elim h [ inl x ↦ absurd cc | inr x ↦ cc ]
 
 -- a turn keeps the rule

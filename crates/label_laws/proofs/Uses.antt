@@ -8,12 +8,12 @@ use Rattle.label_defs.specs.declared.label_use.LabelUse.TheVariants as uses
 use Rattle.label_defs.specs.LabelData.{same_fec}
 use Rattle.label_defs.specs.Steps.{released, freed, woken}
 use Rattle.label_defs.proofs.KeyLemmas.{node_equal, node_itself, node_cases, node_apart}
-use Rattle.label_laws.specs.Rule.{Holds, IsOther, LabelCovers, mapped, leaving, resting}
+use Rattle.label_laws.specs.Rule.{IsUsedTowards, IsOther, LabelCovers, mapped, leaving, resting}
 use Rattle.label_laws.proofs.Views.{SameOrOther}
 use Rattle.label_laws.proofs.Frames.{stand_along}
 
-pub holds_along : (f : Fec) (u : NodeId) (r s : Option LabelUse) → r ≡ s → Holds f u r → Holds f u s
-holds_along f u r s e h = let P : Option LabelUse → Type 0 = Holds f u in subst P e h
+pub holds_along : (f : Fec) (u : NodeId) (r s : Option LabelUse) → r ≡ s → IsUsedTowards f u r → IsUsedTowards f u s
+holds_along f u r s e h = let P : Option LabelUse → Type 0 = IsUsedTowards f u in subst P e h
 
 pub other_along : (u : NodeId) (r s : Option LabelUse) → r ≡ s → IsOther u r → IsOther u s
 other_along u r s e h = let P : Option LabelUse → Type 0 = IsOther u in subst P e h
@@ -72,7 +72,7 @@ map_same_or_other u v change ne h None = inl refl
 map_same_or_other u v change ne h (Some s) = ends_same u v s (change s) ne (h s)
 
 -- who held it before
-pub map_held : (u v : NodeId) (f : Fec) (change : LabelUse → LabelUse) → ((s : LabelUse) → (change s ≡ s) ⊎ Ends v s (change s)) → (o : Option LabelUse) → Holds f u (option_map change o) → Holds f u o
+pub map_held : (u v : NodeId) (f : Fec) (change : LabelUse → LabelUse) → ((s : LabelUse) → (change s ≡ s) ⊎ Ends v s (change s)) → (o : Option LabelUse) → IsUsedTowards f u (option_map change o) → IsUsedTowards f u o
 map_held u v f change h None x = x
 map_held u v f change h (Some s) x = elim (h s) [
   | inl e ↦ holds_along f u (Some (change s)) (Some s) (ap (λ (y : LabelUse). Some y) e) x
@@ -170,7 +170,7 @@ woken_same u now (Some (uses.Mapped g v)) = inl refl
 woken_same u now (Some (uses.Leaving g v)) = inl refl
 woken_same u now (Some (uses.Resting until)) = woken_by u (nat_le until now) until
 
-pub same_held : (u : NodeId) (f : Fec) (r s : Option LabelUse) → SameOrOther u r s → Holds f u s → Holds f u r
+pub same_held : (u : NodeId) (f : Fec) (r s : Option LabelUse) → SameOrOther u r s → IsUsedTowards f u s → IsUsedTowards f u r
 same_held u f r s x h = elim x [ inl e ↦ holds_along f u s r e h | inr y ↦ absurd (y.1 f h) ]
 
 woken_stands_by : (life : ℕ) (vpn_of : Fec → ℕ) (u : NodeId) (vpn at now until : ℕ) (t : Bool) → nat_le until now ≡ t → now ≤ at + life → at + life + 1 ≤ until → LabelCovers life vpn_of u (Some (cond t uses.Free (uses.Resting until))) vpn at

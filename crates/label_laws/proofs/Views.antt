@@ -8,7 +8,7 @@ use Rattle.mldp_msgs.specs.declared.message.LabelMessage.TheVariants as messages
 use Rattle.label_defs.specs.declared.end.End.{End}
 use Rattle.label_defs.specs.declared.label_use.LabelUse.{LabelUse}
 use Rattle.label_defs.specs.declared.label_use.LabelUse.TheVariants as uses
-use Rattle.label_laws.specs.Rule.{Holds, IsOther, Idle, none, only, is_held, Phase, View}
+use Rattle.label_laws.specs.Rule.{IsUsedTowards, IsOther, Idle, none, only, is_held, Phase, View}
 use Rattle.label_laws.proofs.Phases.{mapping_taken, withdraw_taken, free_other, free_mapped, other_kept, withdraw_put, not_none, branch_held}
 use Rattle.label_laws.proofs.Frames.{along_view}
 
@@ -53,7 +53,7 @@ free_view u l f live near far s ms ns bs o e put held v =
       branch = v.branch;
     }
 
-one_tree : (f g : Fec) (u : NodeId) (s : Option LabelUse) → s ≡ Some (uses.Mapped f u) → Holds g u s → f ≡ g
+one_tree : (f g : Fec) (u : NodeId) (s : Option LabelUse) → s ≡ Some (uses.Mapped f u) → IsUsedTowards g u s → f ≡ g
 one_tree f g u s e h = elim h [ inl x ↦ cc | inr x ↦ absurd cc ]
 
 pub left_view : (u : NodeId) (l : ℕ) (f : Fec) (live : Bool) (near far : Option End) (s : Option LabelUse) (ms ns bs : List LabelMessage) (o : Fec → Bool) → s ≡ Some (uses.Mapped f u) → (live ≡ true → ns ≡ ms ++ messages.Withdraw f l ∷ [])

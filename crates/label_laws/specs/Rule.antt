@@ -31,12 +31,12 @@ is_release_of label (messages.Release fec own) = own == label
 is_release_of label other = false
 
 -- the label is mapped to the tree towards that neighbour, or is leaving
-abbrev pub Holds : Fec → NodeId → Option LabelUse → Type 0
-Holds fec u usage = (usage ≡ Some (uses.Mapped fec u)) ⊎ (usage ≡ Some (uses.Leaving fec u))
+abbrev pub IsUsedTowards : Fec → NodeId → Option LabelUse → Type 0
+IsUsedTowards fec u usage = (usage ≡ Some (uses.Mapped fec u)) ⊎ (usage ≡ Some (uses.Leaving fec u))
 
 -- the label is used for nothing towards that neighbour
 abbrev pub IsOther : NodeId → Option LabelUse → Type 0
-IsOther u usage = (fec : Fec) → Holds fec u usage → ⊥
+IsOther u usage = (fec : Fec) → IsUsedTowards fec u usage → ⊥
 
 -- where a label stands between its owner and the neighbour
 pub data Kind : Type 0 where
@@ -91,8 +91,8 @@ is_held (Some end) = end.held
 pub record View (u : NodeId) (label : ℕ) (joined : Bool) (near far : Option End) (usage : Option LabelUse)
     (down up : List LabelMessage) (branches : Fec → Bool) : Type 0 where
   pub phase : joined ≡ true → Phase u label usage down up branches
-  pub alone : (fec : Fec) → joined ≡ false → branches fec ≡ true → (near ≡ None) ⊎ Holds fec u usage
-  pub owner : (fec : Fec) → Holds fec u usage → is_held near ≡ true
+  pub alone : (fec : Fec) → joined ≡ false → branches fec ≡ true → (near ≡ None) ⊎ IsUsedTowards fec u usage
+  pub owner : (fec : Fec) → IsUsedTowards fec u usage → is_held near ≡ true
   pub branch : (fec : Fec) → branches fec ≡ true → is_some far ≡ true
 
 -- the end of a node's session with a neighbour, none where it is down
@@ -122,7 +122,7 @@ pub record SessionAt (network : LabelNetwork) (u n : NodeId) : Type 0 where
 pub record OfTrees (is_tree : Fec → Bool) (part : LabelData) : Type 0 where
   pub leaves : (fec : Fec) → sets.contains part.leaves fec ≡ true → is_tree fec ≡ true
   pub branches : (branch : Branch) → sets.contains part.branches branch ≡ true → is_tree branch.fec ≡ true
-  pub labels : (label : ℕ) (fec : Fec) (u : NodeId) → Holds fec u (use_of part label) → is_tree fec ≡ true
+  pub labels : (label : ℕ) (fec : Fec) (u : NodeId) → IsUsedTowards fec u (use_of part label) → is_tree fec ≡ true
 
 -- ---- copies
 
@@ -202,4 +202,4 @@ pub record LabelRule (network : LabelNetwork) : Type 0 where
       (use_of (network.node n) label ≡ Some (uses.Mapped fec u)) ⊎ IsWithdrawn network u n label fec
   pub unjoined : (u n : NodeId) (label : ℕ) (fec : Fec) → u ≢ n → (network.direction u n).joined ≡ false →
       sets.contains (network.node u).branches (branch_to n fec label) ≡ true →
-      (end_of (network.node n) u ≡ None) ⊎ Holds fec u (use_of (network.node n) label)
+      (end_of (network.node n) u ≡ None) ⊎ IsUsedTowards fec u (use_of (network.node n) label)

@@ -13,7 +13,7 @@ use Rattle.tunnel_bindings.specs.declared.state.LabelState.TheVariants as states
 use Rattle.tunnel_bindings.specs.States.{label_of}
 use Rattle.label_uses.specs.declared.held.Held.{Held}
 use Rattle.label_uses.specs.declared.table.Waiting.{Waiting}
-use Rattle.label_uses.specs.Held.{binding_of, waiting_binding, IsBound, IsNamed, IsAwaited, IsMapping, Holds}
+use Rattle.label_uses.specs.Held.{binding_of, waiting_binding, IsBound, IsNamed, IsAwaited, IsMapping, HoldsOwned}
 use Rattle.label_uses.proofs.TableLemmas.{Sets, one_fec, one_name}
 
 pub States : Type 0
@@ -38,8 +38,8 @@ pub record Leads (old new : Fec → Option ℕ) (label : ℕ) (own : Held) : Typ
 
 -- a label comes to be held
 pub holds_more : (st st' : ℕ → Option LabelState) (f f' : ℕ → Option Held) (k k' : BindingName → Option AnyBinding) (s : NodeId → Option Incarnation) (g g' : Fec → Option ℕ) (w : Fec → Option Waiting) (label : ℕ) (own : Held) (raise : Incarnation)
-    → Holds st f k s g w → f label ≡ None → k own.name ≡ None → s own.upstream ≡ Some raise
-    → Sets st st' label (Some states.Owned) → Sets f f' label (Some own) → Sets k k' own.name (Some (binding_of label own raise)) → Leads g g' label own → Holds st' f' k' s g' w
+    → HoldsOwned st f k s g w → f label ≡ None → k own.name ≡ None → s own.upstream ≡ Some raise
+    → Sets st st' label (Some states.Owned) → Sets f f' label (Some own) → Sets k k' own.name (Some (binding_of label own raise)) → Leads g g' label own → HoldsOwned st' f' k' s g' w
 holds_more st st' f f' k k' s g g' w label own raise old none fresh up sets held kept leads = record {
   owned = λ q o e. elim (cases_eq q label) [
     | inl is ↦ ap st' is ∙ sets.here
@@ -128,7 +128,7 @@ not_waiting label own raise fec other e = by own.leaving e
     by true e = absurd cc
     by false e = absurd cc
 
-pub names_apart : (st : ℕ → Option LabelState) (f : ℕ → Option Held) (k : BindingName → Option AnyBinding) (s : NodeId → Option Incarnation) (g : Fec → Option ℕ) (w : Fec → Option Waiting) → Holds st f k s g w
+pub names_apart : (st : ℕ → Option LabelState) (f : ℕ → Option Held) (k : BindingName → Option AnyBinding) (s : NodeId → Option Incarnation) (g : Fec → Option ℕ) (w : Fec → Option Waiting) → HoldsOwned st f k s g w
     → (label other : ℕ) (own held : Held) → f label ≡ Some own → f other ≡ Some held → own.name ≡ held.name → label ≡ other
 names_apart st f k s g w holds label other own held e h same =
     let a = holds.bound label own e in
@@ -137,8 +137,8 @@ names_apart st f k s g w holds label other own held e h same =
 
 -- a label is held no longer
 pub holds_less : (st st' : ℕ → Option LabelState) (f f' : ℕ → Option Held) (k k' : BindingName → Option AnyBinding) (s : NodeId → Option Incarnation) (g g' : Fec → Option ℕ) (w : Fec → Option Waiting) (label : ℕ) (own : Held) (value : Option LabelState)
-    → Holds st f k s g w → f label ≡ Some own → (value ≡ Some states.Owned → ⊥)
-    → Sets st st' label value → Sets f f' label None → Sets k k' own.name None → Leaves g g' label → Holds st' f' k' s g' w
+    → HoldsOwned st f k s g w → f label ≡ Some own → (value ≡ Some states.Owned → ⊥)
+    → Sets st st' label value → Sets f f' label None → Sets k k' own.name None → Leaves g g' label → HoldsOwned st' f' k' s g' w
 holds_less st st' f f' k k' s g g' w label own value old at free sets held kept leaves = record {
   owned = λ q o e. sets.others q (not_it q o e) ∙ old.owned q o (was q o e);
   all = λ q e. elim (cases_eq q label) [
@@ -185,7 +185,7 @@ holds_less st st' f f' k k' s g g' w label own value old at free sets held kept 
 
 -- states that change and leave the owned ones
 pub holds_states : (st st' : ℕ → Option LabelState) (f : ℕ → Option Held) (k : BindingName → Option AnyBinding) (s : NodeId → Option Incarnation) (g : Fec → Option ℕ) (w : Fec → Option Waiting)
-    → Holds st f k s g w → ((q : ℕ) → st q ≡ Some states.Owned → st' q ≡ Some states.Owned) → ((q : ℕ) → st' q ≡ Some states.Owned → st q ≡ Some states.Owned) → Holds st' f k s g w
+    → HoldsOwned st f k s g w → ((q : ℕ) → st q ≡ Some states.Owned → st' q ≡ Some states.Owned) → ((q : ℕ) → st' q ≡ Some states.Owned → st q ≡ Some states.Owned) → HoldsOwned st' f k s g w
 holds_states st st' f k s g w old to from = record {
   owned = λ q o e. to q (old.owned q o e);
   all = λ q e. old.all q (from q e);
@@ -198,7 +198,7 @@ holds_states st st' f k s g w old to from = record {
 
 -- sessions that change, but none of a held label
 pub holds_sessions : (st : ℕ → Option LabelState) (f : ℕ → Option Held) (k : BindingName → Option AnyBinding) (s s' : NodeId → Option Incarnation) (g : Fec → Option ℕ) (w : Fec → Option Waiting)
-    → Holds st f k s g w → ((q : ℕ) (o : Held) (raise : Incarnation) → f q ≡ Some o → s o.upstream ≡ Some raise → s' o.upstream ≡ Some raise) → Holds st f k s' g w
+    → HoldsOwned st f k s g w → ((q : ℕ) (o : Held) (raise : Incarnation) → f q ≡ Some o → s o.upstream ≡ Some raise → s' o.upstream ≡ Some raise) → HoldsOwned st f k s' g w
 holds_sessions st f k s s' g w old same = record {
   owned = old.owned;
   all = old.all;
@@ -217,7 +217,7 @@ tree_of other = None
 
 -- a tree waits no longer
 pub holds_unwait : (st : ℕ → Option LabelState) (f : ℕ → Option Held) (k k' : BindingName → Option AnyBinding) (s : NodeId → Option Incarnation) (g : Fec → Option ℕ) (w w' : Fec → Option Waiting) (fec : Fec) (own : Waiting)
-    → Holds st f k s g w → w fec ≡ Some own → Sets k k' own.name None → Sets w w' fec None → Holds st f k' s g w'
+    → HoldsOwned st f k s g w → w fec ≡ Some own → Sets k k' own.name None → Sets w w' fec None → HoldsOwned st f k' s g w'
 holds_unwait st f k k' s g w w' fec own old at kept gone = record {
   owned = old.owned;
   all = old.all;
@@ -252,7 +252,7 @@ holds_unwait st f k k' s g w w' fec own old at kept gone = record {
 
 -- a tree comes to wait
 pub holds_wait : (st : ℕ → Option LabelState) (f : ℕ → Option Held) (k k' : BindingName → Option AnyBinding) (s : NodeId → Option Incarnation) (g : Fec → Option ℕ) (w w' : Fec → Option Waiting) (fec : Fec) (own : Waiting)
-    → Holds st f k s g w → w fec ≡ None → k own.name ≡ None → Sets k k' own.name (Some (waiting_binding fec own)) → Sets w w' fec (Some own) → Holds st f k' s g w'
+    → HoldsOwned st f k s g w → w fec ≡ None → k own.name ≡ None → Sets k k' own.name (Some (waiting_binding fec own)) → Sets w w' fec (Some own) → HoldsOwned st f k' s g w'
 holds_wait st f k k' s g w w' fec own old none fresh kept comes = record {
   owned = old.owned;
   all = old.all;

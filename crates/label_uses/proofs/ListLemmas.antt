@@ -17,7 +17,7 @@ use Rattle.tunnel_bindings.specs.Labels.{Space, state_of, set_label, IsLeastFree
 use Rattle.label_uses.specs.declared.held.Held.{Held}
 use Rattle.label_uses.specs.declared.table.Waiting.{Waiting}
 use Rattle.label_uses.specs.Uses.{use_in, set_use, free_in, mapped_in}
-use Rattle.label_uses.specs.Held.{use_held, use_by, uses_from, IsMapping, Holds}
+use Rattle.label_uses.specs.Held.{use_held, use_by, uses_from, IsMapping, HoldsOwned}
 use Rattle.label_uses.proofs.HoldLemmas.{not_none}
 
 -- ---- one label changes
@@ -122,7 +122,7 @@ set_used labels label usage at = elim (cases_lt label 16) [
 abbrev part_of : List LabelUse → LabelData
 part_of labels = record (fresh 0) { labels = labels }
 
-module _ (space : Space) (f : ℕ → Option Held) (k : BindingName → Option AnyBinding) (s : NodeId → Option Incarnation) (g : Fec → Option ℕ) (w : Fec → Option Waiting) (holds : Holds (state_of space) f k s g w) where
+module _ (space : Space) (f : ℕ → Option Held) (k : BindingName → Option AnyBinding) (s : NodeId → Option Incarnation) (g : Fec → Option ℕ) (w : Fec → Option Waiting) (holds : HoldsOwned (state_of space) f k s g w) where
   -- a label that is held
   pub use_of_held : (label : ℕ) (own : Held) → f label ≡ Some own → use_in (uses_from 16 f space.states) label ≡ Some (use_held own)
   use_of_held label own at = use_is space f label ∙ ap (option_map (λ st. use_by st (f label))) (holds.owned label own at) ∙ ap (λ (o : Option Held). Some (use_by states.Owned o)) at

@@ -18,7 +18,7 @@ use Rattle.tunnel_bindings.proofs.NumbersLemmas.{get-set_same, get-set_other}
 use Rattle.label_uses.specs.declared.held.Held.{Held}
 use Rattle.label_uses.specs.declared.table.Waiting.{Waiting}
 use Rattle.label_uses.specs.Uses.{use_in, lost_at, lost_all}
-use Rattle.label_uses.specs.Held.{is_node, use_held, uses_from, labels_toward, Holds}
+use Rattle.label_uses.specs.Held.{is_node, use_held, uses_from, labels_toward, HoldsOwned}
 use Rattle.label_uses.proofs.ListLemmas.{use_low, use_high, use_of_held}
 use Rattle.label_uses.proofs.StepLemmas.{HeldMap, freed_own, lost_use, Idle, idle, idle_freed}
 
@@ -112,7 +112,7 @@ toward_listed peer (e ∷ es) label own at to = by (λ here. toward_listed peer 
     by behind false t at false u = ap (λ (b : Bool). list_any (λ l. nat_eq l label) (cond b (e.0 ∷ labels_toward peer es) (labels_toward peer es))) u
         ∙ behind (sym (ap (λ (b : Bool). cond b (Some e.1) (lookup (nat_eq label) es)) t) ∙ at)
 
-module _ (space : Space) (h : HeldMap) (k : BindingName → Option AnyBinding) (s : NodeId → Option Incarnation) (g : Fec → Option ℕ) (w : Fec → Option Waiting) (holds : Holds (state_of space) (get nat_eq h) k s g w) (peer : NodeId) where
+module _ (space : Space) (h : HeldMap) (k : BindingName → Option AnyBinding) (s : NodeId → Option Incarnation) (g : Fec → Option ℕ) (w : Fec → Option Waiting) (holds : HoldsOwned (state_of space) (get nat_eq h) k s g w) (peer : NodeId) where
   pub lost_is : lost_all peer (uses_from 16 (get nat_eq h) space.states) (labels_toward peer h.entries) ≡ map (freed peer) (uses_from 16 (get nat_eq h) space.states)
   lost_is = same_lists _ _ (λ p. lost_all_get peer (labels_toward peer h.entries) labels p ∙ (by p (list_any (λ l. nat_eq l (16 + p)) (labels_toward peer h.entries)) refl ∙ sym (slice_get-map (freed peer) labels p)))
     where
@@ -154,7 +154,7 @@ use_in-map f labels label = elim (cases_lt label 16) [
 ]
 
 -- no label is held towards the neighbour behind the loss
-pub none_toward : (space : Space) (h : HeldMap) (k : BindingName → Option AnyBinding) (s : NodeId → Option Incarnation) (g : Fec → Option ℕ) (w : Fec → Option Waiting) → Holds (state_of space) (get nat_eq h) k s g w
+pub none_toward : (space : Space) (h : HeldMap) (k : BindingName → Option AnyBinding) (s : NodeId → Option Incarnation) (g : Fec → Option ℕ) (w : Fec → Option Waiting) → HoldsOwned (state_of space) (get nat_eq h) k s g w
     → (peer : NodeId) (old : List LabelUse) → uses_from 16 (get nat_eq h) space.states ≡ map (freed peer) old → (label : ℕ) (own : Held) → get nat_eq h label ≡ Some own → is_node own.upstream peer ≡ true → ⊥
 none_toward space h k s g w holds peer old is label own at to =
     by (use_in old label) (sym (use_in-map (freed peer) old label) ∙ (ap (λ (ls : List LabelUse). use_in ls label) (sym is) ∙ use_of_held space (get nat_eq h) k s g w holds label own at))

@@ -34,7 +34,7 @@ use Rattle.label_uses.specs.declared.held.Held.{Held}
 use Rattle.label_uses.specs.declared.table.Waiting.{Waiting}
 use Rattle.label_forwarding.proofs.SlotLemmas.{fec_equal, fec_itself, fec-ties, fec_flips}
 use Rattle.label_uses.specs.Uses.{Uses, use_in, mapped_in, binding_for, awaiting, IsOfLabel, IsOfTree, AreBindings}
-use Rattle.label_uses.specs.Held.{is_fec, is_node, use_held, use_by, uses_from, binding_of, waiting_binding, towards, IsNamed, IsAwaited, Holds}
+use Rattle.label_uses.specs.Held.{is_fec, is_node, use_held, use_by, uses_from, binding_of, waiting_binding, towards, IsNamed, IsAwaited, HoldsOwned}
 use Rattle.label_uses.proofs.HoldLemmas.{same_own, not_waiting, tree_of}
 use Rattle.label_uses.proofs.ListLemmas.{use_of_held, held_of_use}
 use Rattle.label_uses.proofs.StepLemmas.{HeldMap, WaitingMap, SessionMap, session_seen, node-ties, binding_label, Idle, NoLabel, IsFree, Rests}
@@ -116,7 +116,7 @@ none_held space life count is label e = by count (label - 16) (placed (ap (λ (x
         case false e = e
 
 pub holds_none : (st : ℕ → Option LabelState) (f : ℕ → Option Held) (k : BindingName → Option AnyBinding) (s : NodeId → Option Incarnation) (g : Fec → Option ℕ) (w : Fec → Option Waiting)
-    → ((label : ℕ) → st label ≡ Some states.Owned → ⊥) → ((label : ℕ) → f label ≡ None) → ((name : BindingName) → k name ≡ None) → ((fec : Fec) → g fec ≡ None) → ((fec : Fec) → w fec ≡ None) → Holds st f k s g w
+    → ((label : ℕ) → st label ≡ Some states.Owned → ⊥) → ((label : ℕ) → f label ≡ None) → ((name : BindingName) → k name ≡ None) → ((fec : Fec) → g fec ≡ None) → ((fec : Fec) → w fec ≡ None) → HoldsOwned st f k s g w
 holds_none st f k s g w free held kept mapped waiting = record {
   owned = λ label own e. absurd (none-some own (sym (held label) ∙ e));
   all = λ label e. absurd (free label e);
@@ -222,7 +222,7 @@ for_held label own raise = by own.leaving
     by true = refl
     by false = refl
 
-module _ (space : Space) (h : HeldMap) (named : Named) (sessions : SessionMap) (g : Fec → Option ℕ) (w : WaitingMap) (holds : Holds (state_of space) (get nat_eq h) (maps.get named.kept) (get is_node sessions) g (get is_fec w)) where
+module _ (space : Space) (h : HeldMap) (named : Named) (sessions : SessionMap) (g : Fec → Option ℕ) (w : WaitingMap) (holds : HoldsOwned (state_of space) (get nat_eq h) (maps.get named.kept) (get is_node sessions) g (get is_fec w)) where
   -- the label of a binding is held under its name
   pub held_under : (name : BindingName) (label : ℕ) → label_in (maps.get named.kept name) ≡ Some label → (own : Held) × (get nat_eq h label ≡ Some own) × (own.name ≡ name)
   held_under name label e = by (maps.get named.kept name) refl e

@@ -34,7 +34,7 @@ use Rattle.label_forwarding.proofs.SlotLemmas.{fec-ties}
 use Rattle.label_uses.specs.declared.held.Held.{Held}
 use Rattle.label_uses.specs.declared.table.Waiting.{Waiting}
 use Rattle.label_uses.specs.Uses.{use_in, set_use, lost_at, with_released}
-use Rattle.label_uses.specs.Held.{is_fec, is_node, use_held, use_by, uses_from, binding_of, left, rested, Holds}
+use Rattle.label_uses.specs.Held.{is_fec, is_node, use_held, use_by, uses_from, binding_of, left, rested, HoldsOwned}
 use Rattle.label_uses.proofs.TableLemmas.{Sets, sets_at, sets_label, sets_fec, name_kept, name_gone, state_set, one_fec}
 use Rattle.label_uses.proofs.HoldLemmas.{Leaves, same_own, not_none, holds_more, holds_less}
 use Rattle.label_uses.proofs.ListLemmas.{use_is, use_set, label_back, held_of_use, set_used}
@@ -77,10 +77,10 @@ session_seen sessions q = maps.get-from_entries node_cmp_total sessions.entries 
 
 -- tables whose entries are the same
 pub same_tables : (space : Space) (h h' : HeldMap) (k : BindingName → Option AnyBinding) (s : NodeId → Option Incarnation) (m m' : TreeMap) (w : Fec → Option Waiting) → h'.entries ≡ h.entries → m'.entries ≡ m.entries
-    → Holds (state_of space) (get nat_eq h) k s (get is_fec m) w → Holds (state_of space) (get nat_eq h') k s (get is_fec m') w
+    → HoldsOwned (state_of space) (get nat_eq h) k s (get is_fec m) w → HoldsOwned (state_of space) (get nat_eq h') k s (get is_fec m') w
 same_tables space h h' k s m m' w he me holds =
-    subst (λ (es : List (ℕ × Held)). Holds (state_of space) (λ q. lookup (nat_eq q) es) k s (get is_fec m') w) (sym he)
-    (subst (λ (es : List (Fec × ℕ)). Holds (state_of space) (get nat_eq h) k s (λ q. lookup (is_fec q) es) w) (sym me) holds)
+    subst (λ (es : List (ℕ × Held)). HoldsOwned (state_of space) (λ q. lookup (nat_eq q) es) k s (get is_fec m') w) (sym he)
+    (subst (λ (es : List (Fec × ℕ)). HoldsOwned (state_of space) (get nat_eq h) k s (λ q. lookup (is_fec q) es) w) (sym me) holds)
 
 -- ---- a label is mapped
 
@@ -92,11 +92,11 @@ mapped_binding w m fec upstream name session label wanted mapped same =
     ap bindings.Mapped (mapped ∙ λ i. record { fec = (wanted i).fec; upstream = (wanted i).upstream; state = record { label = l i; session = session } })
 
 pub map_holds : (space space' : Space) (h h' : HeldMap) (k k' : Kept) (s : NodeId → Option Incarnation) (m m' : TreeMap) (w : Fec → Option Waiting) (label : ℕ) (own : Held) (raise : Incarnation) (b : AnyBinding)
-    → Holds (state_of space) (get nat_eq h) (maps.get k) s (get is_fec m) w → IsLeastFree space label → space' ≡ set_label space label states.Owned
+    → HoldsOwned (state_of space) (get nat_eq h) (maps.get k) s (get is_fec m) w → IsLeastFree space label → space' ≡ set_label space label states.Owned
     → ((other : ℕ) → get nat_eq h' other ≡ cond (nat_eq label other) (Some own) (get nat_eq h other))
     → maps.get k own.name ≡ None → k' ≡ maps.insert k own.name b → b ≡ binding_of label own raise → s own.upstream ≡ Some raise
     → get is_fec m own.fec ≡ None → ((other : Fec) → get is_fec m' other ≡ cond (is_fec own.fec other) (Some label) (get is_fec m other)) → own.leaving ≡ false
-    → Holds (state_of space') (get nat_eq h') (maps.get k') s (get is_fec m') w
+    → HoldsOwned (state_of space') (get nat_eq h') (maps.get k') s (get is_fec m') w
 map_holds space space' h h' k k' s m m' w label own raise b holds least spaces held fresh kept binding up unmapped trees mapped =
     let free = none_held (get nat_eq h label) refl in
     let sets = subst (λ (x : Space). Sets (state_of space) (state_of x) label (Some states.Owned)) (sym spaces) (state_set space label states.Free states.Owned least.free) in
@@ -149,9 +149,9 @@ pub owned_if : (space : Space) (b : AnyBinding) (label : ℕ) → label_of b ≡
 owned_if space b label is owned = subst (λ (o : Option ℕ). IfSome o (λ l. IsOwned space l)) (sym is) owned
 
 pub less_holds : (space space' : Space) (h h' : HeldMap) (k k' : Kept) (s : NodeId → Option Incarnation) (g g' : Fec → Option ℕ) (w : Fec → Option Waiting) (label : ℕ) (own : Held) (new : LabelState)
-    → Holds (state_of space) (get nat_eq h) (maps.get k) s g w → get nat_eq h label ≡ Some own → (Some new ≡ Some states.Owned → ⊥) → space' ≡ set_label space label new
+    → HoldsOwned (state_of space) (get nat_eq h) (maps.get k) s g w → get nat_eq h label ≡ Some own → (Some new ≡ Some states.Owned → ⊥) → space' ≡ set_label space label new
     → ((other : ℕ) → get nat_eq h' other ≡ cond (nat_eq label other) None (get nat_eq h other)) → k' ≡ maps.remove k own.name → Leaves g g' label
-    → Holds (state_of space') (get nat_eq h') (maps.get k') s g' w
+    → HoldsOwned (state_of space') (get nat_eq h') (maps.get k') s g' w
 less_holds space space' h h' k k' s g g' w label own new holds at free spaces held kept leaves =
     let sets = subst (λ (x : Space). Sets (state_of space) (state_of x) label (Some new)) (sym spaces) (state_set space label states.Owned new (holds.owned label own at)) in
     let names = subst (λ (x : Kept). Sets (maps.get k) (maps.get x) own.name None) (sym kept) (name_gone k own.name) in
@@ -165,7 +165,7 @@ less_labels space space' h h' label old new at spaces held =
     let sets = sets_label (get nat_eq h) (get nat_eq h') label None held in
     ap (λ (x : Space). uses_from 16 (get nat_eq h') x.states) spaces ∙ use_set space (get nat_eq h) (get nat_eq h') label old new at sets.others
 
-module _ (st : ℕ → Option LabelState) (f : ℕ → Option Held) (k : BindingName → Option AnyBinding) (s : NodeId → Option Incarnation) (g : Fec → Option ℕ) (w : Fec → Option Waiting) (holds : Holds st f k s g w) where
+module _ (st : ℕ → Option LabelState) (f : ℕ → Option Held) (k : BindingName → Option AnyBinding) (s : NodeId → Option Incarnation) (g : Fec → Option ℕ) (w : Fec → Option Waiting) (holds : HoldsOwned st f k s g w) where
   -- no tree leads to a label that is leaving
   pub leaves_alike : (g' : Fec → Option ℕ) (label : ℕ) (own : Held) → f label ≡ Some own → own.leaving ≡ true → ((fec : Fec) → g' fec ≡ g fec) → Leaves g g' label
   leaves_alike g' label own at gone alike = record {
@@ -322,7 +322,7 @@ pub record IsMapped (f : ℕ → Option Held) (label : ℕ) (fec : Fec) (upstrea
   pub tree : own.fec ≡ fec
   pub toward : own.upstream ≡ upstream
 
-pub mapped_own : (space : Space) (f : ℕ → Option Held) (k : BindingName → Option AnyBinding) (s : NodeId → Option Incarnation) (g : Fec → Option ℕ) (w : Fec → Option Waiting) → Holds (state_of space) f k s g w
+pub mapped_own : (space : Space) (f : ℕ → Option Held) (k : BindingName → Option AnyBinding) (s : NodeId → Option Incarnation) (g : Fec → Option ℕ) (w : Fec → Option Waiting) → HoldsOwned (state_of space) f k s g w
     → (label : ℕ) (fec : Fec) (upstream : NodeId) → use_in (uses_from 16 f space.states) label ≡ Some (uses.Mapped fec upstream) → (own : Held) × IsMapped f label fec upstream own
 mapped_own space f k s g w holds label fec upstream e =
     let x = held_of_use space f k s g w holds label (uses.Mapped fec upstream) e (λ u. absurd cc) (λ until u. absurd cc) in
@@ -343,10 +343,10 @@ leaving_binding label own raise b fec upstream name is mapped tree toward = ap l
     by true e = absurd cc
 
 pub leave_holds : (space : Space) (h h' : HeldMap) (k k1 k' : Kept) (s : NodeId → Option Incarnation) (m m' : TreeMap) (w : Fec → Option Waiting) (label : ℕ) (own new : Held) (raise : Incarnation) (b : AnyBinding)
-    → Holds (state_of space) (get nat_eq h) (maps.get k) s (get is_fec m) w → get nat_eq h label ≡ Some own → own.leaving ≡ false → new.leaving ≡ true
+    → HoldsOwned (state_of space) (get nat_eq h) (maps.get k) s (get is_fec m) w → get nat_eq h label ≡ Some own → own.leaving ≡ false → new.leaving ≡ true
     → k1 ≡ maps.remove k own.name → maps.get k1 new.name ≡ None → k' ≡ maps.insert k1 new.name b → b ≡ binding_of label new raise → s new.upstream ≡ Some raise
     → ((other : ℕ) → get nat_eq h' other ≡ cond (nat_eq label other) (Some new) (get nat_eq h other)) → ((other : Fec) → get is_fec m' other ≡ cond (is_fec own.fec other) None (get is_fec m other))
-    → Holds (state_of space) (get nat_eq h') (maps.get k') s (get is_fec m') w
+    → HoldsOwned (state_of space) (get nat_eq h') (maps.get k') s (get is_fec m') w
 leave_holds space h h' k k1 k' s m m' w label own new raise b holds at mapped gone one fresh two binding up held trees =
     let f1 : ℕ → Option Held = λ l. cond (nat_eq label l) None (get nat_eq h l) in
     let st1 : ℕ → Option LabelState = λ l. cond (nat_eq label l) None (state_of space l) in

@@ -114,8 +114,9 @@ seen space held waiting sessions = record {
 
 -- Exactly the labels that are owned are held, each by a binding of its own. Each tree that waits has a binding of its own. Nothing
 -- else is kept. A tree leads to the label that is mapped to it.
-pub record Holds
-    (state : ℕ → Option LabelState) (held : ℕ → Option Held) (kept : BindingName → Option AnyBinding) (session : NodeId → Option Incarnation)
+pub record HoldsOwned
+    (state : ℕ → Option LabelState) (held : ℕ → Option Held)
+    (kept : BindingName → Option AnyBinding) (session : NodeId → Option Incarnation)
     (mapped : Fec → Option ℕ) (waiting : Fec → Option Waiting) : Type 0 where
   pub owned : (label : ℕ) (own : Held) → held label ≡ Some own → state label ≡ Some states.Owned
   pub all : (label : ℕ) → state label ≡ Some states.Owned → is_some (held label) ≡ true

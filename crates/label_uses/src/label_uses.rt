@@ -5,7 +5,8 @@ ghost use Rattle.label_defs.specs.declared.label_use.LabelUse.TheVariants as use
 ghost use Rattle.label_defs.specs.LabelData.{is_rested};
 ghost use Rattle.label_defs.specs.Steps.{woken};
 ghost use Rattle.label_defs.specs.Settling.{upstream_of};
-ghost use Rattle.label_uses.specs.Uses.{Uses, unused, use_in, set_use, free_in, mapped_in, with_mapped, with_released, without, lost_at, lost_all, AreBindings};
+ghost use Rattle.label_uses.specs.Uses.{Uses, unused, use_in, set_use, free_in, mapped_in, with_mapped};
+ghost use Rattle.label_uses.specs.Uses.{with_released, without, lost_at, lost_all, AreBindings};
 ghost use Rattle.label_uses.specs.Held.{left, rested};
 ghost use Rattle.tunnel_bindings.specs.Labels.{IsOwned};
 ghost use Rattle.tunnel_bindings.specs.States.{label_of};
@@ -40,7 +41,7 @@ impl Model for LabelUses {
     ghost use Rattle.indexmap.specs.IndexMap.{get};
     ghost use Rattle.tunnel_bindings.specs.Labels.{state_of};
     ghost use Rattle.label_uses.specs.Uses.{Uses, uses_code};
-    ghost use Rattle.label_uses.specs.Held.{Holds, seen, is_fec, is_node};
+    ghost use Rattle.label_uses.specs.Held.{HoldsOwned, seen, is_fec, is_node};
 
     ghost Value = { Uses };
 
@@ -49,7 +50,7 @@ impl Model for LabelUses {
     ghost view = { λ u. seen u.space (get nat_eq u.held) u.waiting.entries u.sessions.entries };
 
     ghost invariant = { λ u.
-        Holds (state_of u.space) (get nat_eq u.held) (maps.get u.bindings.kept) (get is_node u.sessions) (get is_fec u.mapped)
+        HoldsOwned (state_of u.space) (get nat_eq u.held) (maps.get u.bindings.kept) (get is_node u.sessions) (get is_fec u.mapped)
         (get is_fec u.waiting) };
 }
 
@@ -180,7 +181,8 @@ impl LabelUses {
     /// The label is withdrawn. It is leaving until it is released, or its session is lost. Where there is no memory, it is free.
     pub fn leave(&mut self, label: u32, fec: &Fec, upstream: NodeId) -> Result<(), NoMemory>
         requires { use_in self.old.labels label ≡ Some (uses.Mapped fec.now upstream) }
-        ensures leaving { OnOk result (self.new ≡ record self.old { labels = set_use self.old.labels label (uses.Leaving fec.now upstream) }) }
+        ensures leaving { OnOk result
+            (self.new ≡ record self.old { labels = set_use self.old.labels label (uses.Leaving fec.now upstream) }) }
         ensures free { OnErr result (self.new ≡ record self.old { labels = set_use self.old.labels label uses.Free }) }
     {
         let own = self.held.get(&label).copied().unwrap();

@@ -11,7 +11,7 @@ use Rattle.bgp_attributes.specs.declared.update.Change.{Change}
 use Rattle.bgp_attributes.specs.declared.update.Change.TheVariants as updates
 use Rattle.bgp_attributes.specs.declared.update.Message.{Message}
 use Rattle.bgp_update.specs.Spelling.{SpellsMessage}
-use Rattle.bgp_update.specs.Table.{changes_of, Holds, HasRoute}
+use Rattle.bgp_update.specs.Table.{changes_of, AnnouncesLast, HasRoute}
 use Rattle.scenario_defs.specs.declared.event.Kind.TheVariants as kinds
 use Rattle.scenario_defs.specs.declared.scenario.Scenario.{Scenario}
 use Rattle.session_defs.specs.Message.{SessionMessage, Bgp, Spells}
@@ -73,7 +73,7 @@ pub record IsTakenRoute (octets : List ℕ) (key : Key) (value : Value) : Type 0
   pub comms : advert.comms ≡ value.comms
   pub pmsi : advert.pmsi ≡ value.pmsi
 
-none_held : (key : Key) (advert : Advert) → Holds [] key advert → ⊥
+none_held : (key : Key) (advert : Advert) → AnnouncesLast [] key advert → ⊥
 none_held key advert h = by h.before h.parts
   where
     by : (before : List Change) → [] ≡ before ++ updates.Reach advert ∷ h.after → ⊥
@@ -98,7 +98,7 @@ taken_route trace world all peer n key route e = by (is_up_in kinds.Bgp n peer t
               begins = record { units = p.plain; each = p.each; parts = x.parts ∙ ap (λ (xs : List ℕ). xs ++ rest) p.octets; carried = refl };
               no_unit = λ ms text after spells. no_unit kinds.Bgp rest x.waits (map (λ message. Bgp message) ms) text after (ms, refl, spells);
             },
-            subst (λ (cs : List Change). Holds cs key h.advert) p.says h.holds,
+            subst (λ (cs : List Change). AnnouncesLast cs key h.advert) p.says h.holds,
           );
           comms = h.comms;
           pmsi = h.pmsi;

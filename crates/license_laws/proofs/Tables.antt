@@ -12,7 +12,7 @@ use Rattle.bgp_attributes.specs.declared.update.Advert.{Advert}
 use Rattle.bgp_attributes.specs.declared.update.Change.{Change}
 use Rattle.bgp_attributes.specs.declared.update.Change.TheVariants as updates
 use Rattle.bgp_attributes.specs.declared.update.Message.{Message}
-use Rattle.bgp_update.specs.Table.{key_of, changes_of, Holds}
+use Rattle.bgp_update.specs.Table.{key_of, changes_of, AnnouncesLast}
 use Rattle.scenario_defs.specs.declared.event.Kind.TheVariants as kinds
 use Rattle.label_defs.specs.Keys.{node_cmp}
 use Rattle.label_defs.specs.Settling as settling
@@ -44,7 +44,7 @@ use Rattle.license_laws.proofs.Hears.{IsOther, IsOfKind, Follower}
 -- the last change about the key announces it with the communities and the tunnel of the value
 pub record HoldsValue (changes : List Change) (key : Key) (value : Value) : Type 0 where
   pub advert : Advert
-  pub holds : Holds changes key advert
+  pub holds : AnnouncesLast changes key advert
   pub comms : advert.comms ≡ value.comms
   pub pmsi : advert.pmsi ≡ value.pmsi
 

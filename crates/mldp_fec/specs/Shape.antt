@@ -1,5 +1,6 @@
 -- The number of octets of a TLV, from its type and its length.
-use Rattle.std.specs.Prelude.{ℕ, ◌+◌, ◌-◌, List, length, take, drop, Option, Some, None, nat_lt, ◌==◌, ◌&&◌, ◌||◌, not, slice_index, if◌then◌else◌}
+use Rattle.std.specs.Prelude.{ℕ, ◌+◌, ◌-◌, List, length, take, drop, Option, Some, None}
+use Rattle.std.specs.Prelude.{nat_lt, ◌==◌, ◌&&◌, ◌||◌, not, slice_index, if◌then◌else◌}
 use Rattle.std.specs.Int.{w16, from_be_bytes}
 
 -- the octets before the value: 5 where there is an extended type
@@ -14,5 +15,6 @@ value_len octets = from_be_bytes w16 (take 2 (drop (header_len octets - 2) octet
 unfoldable pub tlv_len : List ℕ → Option ℕ
 tlv_len octets =
     if nat_lt (length octets) (header_len octets) then None else
-    if nat_lt (length octets) (header_len octets + value_len octets) || ((slice_index octets 0 == 1) && not (value_len octets == 4)) then None else
+    if nat_lt (length octets) (header_len octets + value_len octets)
+    || ((slice_index octets 0 == 1) && not (value_len octets == 4)) then None else
     Some (header_len octets + value_len octets)

@@ -12,7 +12,8 @@ use Rattle.mldp_msgs.specs.declared.fault.LdpFault.{LdpFault}
 use Rattle.mldp_msgs.specs.declared.fault.LdpFault.TheVariants as faults
 use Rattle.mldp_msgs.specs.declared.message.LabelMessage.{LabelMessage}
 use Rattle.mldp_msgs.specs.declared.tlv.Tlv.{Tlv}
-use Rattle.mldp_msgs.specs.Spelling.{IsType, tlv_type, tlv, IsOther, IsPassedType, NoneTells, fec_of, label_of, IsUnlikeValue, SpellsTlv, IsNew, AreTlvs, IsLabelType, SpellsMessage}
+use Rattle.mldp_msgs.specs.Spelling.{IsType, tlv_type, tlv, IsOther, IsPassedType, NoneTells, fec_of, label_of}
+use Rattle.mldp_msgs.specs.Spelling.{IsUnlikeValue, SpellsTlv, IsNew, AreTlvs, IsLabelType, SpellsMessage}
 
 -- ---- TLVs
 

@@ -1,5 +1,6 @@
 -- Reading TLVs, messages and PDUs from left to right, with the first fault that is met.
-use Rattle.std.specs.Prelude.{ℕ, ◌+◌, ◌-◌, ◌/◌, ◌%◌, ◌^◌, List, [], ◌∷◌, length, take, drop, Bool, false, Option, Some, None, is_some, Result, Ok, Err, nat_lt, ◌==◌, ◌||◌, not, if◌then◌else◌}
+use Rattle.std.specs.Prelude.{ℕ, ◌+◌, ◌-◌, ◌/◌, ◌%◌, ◌^◌, List, [], ◌∷◌, length, take, drop, Bool, false, Option}
+use Rattle.std.specs.Prelude.{Some, None, is_some, Result, Ok, Err, nat_lt, ◌==◌, ◌||◌, not, if◌then◌else◌}
 use Rattle.std.specs.Int.{w16, w32, from_be_bytes}
 use Rattle.framing.specs.Cut.{Front, Cut, cut}
 use Rattle.framing.specs.Cut.Front.{more, whole, bad}

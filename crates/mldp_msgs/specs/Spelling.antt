@@ -48,7 +48,9 @@ IsPassed bits kind = IsOther kind × (IsPassedType kind ⊎ (2 ≤ bits))
 -- what the value of a TLV of that type says; the 12 bits above a label may be anything (RFC 5036 section 3.4.2.1)
 abbrev pub Says : ℕ → ℕ → List ℕ → Tlv → Type 0
 Says bits kind value (tlvs.Fec f) = (kind ≡ 0x0100) × fec.Spells f value
-Says bits kind value (tlvs.Label l) = (kind ≡ 0x0200) × IsLabel l × ((high : ℕ) × (high < 2 ^ 12) × (value ≡ to_be_bytes w32 (high * 2 ^ 20 + l)))
+Says bits kind value (tlvs.Label l) =
+    (kind ≡ 0x0200) × IsLabel l
+    × ((high : ℕ) × (high < 2 ^ 12) × (value ≡ to_be_bytes w32 (high * 2 ^ 20 + l)))
 Says bits kind value tlvs.Passed = IsPassed bits kind
 
 -- the text spells a TLV that says this
@@ -173,11 +175,16 @@ written_body (messages.Ignored kind) = []
 
 -- the message with that id
 abbrev pub written_message : ℕ → LabelMessage → List ℕ
-written_message id m = to_be_bytes w16 (type_of m) ++ (to_be_bytes w16 (4 + length (written_body m)) ++ (to_be_bytes w32 id ++ written_body m))
+written_message id m =
+    to_be_bytes w16 (type_of m)
+    ++ (to_be_bytes w16 (4 + length (written_body m)) ++ (to_be_bytes w32 id ++ written_body m))
 
 -- a PDU with this message alone: the LDP identifier is the router's, of label space 0 (RFC 5036 section 2.2.2)
 abbrev pub written : Addr → ℕ → LabelMessage → List ℕ
-written me id m = to_be_bytes w16 1 ++ (to_be_bytes w16 (6 + length (written_message id m)) ++ ((addr_octets me ++ 0 ∷ 0 ∷ []) ++ written_message id m))
+written me id m =
+    to_be_bytes w16 1
+    ++ (to_be_bytes w16 (6 + length (written_message id m))
+    ++ ((addr_octets me ++ 0 ∷ 0 ∷ []) ++ written_message id m))
 
 -- the FEC has a spelling
 abbrev pub IsElement : Fec → Type 0

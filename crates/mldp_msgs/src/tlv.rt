@@ -1,7 +1,8 @@
 //! The TLVs of a label message.
 ghost use Rattle.std.specs.Prelude.{◌≡◌, ◌+◌, ◌<◌, ◌≤◌, length, IfOk, IfErr};
 ghost use Rattle.framing.specs.Parts.{parts_of};
-ghost use Rattle.mldp_msgs.specs.Reading.{misfit, found_with, kind_of, is_unlike, element_of, first_element, label_at, value_of, tlv_at, next_tlv, found_in};
+ghost use Rattle.mldp_msgs.specs.Reading.{misfit, found_with, kind_of, is_unlike, element_of};
+ghost use Rattle.mldp_msgs.specs.Reading.{first_element, label_at, value_of, tlv_at, next_tlv, found_in};
 
 use crate::fault::LdpFault;
 use mldp_fec::{Fec, decode};

@@ -70,7 +70,9 @@ fn tlvs_of(alloc: Global, fec: &Fec, label: u32) -> Result<Bytes, NoMemory>
 /// A message of that type and id, with these octets behind the id.
 fn message_of(alloc: Global, kind: u16, id: u32, body: &[u8]) -> Result<Bytes, NoMemory>
     requires { 4 + length body.now < 2 ^ 16 }
-    ensures { IfOk result (λ octets. octets ≡ to_be_bytes w16 kind ++ (to_be_bytes w16 (4 + length body.now) ++ (to_be_bytes w32 id ++ body.now))) }
+    ensures { IfOk result (λ octets. octets ≡
+        to_be_bytes w16 kind
+        ++ (to_be_bytes w16 (4 + length body.now) ++ (to_be_bytes w32 id ++ body.now))) }
 {
     let mut out = Bytes::new(alloc);
     push_header(&mut out, kind, 4 + body.len() as u16)?;
@@ -82,7 +84,9 @@ fn message_of(alloc: Global, kind: u16, id: u32, body: &[u8]) -> Result<Bytes, N
 /// A PDU of the router `me`, with these messages.
 fn pdu_of(alloc: Global, me: Addr, messages: &[u8]) -> Result<Bytes, NoMemory>
     requires { 6 + length messages.now < 2 ^ 16 }
-    ensures { IfOk result (λ octets. octets ≡ to_be_bytes w16 1 ++ (to_be_bytes w16 (6 + length messages.now) ++ ((addr_octets me ++ 0 ∷ 0 ∷ []) ++ messages.now))) }
+    ensures { IfOk result (λ octets. octets ≡
+        to_be_bytes w16 1
+        ++ (to_be_bytes w16 (6 + length messages.now) ++ ((addr_octets me ++ 0 ∷ 0 ∷ []) ++ messages.now))) }
 {
     let mut out = Bytes::new(alloc);
     push_header(&mut out, 1, 6 + messages.len() as u16)?;

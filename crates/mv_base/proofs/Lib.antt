@@ -3,3 +3,4 @@ pub mod CutLemmas
 pub mod DottedLemmas
 pub mod AddrTextLemmas
 pub mod Fields
+pub mod SortedMaps

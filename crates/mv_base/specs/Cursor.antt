@@ -1,5 +1,6 @@
 -- Reading fields from left to right: what each takes, and what is left after it.
-use Rattle.std.specs.Prelude.{◌≡◌, ℕ, ◌+◌, List, ◌∷◌, length, take, drop, Result, Ok, Err, Option, Some, None, Bool, nat_lt, slice_index, if◌then◌else◌}
+use Rattle.std.specs.Prelude.{◌≡◌, ℕ, ◌+◌, List, ◌∷◌, length, take, drop, Result, Ok, Err}
+use Rattle.std.specs.Prelude.{Option, Some, None, Bool, nat_lt, slice_index, if◌then◌else◌}
 use Rattle.std.specs.Int.{Width, w32, byte_len, from_be_bytes, to_be_bytes}
 use Rattle.mv_base.specs.declared.reader.Short.{Short}
 use Rattle.mv_base.specs.Octets.{Cursor}
@@ -10,15 +11,24 @@ start bytes = record { left = bytes; place = 0 }
 
 -- so many octets
 abbrev pub octets_at : ℕ → Cursor → Result (List ℕ × Cursor) Short
-octets_at n c = if nat_lt (length c.left) n then Err (record { place = c.place; needed = n; left = length c.left }) else Ok (take n c.left, record { left = drop n c.left; place = c.place + n })
+octets_at n c =
+    if nat_lt (length c.left) n
+    then Err (record { place = c.place; needed = n; left = length c.left })
+    else Ok (take n c.left, record { left = drop n c.left; place = c.place + n })
 
 -- one octet
 abbrev pub octet_at : Cursor → Result (ℕ × Cursor) Short
-octet_at c = if nat_lt (length c.left) 1 then Err (record { place = c.place; needed = 1; left = length c.left }) else Ok (slice_index c.left 0, record { left = drop 1 c.left; place = c.place + 1 })
+octet_at c =
+    if nat_lt (length c.left) 1
+    then Err (record { place = c.place; needed = 1; left = length c.left })
+    else Ok (slice_index c.left 0, record { left = drop 1 c.left; place = c.place + 1 })
 
 -- a number of that width, the most significant octet first
 abbrev pub number_at : Width → Cursor → Result (ℕ × Cursor) Short
-number_at w c = if nat_lt (length c.left) (byte_len w) then Err (record { place = c.place; needed = byte_len w; left = length c.left }) else Ok (from_be_bytes w (take (byte_len w) c.left), record { left = drop (byte_len w) c.left; place = c.place + byte_len w })
+number_at w c =
+    if nat_lt (length c.left) (byte_len w)
+    then Err (record { place = c.place; needed = byte_len w; left = length c.left })
+    else Ok (from_be_bytes w (take (byte_len w) c.left), record { left = drop (byte_len w) c.left; place = c.place + byte_len w })
 
 -- the three octets of a number below 2 ^ 24, the most significant first
 abbrev pub three : ℕ → List ℕ
@@ -26,7 +36,10 @@ three n = drop 1 (to_be_bytes w32 n)
 
 -- a number of three octets, the most significant first
 abbrev pub number24_at : Cursor → Result (ℕ × Cursor) Short
-number24_at c = if nat_lt (length c.left) 3 then Err (record { place = c.place; needed = 3; left = length c.left }) else Ok (from_be_bytes w32 (0 ∷ take 3 c.left), record { left = drop 3 c.left; place = c.place + 3 })
+number24_at c =
+    if nat_lt (length c.left) 3
+    then Err (record { place = c.place; needed = 3; left = length c.left })
+    else Ok (from_be_bytes w32 (0 ∷ take 3 c.left), record { left = drop 3 c.left; place = c.place + 3 })
 
 -- What a call answered, and the cursor that it left behind a value, is what reading gives.
 abbrev pub Reads : {X Y E : Type 0} → (X → Y) → Result X E → Cursor → Result (Y × Cursor) E → Type 0

@@ -14,7 +14,11 @@ octet_front_of text = cut_of 46 text >>? λ cut. octet_of cut.0 >>? λ octet. So
 -- the four octets of a dotted address
 unfoldable pub dotted_of : List ℕ → Option (List ℕ)
 dotted_of text =
-    octet_front_of text >>? λ a. octet_front_of a.1 >>? λ b. octet_front_of b.1 >>? λ c. octet_of c.1 >>? λ d. Some (a.0 ∷ b.0 ∷ c.0 ∷ d ∷ [])
+    octet_front_of text >>? λ a.
+    octet_front_of a.1 >>? λ b.
+    octet_front_of b.1 >>? λ c.
+    octet_of c.1 >>? λ d.
+    Some (a.0 ∷ b.0 ∷ c.0 ∷ d ∷ [])
 
 -- an octet, and a text that is lent
 abbrev pub front_texts : ℕ × Bor (List ℕ) → ℕ × List ℕ

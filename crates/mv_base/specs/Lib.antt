@@ -1,3 +1,4 @@
+pub mod Lists
 pub mod Padding
 pub mod Number
 pub mod Address

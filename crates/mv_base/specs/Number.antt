@@ -1,5 +1,6 @@
 -- Numbers in text, and the cut of a text in two.
-use Rattle.std.specs.Prelude.{ℕ, ◌+◌, ◌-◌, ◌*◌, ◌==◌, ◌&&◌, not, nat_le, Bool, false, List, [], ◌∷◌, length, take, drop, position, Option, None, Some, if◌then◌else◌}
+use Rattle.std.specs.Prelude.{ℕ, ◌+◌, ◌-◌, ◌*◌, ◌==◌, ◌&&◌, not, nat_le, Bool, false, List, []}
+use Rattle.std.specs.Prelude.{◌∷◌, length, take, drop, position, Option, None, Some, if◌then◌else◌}
 use Rattle.std.specs.Borrow.{Bor}
 use Rattle.std.specs.List.{list_all}
 use Rattle.std.specs.Char.{is_ascii_digit}
@@ -23,7 +24,10 @@ value_after n (digit ∷ digits) = value_after (10 * n + (digit - 48)) digits
 unfoldable pub is_number : List ℕ → Bool
 is_number [] = false
 is_number (digit ∷ []) = list_all is_ascii_digit (digit ∷ [])
-is_number (digit ∷ next ∷ digits) = not (digit == 48) && nat_le (length (digit ∷ next ∷ digits)) 10 && list_all is_ascii_digit (digit ∷ next ∷ digits)
+is_number (digit ∷ next ∷ digits) =
+    not (digit == 48)
+    && nat_le (length (digit ∷ next ∷ digits)) 10
+    && list_all is_ascii_digit (digit ∷ next ∷ digits)
 
 -- the number that a text writes in decimal, in at most 10 digits
 abbrev pub number_of : List ℕ → Option ℕ
@@ -31,7 +35,10 @@ number_of text = only_if (is_number text) (value_after 0 text)
 
 -- the text before the first mark, and the text behind it
 abbrev pub cut_of : ℕ → List ℕ → Option (List ℕ × List ℕ)
-cut_of mark text = elim (position (λ octet. octet == mark) text) [ None ↦ None | Some place ↦ Some (take place text, drop (place + 1) text) ]
+cut_of mark text = elim (position (λ octet. octet == mark) text) [
+  | None ↦ None
+  | Some place ↦ Some (take place text, drop (place + 1) text)
+]
 
 -- two texts that are lent
 abbrev pub cut_texts : Bor (List ℕ) × Bor (List ℕ) → List ℕ × List ℕ

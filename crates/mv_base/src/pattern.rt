@@ -24,7 +24,9 @@ fn allows(word: Option<Addr>, addr: Addr) -> bool
 impl Pattern {
     /// Whether source and group are those of the pattern, a wildcard being any.
     pub fn matches(&self, source: Addr, group: Addr) -> bool
-        ensures { IsTrue result ↔ (((self.now.source ≡ None) ⊎ (self.now.source ≡ Some source)) × ((self.now.group ≡ None) ⊎ (self.now.group ≡ Some group))) }
+        ensures { IsTrue result ↔
+            (((self.now.source ≡ None) ⊎ (self.now.source ≡ Some source))
+            × ((self.now.group ≡ None) ⊎ (self.now.group ≡ Some group))) }
     {
         allows(self.source, source) && allows(self.group, group)
     }

@@ -7,7 +7,8 @@ use Rattle.mv_base.specs.declared.addr.Addr.{Addr}
 use Rattle.mv_base.specs.declared.rd.Rd.{Rd}
 use Rattle.mvpn_nlri.specs.declared.fault.RouteFault.{RouteFault}
 use Rattle.mvpn_nlri.specs.declared.fault.RouteReason.{RouteReason}
-use Rattle.mvpn_nlri.specs.declared.fault.RouteReason.TheVariants.{Short, LengthTooSmall, LengthTooLarge, SourceLength, GroupLength, Wildcard, OriginatorLength, KeyType, GroupNotMulticast}
+use Rattle.mvpn_nlri.specs.declared.fault.RouteReason.TheVariants.{Short, LengthTooSmall, LengthTooLarge, SourceLength, GroupLength}
+use Rattle.mvpn_nlri.specs.declared.fault.RouteReason.TheVariants.{Wildcard, OriginatorLength, KeyType, GroupNotMulticast}
 use Rattle.mvpn_nlri.specs.declared.route.Afi.{Afi}
 use Rattle.mvpn_nlri.specs.declared.route.Afi.TheVariants.{Ipv4, Ipv6}
 use Rattle.mvpn_nlri.specs.declared.address.Role.{Role}
@@ -88,7 +89,9 @@ abbrev pub InterFault : Bounded → RouteFault → Type 0
 InterFault b f = RdThen (λ d g. AsThen Remains d g) b f
 
 abbrev pub SelectiveFault : Afi → Bounded → RouteFault → Type 0
-SelectiveFault afi b f = RdThen (λ d g. Then any_or_sized (IsAnyOr (IsSource afi)) (AnyOrFault afi Source) (λ e h. Then any_or_sized (IsAnyOr (IsGroup afi)) (AnyOrFault afi Group) OriginatorFault e h) d g) b f
+SelectiveFault afi b f =
+    RdThen (λ d g. Then any_or_sized (IsAnyOr (IsSource afi)) (AnyOrFault afi Source)
+    (λ e h. Then any_or_sized (IsAnyOr (IsGroup afi)) (AnyOrFault afi Group) OriginatorFault e h) d g) b f
 
 -- the fields of a key
 pub data KeyFieldsFault (afi : Afi) (kind : ℕ) (b : Bounded) (f : RouteFault) : Type 0 where

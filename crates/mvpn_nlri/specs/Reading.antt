@@ -1,5 +1,6 @@
 -- Reading a route from left to right, with the first fault that is met.
-use Rattle.std.specs.Prelude.{◌≡◌, ℕ, ◌+◌, ◌-◌, List, [], ◌∷◌, length, take, drop, Option, Some, None, Result, Ok, Err, nat_lt, nat_le, ◌==◌, ◌&&◌, ◌||◌, Bool, true, slice_index, if◌then◌else◌}
+use Rattle.std.specs.Prelude.{◌≡◌, ℕ, ◌+◌, ◌-◌, List, [], ◌∷◌, length, take, drop, Option, Some, None, Result}
+use Rattle.std.specs.Prelude.{Ok, Err, nat_lt, nat_le, ◌==◌, ◌&&◌, ◌||◌, Bool, true, slice_index, if◌then◌else◌}
 use Rattle.std.specs.Int.{w32, from_be_bytes}
 use Rattle.mv_base.specs.Cursor.{◌>>=◌, checked}
 use Rattle.mv_base.specs.declared.addr.Addr.{Addr}
@@ -7,7 +8,8 @@ use Rattle.mv_base.specs.declared.addr.Addr.TheVariants.{V4, V6}
 use Rattle.mv_base.specs.declared.rd.Rd.{Rd}
 use Rattle.mvpn_nlri.specs.declared.fault.RouteFault.{RouteFault}
 use Rattle.mvpn_nlri.specs.declared.fault.RouteReason.{RouteReason}
-use Rattle.mvpn_nlri.specs.declared.fault.RouteReason.TheVariants.{Short, LengthTooSmall, LengthTooLarge, Wildcard, OriginatorLength, KeyType, GroupNotMulticast}
+use Rattle.mvpn_nlri.specs.declared.fault.RouteReason.TheVariants.{Short, LengthTooSmall, LengthTooLarge, Wildcard}
+use Rattle.mvpn_nlri.specs.declared.fault.RouteReason.TheVariants.{OriginatorLength, KeyType, GroupNotMulticast}
 use Rattle.mvpn_nlri.specs.declared.route.Afi.{Afi}
 use Rattle.mvpn_nlri.specs.declared.route.Afi.TheVariants.{Ipv4, Ipv6}
 use Rattle.mvpn_nlri.specs.declared.route.LeafKey.{LeafKey}

@@ -71,7 +71,8 @@ key k = key_kind k ∷ (length (key_fields k) ∷ key_fields k)
 
 abbrev pub IsKey : Afi → LeafKey → Type 0
 IsKey afi (keys.Inter rd source_as) = IsRd rd × IsAs source_as
-IsKey afi (keys.Selective rd source group originator) = IsRd rd × (IsAnyOr (IsSource afi) source × (IsAnyOr (IsGroup afi) group × IsAddr originator))
+IsKey afi (keys.Selective rd source group originator) =
+    IsRd rd × (IsAnyOr (IsSource afi) source × (IsAnyOr (IsGroup afi) group × IsAddr originator))
 
 -- ---- routes
 
@@ -104,7 +105,8 @@ fields (Other number octets) = octets
 abbrev pub IsRoute : Afi → Route → Type 0
 IsRoute afi (Intra rd originator) = IsRd rd × IsAddr originator
 IsRoute afi (Inter rd source_as) = IsRd rd × IsAs source_as
-IsRoute afi (Selective rd source group originator) = IsRd rd × (IsAnyOr (IsSource afi) source × (IsAnyOr (IsGroup afi) group × IsAddr originator))
+IsRoute afi (Selective rd source group originator) =
+    IsRd rd × (IsAnyOr (IsSource afi) source × (IsAnyOr (IsGroup afi) group × IsAddr originator))
 IsRoute afi (Leaf k originator) = IsKey afi k × IsAddr originator
 IsRoute afi (Active rd source group) = IsRd rd × (IsSource afi source × IsGroup afi group)
 IsRoute afi (SharedJoin rd source_as source group) = IsRd rd × (IsAs source_as × (IsSource afi source × IsGroup afi group))

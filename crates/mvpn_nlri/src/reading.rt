@@ -146,7 +146,8 @@ pub fn decode(afi: Afi, bytes: &[u8]) -> Result<(Route, usize), RouteFault>
     // What is read is spelled at the front.
     ensures spelled { IfOk result (λ x. Spells afi x.0 (take x.1 bytes.now) × (x.1 ≤ length bytes.now)) }
     // What is spelled at the front is read.
-    ensures only_spelled { (route : Route) (text rest : List ℕ) → Spells afi route text → bytes.now ≡ text ++ rest → result ≡ Ok (route, length text) }
+    ensures only_spelled { (route : Route) (text rest : List ℕ) →
+        Spells afi route text → bytes.now ≡ text ++ rest → result ≡ Ok (route, length text) }
     // A fault is the first one.
     ensures first { IfErr result (λ fault. FirstFault afi bytes.now fault) }
     // The first fault is answered.

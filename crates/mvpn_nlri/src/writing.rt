@@ -81,9 +81,12 @@ fn put_selective(
     group: &Option<Addr>,
     originator: &Addr,
 ) -> usize
-    requires { place + length (rd.now.0 ++ (any_or_sized source.now ++ (any_or_sized group.now ++ addr_octets originator.now))) ≤ length out.old }
-    ensures place { result ≡ place + length (rd.now.0 ++ (any_or_sized source.now ++ (any_or_sized group.now ++ addr_octets originator.now))) }
-    ensures octets { out.new ≡ put_at out.old place (rd.now.0 ++ (any_or_sized source.now ++ (any_or_sized group.now ++ addr_octets originator.now))) }
+    requires { place + length (rd.now.0 ++ (any_or_sized source.now ++ (any_or_sized group.now ++ addr_octets originator.now)))
+        ≤ length out.old }
+    ensures place { result ≡
+        place + length (rd.now.0 ++ (any_or_sized source.now ++ (any_or_sized group.now ++ addr_octets originator.now))) }
+    ensures octets { out.new ≡ put_at out.old place
+        (rd.now.0 ++ (any_or_sized source.now ++ (any_or_sized group.now ++ addr_octets originator.now))) }
 {
     let place = put(out, place, &rd.0);
     let place = put_any_or_sized(out, place, source);

@@ -57,4 +57,6 @@ IsFirst (Err (answers.Bad place fault)) octets = FirstFault octets place fault
 
 -- The first fault is answered, unless memory ran out.
 abbrev pub IsOnlyFirst : Result JoinPrune DecodeFault → List ℕ → Type 0
-IsOnlyFirst result octets = (place : ℕ) (fault : PimFault) → FirstFault octets place fault → (result ≡ Err (answers.Bad place fault)) ⊎ (result ≡ Err answers.NoMemory)
+IsOnlyFirst result octets =
+    (place : ℕ) (fault : PimFault) → FirstFault octets place fault →
+    (result ≡ Err (answers.Bad place fault)) ⊎ (result ≡ Err answers.NoMemory)

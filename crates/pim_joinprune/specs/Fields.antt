@@ -50,17 +50,25 @@ pub record Lacks (n : ℕ) (octets : List ℕ) (left : ℕ) (fault : PimFault) :
   pub is : fault ≡ faults.Short
 
 -- A field fails: octets are missing, or it is there with a value that it may not have.
-pub data FieldFails {A : Type 0} (Spells : A → List ℕ → Type 0) (Missing : List ℕ → ℕ → PimFault → Type 0) (Wrong : A → Type 0) (own : PimFault) (octets : List ℕ) (left : ℕ) (fault : PimFault) : Type 0 where
+pub data FieldFails {A : Type 0}
+    (Spells : A → List ℕ → Type 0) (Missing : List ℕ → ℕ → PimFault → Type 0) (Wrong : A → Type 0) (own : PimFault)
+    (octets : List ℕ) (left : ℕ) (fault : PimFault) : Type 0 where
   missing : Missing octets left fault → FieldFails Spells Missing Wrong own octets left fault
-  wrong : (x : A) (text rest : List ℕ) → Spells x text → octets ≡ text ++ rest → Wrong x → left ≡ length octets → fault ≡ own → FieldFails Spells Missing Wrong own octets left fault
+  wrong : (x : A) (text rest : List ℕ) → Spells x text → octets ≡ text ++ rest → Wrong x → left ≡ length octets → fault ≡ own →
+      FieldFails Spells Missing Wrong own octets left fault
 
 -- One thing stands before another: the first fails, or it stands there whole and the one behind it fails.
-pub data Then {A : Type 0} (Spells : A → List ℕ → Type 0) (First : List ℕ → ℕ → PimFault → Type 0) (Behind : A → List ℕ → ℕ → PimFault → Type 0) (octets : List ℕ) (left : ℕ) (fault : PimFault) : Type 0 where
+pub data Then {A : Type 0}
+    (Spells : A → List ℕ → Type 0) (First : List ℕ → ℕ → PimFault → Type 0) (Behind : A → List ℕ → ℕ → PimFault → Type 0)
+    (octets : List ℕ) (left : ℕ) (fault : PimFault) : Type 0 where
   here : First octets left fault → Then Spells First Behind octets left fault
-  behind : (x : A) (text rest : List ℕ) → Spells x text → octets ≡ text ++ rest → Behind x rest left fault → Then Spells First Behind octets left fault
+  behind : (x : A) (text rest : List ℕ) → Spells x text → octets ≡ text ++ rest → Behind x rest left fault →
+      Then Spells First Behind octets left fault
 
 -- Of n elements end to end some stand whole, and the next fails.
-pub record AllFail {A : Type 0} (Spells : A → List ℕ → Type 0) (Fails : List ℕ → ℕ → PimFault → Type 0) (n : ℕ) (octets : List ℕ) (left : ℕ) (fault : PimFault) : Type 0 where
+pub record AllFail {A : Type 0}
+    (Spells : A → List ℕ → Type 0) (Fails : List ℕ → ℕ → PimFault → Type 0) (n : ℕ)
+    (octets : List ℕ) (left : ℕ) (fault : PimFault) : Type 0 where
   pub before : List A
   pub text : List ℕ
   pub rest : List ℕ

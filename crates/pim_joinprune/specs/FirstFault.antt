@@ -8,7 +8,8 @@ use Rattle.pim_joinprune.specs.declared.fault.PimFault.TheVariants as reasons
 use Rattle.pim_joinprune.specs.Fields.{IsOctet, IsKnown, IsNumber, AreCounted, Lacks, FieldFails, Then, AllFail}
 use Rattle.pim_joinprune.specs.Families.{family_octet, addr_len, mask_len, family_of}
 use Rattle.pim_joinprune.specs.Checksums.{sum_of}
-use Rattle.pim_joinprune.specs.Spelling.{BeginsMulticast, IsFamily, SpellsAddress, SpellsUnicast, IsKind, SpellsGroupAddress, SpellsSource, SpellsGroup, SpellsFields}
+use Rattle.pim_joinprune.specs.Spelling.{BeginsMulticast, IsFamily, SpellsAddress, SpellsUnicast, IsKind}
+use Rattle.pim_joinprune.specs.Spelling.{SpellsGroupAddress, SpellsSource, SpellsGroup, SpellsFields}
 
 -- an octet that has one value alone
 abbrev pub KnownFails : ℕ → PimFault → List ℕ → ℕ → PimFault → Type 0

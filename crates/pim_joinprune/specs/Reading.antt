@@ -1,5 +1,6 @@
 -- Reading a Join/Prune message from left to right, with the first fault that is met.
-use Rattle.std.specs.Prelude.{ℕ, ◌+◌, ◌-◌, ◌/◌, ◌%◌, List, [], ◌∷◌, length, take, drop, nat_lt, Bool, Option, Some, None, Result, Ok, Err, ◌==◌, slice_index, ⊤, if◌then◌else◌}
+use Rattle.std.specs.Prelude.{ℕ, ◌+◌, ◌-◌, ◌/◌, ◌%◌, List, [], ◌∷◌, length, take, drop, nat_lt, Bool}
+use Rattle.std.specs.Prelude.{Option, Some, None, Result, Ok, Err, ◌==◌, slice_index, ⊤, if◌then◌else◌}
 use Rattle.std.specs.Int.{w16, from_be_bytes}
 use Rattle.mv_base.specs.Cursor.{◌>>=◌, checked}
 use Rattle.mv_base.specs.declared.addr.Addr.{Addr}

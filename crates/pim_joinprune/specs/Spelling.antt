@@ -1,4 +1,5 @@
--- Join/Prune messages of IPv4 and IPv6 (RFC 7761 sections 4.9, 4.9.1 and 4.9.5), and what spells each: some octets and bits may be anything.
+-- Join/Prune messages of IPv4 and IPv6 (RFC 7761 sections 4.9, 4.9.1 and 4.9.5), and what spells each: some octets and
+-- bits may be anything.
 use Rattle.std.specs.Prelude.{◌≡◌, ℕ, ◌+◌, ◌%◌, ◌<◌, ◌≤◌, ◌^◌, List, [], ◌∷◌, ◌++◌, length, slice_index}
 use Rattle.std.specs.Int.{w16, to_be_bytes}
 use Rattle.std.specs.List.{flat_map, AllByRecursion}
@@ -101,7 +102,9 @@ pub record SpellsGroup (family : Family) (group : Group) (text : List ℕ) : Typ
   pub prunes : List ℕ
   pub joined : AreAll (SpellsSource family) group.joins joins
   pub pruned : AreAll (SpellsSource family) group.prunes prunes
-  pub octets : text ≡ masked family flags group.group ++ (to_be_bytes w16 (length group.joins) ++ (to_be_bytes w16 (length group.prunes) ++ (joins ++ prunes)))
+  pub octets : text ≡
+      masked family flags group.group
+      ++ (to_be_bytes w16 (length group.joins) ++ (to_be_bytes w16 (length group.prunes) ++ (joins ++ prunes)))
 
 -- neighbour, an octet that may be anything, number of groups, holdtime, and the groups
 pub record SpellsFields (message : JoinPrune) (text : List ℕ) : Type 0 where

@@ -12,6 +12,8 @@ ghost use Rattle.pim_joinprune.specs.FirstFault.{FirstFault};
 pub fn decoding()
     ensures read { (octets : List ℕ) (message : JoinPrune) → IsOctets octets → decoded octets ≡ Ok message → Spells message octets }
     ensures spelled { (octets : List ℕ) (message : JoinPrune) → Spells message octets → decoded octets ≡ Ok message }
-    ensures fault { (octets : List ℕ) (place : ℕ) (fault : PimFault) → IsOctets octets → decoded octets ≡ Err (place, fault) → FirstFault octets place fault }
-    ensures first { (octets : List ℕ) (place : ℕ) (fault : PimFault) → IsOctets octets → FirstFault octets place fault → decoded octets ≡ Err (place, fault) }
+    ensures fault { (octets : List ℕ) (place : ℕ) (fault : PimFault) → IsOctets octets →
+        decoded octets ≡ Err (place, fault) → FirstFault octets place fault }
+    ensures first { (octets : List ℕ) (place : ℕ) (fault : PimFault) → IsOctets octets →
+        FirstFault octets place fault → decoded octets ≡ Err (place, fault) }
 {}

@@ -1,5 +1,6 @@
 -- PMSI Tunnel attributes (RFC 6514 section 5), and what spells each: some bits may be anything.
-use Rattle.std.specs.Prelude.{◌≡◌, ◌≢◌, ℕ, ◌+◌, ◌*◌, ◌<◌, ◌≤◌, ◌^◌, Bool, List, [], ◌∷◌, ◌++◌, length, Option, Some, None, bit_and, ◌==◌, ⊤, if◌then◌else◌}
+use Rattle.std.specs.Prelude.{◌≡◌, ◌≢◌, ℕ, ◌+◌, ◌*◌, ◌<◌, ◌≤◌, ◌^◌, Bool, List, [], ◌∷◌, ◌++◌}
+use Rattle.std.specs.Prelude.{length, Option, Some, None, bit_and, ◌==◌, ⊤, if◌then◌else◌}
 use Rattle.mv_base.specs.Address.{addr_octets, IsAddr}
 use Rattle.mv_base.specs.Cursor.{three}
 use Rattle.mldp_fec.specs.declared.fec.FecKind.TheVariants.{P2mp}

@@ -18,12 +18,16 @@ pub record IsPadded (held : Inside) : Type 0 where
   pub places : length held.targets ≡ 8
   pub spare : drop held.len held.targets ≡ replicate (8 - held.len) zeros
 
-of_fields : (o p : List Target) (m n : ℕ) → o ≡ p → m ≡ n → let a : Inside = record { targets = o; len = m } in let b : Inside = record { targets = p; len = n } in a ≡ b
+of_fields : (o p : List Target) (m n : ℕ) → o ≡ p → m ≡ n →
+    let a : Inside = record { targets = o; len = m } in
+    let b : Inside = record { targets = p; len = n } in
+    a ≡ b
 of_fields o p m n h k = cc
 
 -- The front and what stands behind it are the places.
 pub padded-take : (held : Inside) → IsPadded held → padded (take held.len held.targets) ≡ held
 padded-take held h =
     let e : length (take held.len held.targets) ≡ held.len = length-take-le held.len held.targets (omega (arith, h.within, h.places)) in
-    let o : take held.len held.targets ++ replicate (8 - length (take held.len held.targets)) zeros ≡ held.targets = rw (e, ← h.spare) (take-append-drop held.len held.targets) in
+    let o : take held.len held.targets ++ replicate (8 - length (take held.len held.targets)) zeros ≡ held.targets =
+    rw (e, ← h.spare) (take-append-drop held.len held.targets) in
     of_fields _ _ _ _ o e

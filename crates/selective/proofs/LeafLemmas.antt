@@ -28,7 +28,8 @@ use Rattle.selective.specs.declared.route_key.RouteKey.{RouteKey}
 use Rattle.selective.specs.Order.{route_cmp}
 use Rattle.selective.specs.Patterns.{same_pattern}
 use Rattle.selective.specs.Leaves.{InOrder, IsBefore, Routes, is_of_peer, learned_route, patterns_of, peer_entries, routes_at, until_run}
-use Rattle.selective.proofs.OrderLemmas.{Sorted, by_group, by_place, by_rank, by_source, filter_alike, map_sorted}
+use Rattle.mv_base.proofs.SortedMaps.{map_sorted}
+use Rattle.selective.proofs.OrderLemmas.{Sorted, by_group, by_place, by_rank, by_source, filter_alike}
 use Rattle.selective.proofs.RootLemmas.{one_pattern}
 
 abbrev Entry : Type 0
@@ -452,4 +453,4 @@ ordered peer (e ∷ es) a = by (is_of_peer peer e) refl (ordered peer es a.1)
     by false h rest = rest
 
 pub in_order : (peer : NodeId) (routes : Routes) → InOrder (peer_entries peer routes)
-in_order peer routes = ordered peer (entries routes) (map_sorted routes)
+in_order peer routes = ordered peer (entries routes) (map_sorted route_cmp routes)

@@ -1,22 +1,21 @@
 -- The order of learned routes tells each from every other one, and what a range of it has.
-use Rattle.std.proofs.Common.{◌≡◌, ℕ, ◌==◌, ◌&&◌, Bool, true, false, cond, not, T, List, [], ◌∷◌, Option, Some, None, length, refl, sym, ap, subst, ◌∙◌, eq-eqb}
-use Rattle.std.specs.List.{AllByRecursion, filter}
+use Rattle.std.proofs.Common.{◌≡◌, ℕ, ◌==◌, ◌&&◌, Bool, true, false, cond, not, List, [], ◌∷◌, refl, sym, ap, subst, ◌∙◌, eq-eqb}
+use Rattle.std.specs.List.{filter}
 use Rattle.std.specs.List.Sorted.{IsStrictlySortedBy}
-use Rattle.std.specs.BTreeMap.{is_at}
 use Rattle.std.specs.BTreeMap.Range.{range_contains, entries_between}
-use Rattle.std.specs.Map.{keys_of, lookup}
-use Rattle.std.specs.FinMap.{FinMap, IsAntisymmetric, nat_cmp-IsAntisymmetric, slice_cmp-IsAntisymmetric, empty, empty_of_len, entries, entries-from_sorted, entries_sorted, len-entries, find, from_sorted, get, get-from_sorted, get-insert, get-remove, insert, is_sorted, remove, same_map}
-use Rattle.std.specs.FinMap.Entries.{below_all}
-use Rattle.std.specs.Ordering.{nat_cmp, is_eq, is_gt, is_le, is_lt, eq_by_cmp, ordering_then}
+use Rattle.std.specs.Map.{keys_of}
+use Rattle.std.specs.FinMap.{IsAntisymmetric, nat_cmp-IsAntisymmetric, slice_cmp-IsAntisymmetric}
+use Rattle.std.specs.Ordering.{nat_cmp, is_eq, is_gt, is_le, is_lt, ordering_then}
 use Rattle.std.specs.declared.cmp.Ordering.{Ordering}
-use Rattle.std.specs.declared.cmp.Ordering.TheVariants.{Less, Equal, Greater}
+use Rattle.std.specs.declared.cmp.Ordering.TheVariants.{Equal}
 use Rattle.std.specs.declared.ops.Bound.TheVariants.{Included}
-use Rattle.std.specs.Cmp.{Equal-is, eq_by_cmp_equiv, nat_cmp_total, tied_itself}
+use Rattle.std.specs.Cmp.{Equal-is, nat_cmp_total, tied_itself}
 use Rattle.std.specs.Cmp.Lexicographic.{slice_cmp, nat_list_cmp_total}
 use Rattle.std.proofs.lemmas.Bool.{and_parts, eqb-true}
 use Rattle.mv_base.specs.Pattern.{rank}
 use Rattle.mv_base.specs.declared.ids.NodeId.{NodeId}
 use Rattle.mv_base.specs.declared.pattern.Pattern.{Pattern}
+use Rattle.mv_base.proofs.SortedMaps.{level, same_bool, then_equal, through, tied_numbers}
 use Rattle.selective_defs.specs.Parts.{word_part}
 use Rattle.selective_defs.proofs.PartLemmas.{first, behind, one_word}
 use Rattle.selective_defs.proofs.PatternLemmas.{both_true}
@@ -24,17 +23,12 @@ use Rattle.selective.specs.declared.route_key.Learned.{Learned}
 use Rattle.selective.specs.declared.route_key.Place.{Place}
 use Rattle.selective.specs.declared.route_key.Place.TheVariants.{First, Of, Last}
 use Rattle.selective.specs.declared.route_key.RouteKey.{RouteKey}
-use Rattle.selective.specs.Order.{place_part, route_cmp, route_total}
+use Rattle.selective.specs.Order.{place_part, route_cmp}
 use Rattle.selective.specs.Patterns.{same_pattern}
 use Rattle.selective.specs.Leaves.{is_of_peer, routes_at}
 use Rattle.selective.proofs.RootLemmas.{one_pattern, pattern_itself}
 
 -- ---- what ties is equal
-
-then_equal : (a b : Ordering) → ordering_then a b ≡ Equal → (a ≡ Equal) × (b ≡ Equal)
-then_equal Less b h = absurd cc
-then_equal Equal b h = (refl, h)
-then_equal Greater b h = absurd cc
 
 abbrev place_back : List ℕ → Place
 place_back part = cond (first part == 0) First (cond (first part == 1) (Of (record { 0 = behind part })) Last)
@@ -74,90 +68,10 @@ route_exact a b e =
     let place = one_place a.place b.place (numbers_exact (place_part a.place) (place_part b.place) groups.1) in
     λ i. record { peer = record { 0 = peer i }; pattern = record { source = source i; group = group i }; place = place i }
 
--- ---- sorted entries and their map
-
 abbrev pub Sorted : List (RouteKey × Learned) → Type 0
 Sorted es = IsStrictlySortedBy route_cmp (keys_of es)
 
-and_T : (a b : Bool) → T a → T b → T (a && b)
-and_T true b p q = q
-and_T false b p q = absurd p
-
-below : (x : RouteKey) (es : List (RouteKey × Learned)) → AllByRecursion (λ y. route_cmp x y ≡ Less) (keys_of es) → T (below_all route_cmp x es)
-below x [] h = tt
-below x (e ∷ es) h = and_T (is_lt (route_cmp x e.0)) (below_all route_cmp x es) (subst (λ (o : Ordering). T (is_lt o)) (sym h.0) tt) (below x es h.1)
-
-sorted : (es : List (RouteKey × Learned)) → Sorted es → T (is_sorted route_cmp es)
-unfolding IsStrictlySortedBy
-sorted [] h = tt
-sorted (e ∷ es) h = and_T (below_all route_cmp e.0 es) (is_sorted route_cmp es) (below e.0 es h.0) (sorted es h.1)
-
-T_parts : (a b : Bool) → T (a && b) → (T a) × (T b)
-T_parts true b p = (tt, p)
-T_parts false b p = absurd p
-
-less : (o : Ordering) → T (is_lt o) → o ≡ Less
-less Less p = refl
-less Equal p = absurd p
-less Greater p = absurd p
-
-below_back : (x : RouteKey) (es : List (RouteKey × Learned)) → T (below_all route_cmp x es) → AllByRecursion (λ y. route_cmp x y ≡ Less) (keys_of es)
-below_back x [] h = tt
-below_back x (e ∷ es) h =
-    let both = T_parts (is_lt (route_cmp x e.0)) (below_all route_cmp x es) h in
-    (less (route_cmp x e.0) both.0, below_back x es both.1)
-
-sorted_back : (es : List (RouteKey × Learned)) → T (is_sorted route_cmp es) → Sorted es
-unfolding IsStrictlySortedBy
-sorted_back [] h = tt
-sorted_back (e ∷ es) h =
-    let both = T_parts (below_all route_cmp e.0 es) (is_sorted route_cmp es) h in
-    (below_back e.0 es both.0, sorted_back es both.1)
-
-pub map_sorted : (m : FinMap route_cmp Learned) → Sorted (entries m)
-map_sorted m = sorted_back (entries m) (entries_sorted m)
-
-pub empty_map : from_sorted {X = Learned} {R = route_cmp} [] ≡ empty
-empty_map = empty_of_len (from_sorted []) (len-entries (from_sorted []) ∙ ap length (entries-from_sorted route_cmp [] tt))
-
-pub entries_of : (es : List (RouteKey × Learned)) → Sorted es → entries (from_sorted {R = route_cmp} es) ≡ es
-entries_of es a = entries-from_sorted route_cmp es (sorted es a)
-
-find-lookup : (q : RouteKey) (es : List (RouteKey × Learned)) → find route_cmp q es ≡ lookup (is_at (route_cmp q)) es
-find-lookup q [] = refl
-find-lookup q (e ∷ es) = ap (cond (eq_by_cmp route_cmp q e.0) (Some e.1)) (find-lookup q es)
-
-get-lookup : (es : List (RouteKey × Learned)) (q : RouteKey) → Sorted es → get (from_sorted {R = route_cmp} es) q ≡ lookup (is_at (route_cmp q)) es
-get-lookup es q a = get-from_sorted route_cmp es q (sorted es a) ∙ find-lookup q es
-
--- what stands at each key behind a change of one
-abbrev pub Changes : List (RouteKey × Learned) → List (RouteKey × Learned) → RouteKey → Option Learned → Type 0
-Changes es fs k w = (q : RouteKey) → lookup (is_at (route_cmp q)) fs ≡ cond (is_at (route_cmp k) q) w (lookup (is_at (route_cmp q)) es)
-
-changed : (es fs : List (RouteKey × Learned)) (k : RouteKey) (w : Option Learned) → Sorted es → Sorted fs → Changes es fs k w → (q : RouteKey)
-    → get (from_sorted {R = route_cmp} fs) q ≡ cond (eq_by_cmp route_cmp q k) w (get (from_sorted {R = route_cmp} es) q)
-changed es fs k w a b u q =
-    get-lookup fs q b ∙ (u q ∙ (ap (λ (t : Bool). cond t w (lookup (is_at (route_cmp q)) es)) ((eq_by_cmp_equiv route_total).symm k q)
-    ∙ ap (cond (eq_by_cmp route_cmp q k) w) (sym (get-lookup es q a))))
-
-pub inserted : (es fs : List (RouteKey × Learned)) (k : RouteKey) (v : Learned) → Sorted es → Sorted fs → Changes es fs k (Some v) → from_sorted {R = route_cmp} fs ≡ insert (from_sorted es) k v
-inserted es fs k v a b u = same_map route_total route_exact (from_sorted fs) (insert (from_sorted es) k v) (λ q. changed es fs k (Some v) a b u q ∙ sym (get-insert route_total (from_sorted es) k v q))
-
-pub removed : (es fs : List (RouteKey × Learned)) (k : RouteKey) → Sorted es → Sorted fs → Changes es fs k None → from_sorted {R = route_cmp} fs ≡ remove (from_sorted es) k
-removed es fs k a b u = same_map route_total route_exact (from_sorted fs) (remove (from_sorted es) k) (λ q. changed es fs k None a b u q ∙ sym (get-remove route_total (from_sorted es) k q))
-
 -- ---- the range of a peer and a pattern
-
-same_bool : (a b : Bool) → (a ≡ true → b ≡ true) → (b ≡ true → a ≡ true) → a ≡ b
-same_bool true b h k = sym (h refl)
-same_bool false true h k = k refl
-same_bool false false h k = refl
-
--- a key is between two others that compare alike in front
-level : (c x y : Ordering) (b : Bool) → (is_le x && not (is_lt y)) ≡ b → (is_le (ordering_then c x) && not (is_lt (ordering_then c y))) ≡ (is_eq c && b)
-level Less x y b h = refl
-level Equal x y b h = h
-level Greater x y b h = refl
 
 ends : (place : Place) → (is_le (slice_cmp nat_cmp (place_part First) (place_part place)) && not (is_lt (slice_cmp nat_cmp (place_part Last) (place_part place)))) ≡ true
 ends First = refl
@@ -167,19 +81,11 @@ ends Last = refl
 tied : (a b : List ℕ) → a ≡ b → is_eq (slice_cmp nat_cmp a b) ≡ true
 tied a b e = ap is_eq (subst (λ (x : List ℕ). slice_cmp nat_cmp a x ≡ Equal) e (tied_itself nat_list_cmp_total a))
 
-tied_numbers : (a b : ℕ) → a ≡ b → is_eq (nat_cmp a b) ≡ true
-tied_numbers a b e = ap is_eq (subst (λ (x : ℕ). nat_cmp a x ≡ Equal) e (tied_itself nat_cmp_total a))
-
 abbrev pub low_end : NodeId → Pattern → RouteKey
 low_end peer pattern = record { peer = peer; pattern = pattern; place = First }
 
 abbrev pub high_end : NodeId → Pattern → RouteKey
 high_end peer pattern = record { peer = peer; pattern = pattern; place = Last }
-
-through : (a b : Ordering) → a ≡ Equal → is_gt b ≡ false → is_gt (ordering_then a b) ≡ false
-through Less b e h = refl
-through Equal b e h = h
-through Greater b e h = absurd cc
 
 -- the ends are in order
 pub forward : (peer : NodeId) (pattern : Pattern) → is_gt (route_cmp (low_end peer pattern) (high_end peer pattern)) ≡ false

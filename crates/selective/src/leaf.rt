@@ -4,7 +4,8 @@ ghost use Rattle.std.specs.BTreeMap as tree;
 ghost use Rattle.std.specs.FinMap.{empty, entries, insert, remove, values};
 ghost use Rattle.std.specs.List.{list_any};
 ghost use Rattle.selective_defs.specs.Selective.{wanted};
-ghost use Rattle.selective.specs.Leaves.{fecs_of, is_waiting, key_of, learned_now, patterns_of, peer_routes, routes_at, routes_run, run_due, until_run, without_peer};
+ghost use Rattle.selective.specs.Leaves.{fecs_of, is_waiting, key_of, learned_now, patterns_of, peer_routes};
+ghost use Rattle.selective.specs.Leaves.{routes_at, routes_run, run_due, until_run, without_peer};
 
 use crate::delay::is_due;
 use crate::route_key::{Learned, Place, RouteKey};

@@ -1,5 +1,6 @@
 //! The tunnels of a root.
-ghost use Rattle.std.specs.Prelude.{◌≡◌, ◌≤◌, ◌<◌, ◌^◌, ◌+◌, ◌++◌, ◌∷◌, [], ◌↔◌, not, false, length, filter, map, count_by, option_map, IsTrue, IfSome, IfOk, OnOk, OnErr};
+ghost use Rattle.std.specs.Prelude.{◌≡◌, ◌≤◌, ◌<◌, ◌^◌, ◌+◌, ◌++◌, ◌∷◌, [], ◌↔◌, not, false, length};
+ghost use Rattle.std.specs.Prelude.{filter, map, count_by, option_map, IsTrue, IfSome, IfOk, OnOk, OnErr};
 ghost use Rattle.std.specs.List.{list_any};
 ghost use Rattle.selective_defs.specs.Selective.{chosen, has_number, is_ready, matches, next_number, transmitted};
 ghost use Rattle.selective.specs.Roots.{AreSelections, IsSelected, added, is_of, is_waiting, lsp_number, number_at, run_due, selected_now};

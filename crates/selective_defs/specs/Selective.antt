@@ -1,17 +1,14 @@
 -- Which tunnel a root transmits a flow on, and which tunnels an egress wants (RFC 6513 section 7, RFC 6514 section 12).
-use Rattle.std.specs.Prelude.{◌≡◌, ◌≢◌, ℕ, zero, suc, ◌+◌, ◌<◌, ◌≤◌, ◌==◌, ◌&&◌, ◌⊎◌, Bool, true, false, not, nat_lt, List, [], ◌∷◌, length, Option, None, Some, if◌then◌else◌}
+use Rattle.std.specs.Prelude.{◌≡◌, ◌≢◌, ℕ, zero, suc, ◌+◌, ◌<◌, ◌≤◌, ◌==◌, ◌&&◌, ◌⊎◌, Bool, true, false}
+use Rattle.std.specs.Prelude.{not, nat_lt, List, [], ◌∷◌, length, Option, None, Some, if◌then◌else◌}
 use Rattle.std.specs.List.{filter, list_any}
+pub use Rattle.mv_base.specs.Lists.{Among}
 use Rattle.mv_base.specs.Address.{same_addr}
 use Rattle.mv_base.specs.Pattern.{rank}
 use Rattle.mv_base.specs.declared.addr.Addr.{Addr}
 use Rattle.mv_base.specs.declared.pattern.Pattern.{Pattern}
 use Rattle.selective_defs.specs.declared.learned_route.LearnedRoute.{LearnedRoute}
 use Rattle.selective_defs.specs.declared.selection.Selection.{Selection}
-
--- it is one of the list
-abbrev pub Among : {X : Type 0} → X → List X → Type 0
-Among x [] = ⊥
-Among x (y ∷ ys) = (x ≡ y) ⊎ Among x ys
 
 -- ---- patterns
 

@@ -4,7 +4,8 @@ ghost use Rattle.mv_base.specs.declared.addr.Addr.{Addr};
 ghost use Rattle.mldp_fec.specs.declared.fec.Fec.{Fec};
 ghost use Rattle.selective_defs.specs.declared.learned_route.LearnedRoute.{LearnedRoute};
 ghost use Rattle.selective_defs.specs.declared.selection.Selection.{Selection};
-ghost use Rattle.selective_defs.specs.Selective.{Among, Matches, free_number, IsLeastUnused, next_number, IsLeastNumber, transmitted, IsTransmitted, AreDistinct, wanted, IsWanted, InStep};
+ghost use Rattle.selective_defs.specs.Selective.{Among, Matches, free_number, IsLeastUnused, next_number, IsLeastNumber};
+ghost use Rattle.selective_defs.specs.Selective.{transmitted, IsTransmitted, AreDistinct, wanted, IsWanted, InStep};
 ghost use Rattle.selective_defs.specs.Example.{Overlap};
 
 /// Where the numbers that are used are among so many, a search through as many finds the least from 1 on that is not used; so it is at

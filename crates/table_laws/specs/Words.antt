@@ -31,6 +31,7 @@ IsOrdered cmp [] = ⊤
 IsOrdered cmp (change ∷ rest) = AllByRecursion (Precedes cmp change) rest × IsOrdered cmp rest
 
 -- The list is in order, and gives each key its new value where that is not the old one, and nothing else.
-pub record AreChanges {K V : Type 0} {cmp : K → K → Ordering} (same : V → V → Bool) (old new : FinMap cmp V) (list : List (Change K V)) : Type 0 where
+pub record AreChanges {K V : Type 0} {cmp : K → K → Ordering}
+    (same : V → V → Bool) (old new : FinMap cmp V) (list : List (Change K V)) : Type 0 where
   pub ordered : IsOrdered cmp list
   pub values : (key : K) → values_at cmp key list ≡ difference same (table.get old key) (table.get new key)

@@ -2,7 +2,8 @@
 ghost use Rattle.std.specs.Prelude.{◌≡◌, ◌≢◌, ◌↔◌, ◌++◌, [], ◌∷◌, List};
 ghost use Rattle.std.specs.FinMap.{FinMap, IsAntisymmetric, empty, get};
 ghost use Rattle.table_defs.specs.declared.change.Change.{Change};
-ghost use Rattle.table_defs.specs.Changes.{advertisements, applied, applied_all, changes, difference, key_of, last_value, value_of, values_at};
+ghost use Rattle.table_defs.specs.Changes.{advertisements, applied, applied_all, changes};
+ghost use Rattle.table_defs.specs.Changes.{difference, key_of, last_value, value_of, values_at};
 ghost use Rattle.table_laws.specs.Words.{AreChanges, IsBehind, IsExact};
 
 /// Behind a change its key has its value, and each other key what it had. No other table is so.
@@ -14,8 +15,10 @@ pub fn one_change<K: Ord, V>()
 /// Changes, key by key: those between two tables give each key the difference of its values, and any changes leave it the
 /// last value that they give it.
 pub fn each_key<K: Ord, V: PartialEq>()
-    ensures values { (old new : FinMap K.cmp V) (key : K) → values_at K.cmp key (changes V.eq old new) ≡ difference V.eq (get old key) (get new key) }
-    ensures last { (old : FinMap K.cmp V) (list : List (Change K V)) (key : K) → get (applied_all old list) key ≡ last_value (get old key) (values_at K.cmp key list) }
+    ensures values { (old new : FinMap K.cmp V) (key : K) →
+        values_at K.cmp key (changes V.eq old new) ≡ difference V.eq (get old key) (get new key) }
+    ensures last { (old : FinMap K.cmp V) (list : List (Change K V)) (key : K) →
+        get (applied_all old list) key ≡ last_value (get old key) (values_at K.cmp key list) }
 {}
 
 /// The changes between two tables lead from the old one to the new one, and none of them is idle.

@@ -25,7 +25,8 @@ pub record Named : Type 0 where
 
 abbrev name_code : Coded BindingName
 name_code =
-    code_by (ℕ × ℕ) (coded× coded_ℕ coded_ℕ) (λ name. (name.index, name.generation)) (λ p. record { index = p.0; generation = p.1 }) (λ _. refl)
+    code_by (ℕ × ℕ) (coded× coded_ℕ coded_ℕ)
+    (λ name. (name.index, name.generation)) (λ p. record { index = p.0; generation = p.1 }) (λ _. refl)
 
 abbrev pub named_code : Coded Named
 named_code =

@@ -1,6 +1,7 @@
 -- What a label number of a node is, and what calls change of it. A label is told to an upstream for a FEC, withdrawn
 -- (RFC 6388 section 2.4), and released by the upstream (RFC 5036 section 3.5.11); from then on it rests.
-use Rattle.std.specs.Prelude.{◌≡◌, ◌≢◌, ℕ, ◌<◌, ◌-◌, Bool, false, nat_le, nat_lt, List, slice_get, slice_set, map, count_by, Option, None, Some, if◌then◌else◌}
+use Rattle.std.specs.Prelude.{◌≡◌, ◌≢◌, ℕ, ◌<◌, ◌-◌, Bool, false, nat_le, nat_lt, List, slice_get}
+use Rattle.std.specs.Prelude.{slice_set, map, count_by, Option, None, Some, if◌then◌else◌}
 use Rattle.tunnel_bindings.specs.declared.state.LabelState.{LabelState}
 use Rattle.tunnel_bindings.specs.declared.state.LabelState.TheVariants.{Free, Owned, Resting}
 

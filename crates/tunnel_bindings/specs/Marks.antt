@@ -13,7 +13,9 @@ marked words number = slice_set words (number / 64) (bit_or (slice_index words (
 
 -- the number leaves it
 abbrev pub unmarked : List ℕ → ℕ → List ℕ
-unmarked words number = slice_set words (number / 64) (bit_and (slice_index words (number / 64)) (bit_not w64 (1 * 2 ^ (number % 64) % 2 ^ 64)))
+unmarked words number =
+    slice_set words (number / 64)
+    (bit_and (slice_index words (number / 64)) (bit_not w64 (1 * 2 ^ (number % 64) % 2 ^ 64)))
 
 -- whether the word has a mark
 abbrev pub is_used : List ℕ → ℕ → Bool

@@ -76,7 +76,11 @@ impl Binding<Wanted> {
     ) -> Result<Binding<Mapped>, Binding<Wanted>>
         ensures least { IfOk result (λ mapped. IsLeastFree space.old mapped.state.label) }
         ensures owned { IfOk result (λ mapped. space.new ≡ set_label space.old mapped.state.label LabelState.Owned) }
-        ensures mapped { IfOk result (λ mapped. mapped ≡ record { fec = self.fec; upstream = self.upstream; state = record { label = mapped.state.label; session = session } }) }
+        ensures mapped { IfOk result (λ mapped. mapped ≡ record {
+          fec = self.fec;
+          upstream = self.upstream;
+          state = record { label = mapped.state.label; session = session };
+        }) }
         ensures none { IfErr result (λ wanted. NoneFree space.old) }
         ensures unchanged { IfErr result (λ wanted. space.new ≡ space.old) }
         ensures back { IfErr result (λ wanted. wanted ≡ self) }
@@ -116,7 +120,11 @@ impl Binding<Mapped> {
 
     /// The label is withdrawn. It stays owned until it is released.
     pub fn leave(self) -> Binding<Leaving>
-        ensures { result ≡ record { fec = self.fec; upstream = self.upstream; state = record { label = self.state.label; session = self.state.session } } }
+        ensures { result ≡ record {
+          fec = self.fec;
+          upstream = self.upstream;
+          state = record { label = self.state.label; session = self.state.session };
+        } }
     {
         let Binding {
             fec,

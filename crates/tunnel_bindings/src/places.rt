@@ -1,5 +1,6 @@
 //! Places for bindings, and which of them are free.
-ghost use Rattle.std.specs.Prelude.{◌≡◌, ◌+◌, ◌++◌, ◌≤◌, ◌∷◌, [], length, vec_capacity, slice_get, slice_set, IfOk, IfErr, IfSome, IfNone, Some, true, option_map, is_some, ◌<◌, ◌-◌, ◌^◌};
+ghost use Rattle.std.specs.Prelude.{◌≡◌, ◌+◌, ◌++◌, ◌≤◌, ◌∷◌, [], length, vec_capacity, slice_get, slice_set};
+ghost use Rattle.std.specs.Prelude.{IfOk, IfErr, IfSome, IfNone, Some, true, option_map, is_some, ◌<◌, ◌-◌, ◌^◌};
 ghost use Rattle.tunnel_bindings.specs.States.{state_of_binding, label_in, with_free};
 ghost use Rattle.tunnel_bindings.specs.Labels.{IsOwned};
 ghost use Rattle.tunnel_bindings.specs.Places.{IsWell, is_free, kept_at, holding, emptied, released, AreReady, AreEnded};

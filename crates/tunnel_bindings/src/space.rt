@@ -1,5 +1,6 @@
 //! The label space of a node.
-ghost use Rattle.std.specs.Prelude.{◌≡◌, ◌<◌, ◌≤◌, ◌+◌, ◌^◌, Some, length, replicate, count_by, filter, not, vec_capacity, IfOk, IfSome, IfNone};
+ghost use Rattle.std.specs.Prelude.{◌≡◌, ◌<◌, ◌≤◌, ◌+◌, ◌^◌, Some, length, replicate};
+ghost use Rattle.std.specs.Prelude.{count_by, filter, not, vec_capacity, IfOk, IfSome, IfNone};
 ghost use Rattle.std.specs.List.{All};
 ghost use Rattle.tunnel_bindings.specs.declared.state.LabelState.TheVariants as LabelState;
 ghost use Rattle.tunnel_bindings.specs.Labels.{IsOwned, IsLeastFree, NoneFree, set_label, wake_all, due_in};

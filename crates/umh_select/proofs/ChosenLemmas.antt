@@ -27,7 +27,8 @@ use Rattle.umh_select.specs.Edges.{cost_at, edge_of, edges_in}
 use Rattle.umh_select.specs.Order.{key_cmp, key_total}
 use Rattle.umh_select.specs.Routes.{AreFromNodes, AreOfCore, IsIndexed, IsNoneAt, Routes, at_length, best_of, candidate_of, choice_of, chosen, first_site, is_attached_place, is_learned_place, key_from, known, known_at, known_from, known_here, is_found, measure, named_by, origin_of, peer_of, rd_of, remote_choice}
 use Rattle.umh_select.proofs.BestLemmas.{AllAt, AreAt, Cut, NoneLonger, best_winner, cut, local_first, winner, winner_among, winner_best}
-use Rattle.umh_select.proofs.OrderLemmas.{IsInner, Sorted, entries_of, entry_found, entry_get, get-lookup, same_key, there}
+use Rattle.mv_base.proofs.SortedMaps.{entries_of, get-lookup}
+use Rattle.umh_select.proofs.OrderLemmas.{IsInner, Sorted, entry_found, entry_get, same_key, there}
 
 -- ---- lists
 
@@ -172,7 +173,7 @@ module _ (cost : NodeId → ℕ) (lengths : List Bool) (es : List (RouteKey × H
 
   get_of : (e : RouteKey × Held) → Among e es → maps.get learned (key_from (peer_of e.0.place) (rd_of e.0.place) e.0.prefix) ≡ Some e.1
   get_of e m =
-      ap (maps.get learned) (from_again e.0 (placed is_learned_place lengths es indexed e m)) ∙ (get-lookup es e.0 a ∙ entry_found e es a m)
+      ap (maps.get learned) (from_again e.0 (placed is_learned_place lengths es indexed e m)) ∙ (get-lookup key_cmp es e.0 a ∙ entry_found e es a m)
 
   first_better : (e : RouteKey × Held) (t : Bool) → t ≡ true → (rest : Option KnownRoute) → better_of cost true (known_from e) rest ≡ better_of cost t (known_from e) rest
   first_better e t h rest = ap (λ (b : Bool). better_of cost b (known_from e) rest) (sym h)
@@ -211,7 +212,7 @@ remote_is cost lengths es a indexed known is source bits =
     (subst (λ (l : List (RouteKey × Held)).
     (choice_of (best_of None (map (candidate_of cost) (at_length source bits l))) ≡ chosen (from_sorted es) (best_route cost (map known_from (at_length source bits l)) source))
     × (origin_of (choice_of (best_of None (map (candidate_of cost) (at_length source bits l)))) ≡ option_map (λ (route : KnownRoute). route.origin) (best_route cost (map known_from (at_length source bits l)) source)))
-    (sym (entries_of es a)) (best_is cost lengths es a indexed source bits))
+    (sym (entries_of key_cmp es a)) (best_is cost lengths es a indexed source bits))
 
 -- ---- an attached prefix
 

@@ -1,22 +1,22 @@
 -- The order of routes tells each from every other one, and what a range of it has.
-use Rattle.std.proofs.Common.{◌≡◌, ℕ, ◌==◌, ◌&&◌, Bool, true, false, cond, not, T, inl, inr, List, [], ◌∷◌, Option, Some, None, length, refl, sym, ap, subst, ◌∙◌, eq-eqb}
+use Rattle.std.proofs.Common.{◌≡◌, ℕ, ◌==◌, ◌&&◌, Bool, true, false, cond, not, inl, inr, List, [], ◌∷◌, Option, Some, None, length, refl, sym, ap, subst, ◌∙◌, eq-eqb}
 use Rattle.std.specs.List.{AllByRecursion, filter}
 use Rattle.std.specs.List.Sorted.{IsStrictlySortedBy}
 use Rattle.std.specs.BTreeMap.{is_at}
 use Rattle.std.specs.BTreeMap.Range.{range_contains, entries_between}
 use Rattle.std.specs.Map.{keys_of, lookup}
-use Rattle.std.specs.FinMap.{FinMap, IsAntisymmetric, nat_cmp-IsAntisymmetric, slice_cmp-IsAntisymmetric, empty, empty_of_len, entries, entries-from_sorted, len-entries, find, from_sorted, get, get-entries, get-from_sorted, entries_sorted, get-insert, get-remove, insert, is_sorted, remove, same_map}
-use Rattle.std.specs.FinMap.Entries.{below_all}
-use Rattle.std.specs.Ordering.{nat_cmp, is_eq, is_gt, is_le, is_lt, eq_by_cmp, ordering_then}
+use Rattle.std.specs.FinMap.{FinMap, IsAntisymmetric, nat_cmp-IsAntisymmetric, slice_cmp-IsAntisymmetric, entries, get, get-entries}
+use Rattle.std.specs.Ordering.{nat_cmp, is_eq, is_gt, is_le, is_lt, ordering_then}
 use Rattle.std.specs.declared.cmp.Ordering.{Ordering}
-use Rattle.std.specs.declared.cmp.Ordering.TheVariants.{Less, Equal, Greater}
+use Rattle.std.specs.declared.cmp.Ordering.TheVariants.{Less}
 use Rattle.std.specs.declared.ops.Bound.TheVariants.{Included}
-use Rattle.std.specs.Cmp.{Equal-is, eq_by_cmp_equiv, nat_cmp_total, tied_itself}
+use Rattle.std.specs.Cmp.{Equal-is, nat_cmp_total, tied_itself}
 use Rattle.std.specs.Cmp.Lexicographic.{slice_cmp}
 use Rattle.std.proofs.lemmas.Bool.{and_parts, eqb-true}
 use Rattle.mv_base.specs.Prefix.{covers, same_front}
 use Rattle.mv_base.specs.declared.addr.Addr.{Addr}
 use Rattle.mv_base.specs.declared.addr.Addr.TheVariants.{V4, V6}
+use Rattle.mv_base.proofs.SortedMaps.{Changes, find-lookup, level, map_sorted, same_bool, then_equal, through, tied_numbers}
 use Rattle.choice_defs.specs.Choice.{Among, addr_cmp}
 use Rattle.choice_defs.proofs.OrderLemmas.{one_addr, not_itself}
 use Rattle.umh_select.specs.declared.key.Place.{Place}
@@ -26,11 +26,6 @@ use Rattle.umh_select.specs.Order.{family, front, key_cmp, key_total, place_part
 use Rattle.umh_select.specs.Routes.{at_length}
 
 -- ---- what ties is equal
-
-then_equal : (a b : Ordering) → ordering_then a b ≡ Equal → (a ≡ Equal) × (b ≡ Equal)
-then_equal Less b h = absurd cc
-then_equal Equal b h = (refl, h)
-then_equal Greater b h = absurd cc
 
 abbrev first : List ℕ → ℕ
 first [] = 0
@@ -80,62 +75,11 @@ key_exact a b e =
 pub same_key : (k q : RouteKey) → is_at (key_cmp k) q ≡ true → k ≡ q
 same_key k q h = key_exact k q ((Equal-is (key_cmp k q)).0 h)
 
--- ---- sorted entries and their map
-
-and_T : (a b : Bool) → T a → T b → T (a && b)
-and_T true b p q = q
-and_T false b p q = absurd p
-
-T_parts : (a b : Bool) → T (a && b) → (T a) × (T b)
-T_parts true b p = (tt, p)
-T_parts false b p = absurd p
-
-less : (o : Ordering) → T (is_lt o) → o ≡ Less
-less Less p = refl
-less Equal p = absurd p
-less Greater p = absurd p
+-- ---- what is absent, and what is found
 
 module _ {X : Type 0} where
   abbrev pub Sorted : List (RouteKey × X) → Type 0
   Sorted es = IsStrictlySortedBy key_cmp (keys_of es)
-
-  below : (x : RouteKey) (es : List (RouteKey × X)) → AllByRecursion (λ y. key_cmp x y ≡ Less) (keys_of es) → T (below_all key_cmp x es)
-  below x [] h = tt
-  below x (e ∷ es) h = and_T (is_lt (key_cmp x e.0)) (below_all key_cmp x es) (subst (λ (o : Ordering). T (is_lt o)) (sym h.0) tt) (below x es h.1)
-
-  sorted : (es : List (RouteKey × X)) → Sorted es → T (is_sorted key_cmp es)
-  unfolding IsStrictlySortedBy
-  sorted [] h = tt
-  sorted (e ∷ es) h = and_T (below_all key_cmp e.0 es) (is_sorted key_cmp es) (below e.0 es h.0) (sorted es h.1)
-
-  pub empty_map : from_sorted {X = X} {R = key_cmp} [] ≡ empty
-  empty_map = empty_of_len (from_sorted []) (len-entries (from_sorted []) ∙ ap length (entries-from_sorted key_cmp [] tt))
-
-  pub entries_of : (es : List (RouteKey × X)) → Sorted es → entries (from_sorted {R = key_cmp} es) ≡ es
-  entries_of es a = entries-from_sorted key_cmp es (sorted es a)
-
-  find-lookup : (q : RouteKey) (es : List (RouteKey × X)) → find key_cmp q es ≡ lookup (is_at (key_cmp q)) es
-  find-lookup q [] = refl
-  find-lookup q (e ∷ es) = ap (cond (eq_by_cmp key_cmp q e.0) (Some e.1)) (find-lookup q es)
-
-  pub get-lookup : (es : List (RouteKey × X)) (q : RouteKey) → Sorted es → get (from_sorted {R = key_cmp} es) q ≡ lookup (is_at (key_cmp q)) es
-  get-lookup es q a = get-from_sorted key_cmp es q (sorted es a) ∙ find-lookup q es
-
-  -- what stands at each key behind a change of one
-  abbrev pub Changes : List (RouteKey × X) → List (RouteKey × X) → RouteKey → Option X → Type 0
-  Changes es fs k w = (q : RouteKey) → lookup (is_at (key_cmp q)) fs ≡ cond (is_at (key_cmp k) q) w (lookup (is_at (key_cmp q)) es)
-
-  changed : (es fs : List (RouteKey × X)) (k : RouteKey) (w : Option X) → Sorted es → Sorted fs → Changes es fs k w → (q : RouteKey)
-      → get (from_sorted {R = key_cmp} fs) q ≡ cond (eq_by_cmp key_cmp q k) w (get (from_sorted {R = key_cmp} es) q)
-  changed es fs k w a b u q =
-      get-lookup fs q b ∙ (u q ∙ (ap (λ (t : Bool). cond t w (lookup (is_at (key_cmp q)) es)) ((eq_by_cmp_equiv key_total).symm k q)
-      ∙ ap (cond (eq_by_cmp key_cmp q k) w) (sym (get-lookup es q a))))
-
-  pub inserted : (es fs : List (RouteKey × X)) (k : RouteKey) (v : X) → Sorted es → Sorted fs → Changes es fs k (Some v) → from_sorted {R = key_cmp} fs ≡ insert (from_sorted es) k v
-  inserted es fs k v a b u = same_map key_total key_exact (from_sorted fs) (insert (from_sorted es) k v) (λ q. changed es fs k (Some v) a b u q ∙ sym (get-insert key_total (from_sorted es) k v q))
-
-  pub removed : (es fs : List (RouteKey × X)) (k : RouteKey) → Sorted es → Sorted fs → Changes es fs k None → from_sorted {R = key_cmp} fs ≡ remove (from_sorted es) k
-  removed es fs k a b u = same_map key_total key_exact (from_sorted fs) (remove (from_sorted es) k) (λ q. changed es fs k None a b u q ∙ sym (get-remove key_total (from_sorted es) k q))
 
   -- ---- a change keeps what is absent absent
 
@@ -143,7 +87,7 @@ module _ {X : Type 0} where
   absent_by true w o h k = h refl
   absent_by false w o h k = k
 
-  pub still_absent : (es fs : List (RouteKey × X)) (k : RouteKey) (w : Option X) → Changes es fs k w → (q : RouteKey) → (k ≡ q → w ≡ None)
+  pub still_absent : (es fs : List (RouteKey × X)) (k : RouteKey) (w : Option X) → Changes key_cmp es fs k w → (q : RouteKey) → (k ≡ q → w ≡ None)
       → lookup (is_at (key_cmp q)) es ≡ None → lookup (is_at (key_cmp q)) fs ≡ None
   still_absent es fs k w u q h n = u q ∙ absent_by (is_at (key_cmp k) q) w (lookup (is_at (key_cmp q)) es) (λ e. h (same_key k q e)) n
 
@@ -192,22 +136,9 @@ module _ {X : Type 0} where
   entry_found e (f ∷ es) a (inr m) =
       not_first e f (above f.0 e es m a.0) (is_at (key_cmp e.0) f.0) refl (lookup (is_at (key_cmp e.0)) es) ∙ entry_found e es a.1 m
 
-  below_back : (x : RouteKey) (es : List (RouteKey × X)) → T (below_all key_cmp x es) → AllByRecursion (λ y. key_cmp x y ≡ Less) (keys_of es)
-  below_back x [] h = tt
-  below_back x (e ∷ es) h =
-      let both = T_parts (is_lt (key_cmp x e.0)) (below_all key_cmp x es) h in
-      (less (key_cmp x e.0) both.0, below_back x es both.1)
-
-  sorted_back : (es : List (RouteKey × X)) → T (is_sorted key_cmp es) → Sorted es
-  unfolding IsStrictlySortedBy
-  sorted_back [] h = tt
-  sorted_back (e ∷ es) h =
-      let both = T_parts (below_all key_cmp e.0 es) (is_sorted key_cmp es) h in
-      (below_back e.0 es both.0, sorted_back es both.1)
-
   -- an entry of a map is what the map has at its key
   pub entry_get : (m : FinMap key_cmp X) (e : RouteKey × X) → Among e (entries m) → get m e.0 ≡ Some e.1
-  entry_get m e a = get-entries m e.0 ∙ (find-lookup e.0 (entries m) ∙ entry_found e (entries m) (sorted_back (entries m) (entries_sorted m)) a)
+  entry_get m e a = get-entries m e.0 ∙ (find-lookup key_cmp e.0 (entries m) ∙ entry_found e (entries m) (map_sorted key_cmp m) a)
 
   pub filter_among : (p q : RouteKey × X → Bool) (es : List (RouteKey × X)) → ((e : RouteKey × X) → Among e es → p e ≡ q e) → filter p es ≡ filter q es
   filter_among p q [] h = refl
@@ -215,30 +146,11 @@ module _ {X : Type 0} where
 
 -- ---- the range of a length and first bits
 
-same_bool : (a b : Bool) → (a ≡ true → b ≡ true) → (b ≡ true → a ≡ true) → a ≡ b
-same_bool true b h k = sym (h refl)
-same_bool false true h k = k refl
-same_bool false false h k = refl
-
--- a key is between two others that compare alike in front
-level : (c x y : Ordering) (b : Bool) → (is_le x && not (is_lt y)) ≡ b → (is_le (ordering_then c x) && not (is_lt (ordering_then c y))) ≡ (is_eq c && b)
-level Less x y b h = refl
-level Equal x y b h = h
-level Greater x y b h = refl
-
-tied_numbers : (a b : ℕ) → a ≡ b → is_eq (nat_cmp a b) ≡ true
-tied_numbers a b e = ap is_eq (subst (λ (x : ℕ). nat_cmp a x ≡ Equal) e (tied_itself nat_cmp_total a))
-
 abbrev pub low_end : Addr → ℕ → RouteKey
 low_end source bits = record { prefix = record { addr = source; bits = bits }; place = First }
 
 abbrev pub high_end : Addr → ℕ → RouteKey
 high_end source bits = record { prefix = record { addr = source; bits = bits }; place = Last }
-
-through : (a b : Ordering) → a ≡ Equal → is_gt b ≡ false → is_gt (ordering_then a b) ≡ false
-through Less b e h = refl
-through Equal b e h = h
-through Greater b e h = absurd cc
 
 -- the ends are in order
 pub forward : (source : Addr) (bits : ℕ) → is_gt (key_cmp (low_end source bits) (high_end source bits)) ≡ false

@@ -8,7 +8,8 @@ use Rattle.choice_defs.specs.Choice.{Among}
 use Rattle.umh_select.specs.declared.key.RouteKey.{RouteKey}
 use Rattle.umh_select.specs.Order.{key_cmp}
 use Rattle.umh_select.specs.Routes.{at_length}
-use Rattle.umh_select.proofs.OrderLemmas.{IsInner, Sorted, entries_of, high_end, low_end, range_at}
+use Rattle.mv_base.proofs.SortedMaps.{entries_of}
+use Rattle.umh_select.proofs.OrderLemmas.{IsInner, Sorted, high_end, low_end, range_at}
 
 module _ {X : Type 0} where
   -- the routes between two ends that are those of the length
@@ -17,4 +18,4 @@ module _ {X : Type 0} where
       → listed ≡ entries_between key_cmp (Included first) (Included last) es → listed ≡ at_length source bits (entries map)
   between source bits first last f l es a inner map is listed h =
       h ∙ ((λ i. entries_between key_cmp (Included (f i)) (Included (l i)) es)
-      ∙ (range_at source bits es inner ∙ ap (at_length source bits) (sym (entries_of es a) ∙ ap entries is)))
+      ∙ (range_at source bits es inner ∙ ap (at_length source bits) (sym (entries_of key_cmp es a) ∙ ap entries is)))

@@ -6,9 +6,9 @@ ghost use Rattle.mv_base.specs.declared.ids.NodeId.{NodeId};
 ghost use Rattle.choice_defs.specs.Choice.{best_route, choose, cost_by, hash_of, hashed_of};
 ghost use Rattle.umh_select.specs.declared.route.Choice.TheVariants as choices;
 ghost use Rattle.umh_select.specs.Edges.{cost_at, edges_in, first_above};
-ghost use Rattle.umh_select.specs.Routes.{AreCosts, AreOfCore, IsNoneAt, at_length, best_of, candidate_of, choice_of};
-ghost use Rattle.umh_select.specs.Routes.{chosen, first_site, held_of, is_found, is_from, key_from, key_here, known};
-ghost use Rattle.umh_select.specs.Routes.{known_at, measure, named_by, origin_of, without_peer};
+ghost use Rattle.umh_select.specs.Routes.{AreCosts, AreOfCore, IsNoneAt, at_length, best_of, candidate_of};
+ghost use Rattle.umh_select.specs.Routes.{choice_of, chosen, first_site, held_of, is_found, is_from, key_from};
+ghost use Rattle.umh_select.specs.Routes.{key_here, known, known_at, measure, named_by, origin_of, without_peer};
 
 use crate::candidate::{Candidate, better, choice_of, measure, peer_of};
 use crate::edges::{Edge, hash_of, lowest};
@@ -92,8 +92,8 @@ impl Umh {
 
     /// The peer's route, in place of what it gave before for that route distinguisher and prefix.
     pub fn learn(&mut self, peer: NodeId, route: Learned) -> Result<(), NoMemory>
-        ensures learned { OnOk result (self.new ≡
-            record self.old { learned = insert self.old.learned (key_from peer route.rd route.prefix) (held_of route) }) }
+        ensures learned { OnOk result
+            (self.new ≡ record self.old { learned = insert self.old.learned (key_from peer route.rd route.prefix) (held_of route) }) }
         ensures unchanged { OnErr result (self.new ≡ self.old) }
     {
         let key = RouteKey {
@@ -149,8 +149,9 @@ impl Umh {
     pub fn choose(&self, source: Addr, group: Addr, me: NodeId, core: &Core) -> Choice
         requires me { me.0 < core.now.nodes }
         requires peers { AreOfCore core.now.nodes self.now.learned }
-        ensures route { (cost : NodeId → ℕ) → AreCosts core.now me cost → result ≡
-            chosen self.now.learned (best_route (cost_by self.now.rule cost (known self.now) source group) (known self.now) source) }
+        ensures route { (cost : NodeId → ℕ) → AreCosts core.now me cost →
+            result ≡ chosen self.now.learned
+            (best_route (cost_by self.now.rule cost (known self.now) source group) (known self.now) source) }
         ensures origin { (cost : NodeId → ℕ) → AreCosts core.now me cost →
             origin_of result ≡ choose self.now.rule cost (known self.now) source group }
     {
@@ -182,8 +183,8 @@ impl Umh {
         ensures none { result ≡ choices.None → IsNoneAt self.now source bits }
         ensures route { (cost : NodeId → ℕ) → AreCosts core.now me cost →
             result ≡ chosen self.now.learned (best_route (cost_at self.now source group bits cost) (known_at self.now source bits) source) }
-        ensures origin { (cost : NodeId → ℕ) → AreCosts core.now me cost → origin_of result ≡
-            option_map (λ route. route.origin)
+        ensures origin { (cost : NodeId → ℕ) → AreCosts core.now me cost →
+            origin_of result ≡ option_map (λ route. route.origin)
             (best_route (cost_at self.now source group bits cost) (known_at self.now source bits) source) }
     {
         if !self.lengths[usize::from(bits)] {
@@ -268,8 +269,8 @@ impl Umh {
         requires me { me.0 < core.now.nodes }
         requires peers { AreOfCore core.now.nodes self.now.learned }
         ensures none { result ≡ choices.None → at_length source bits (entries self.now.learned) ≡ [] }
-        ensures best { (cost : NodeId → ℕ) → AreCosts core.now me cost → result ≡
-            choice_of (best_of None
+        ensures best { (cost : NodeId → ℕ) → AreCosts core.now me cost →
+            result ≡ choice_of (best_of None
             (map (candidate_of (cost_at self.now source group bits cost)) (at_length source bits (entries self.now.learned)))) }
     {
         let named = self.named_at(source, group, bits);
@@ -288,7 +289,8 @@ impl Umh {
         requires me { me.0 < core.now.nodes }
         requires peers { AreOfCore core.now.nodes self.now.learned }
         ensures none { result ≡ None → at_length source bits (entries self.now.learned) ≡ [] }
-        ensures best { (cost : NodeId → ℕ) → AreCosts core.now me cost → result ≡ best_of None
+        ensures best { (cost : NodeId → ℕ) → AreCosts core.now me cost →
+            result ≡ best_of None
             (map (candidate_of (measure self.now.rule cost named)) (at_length source bits (entries self.now.learned))) }
     {
         let ends = end(source, bits, Place::First)..=end(source, bits, Place::Last);

@@ -12,7 +12,7 @@ use Rattle.tunnel_bindings.proofs.LabelLemmas.{owned_taken}
 use Rattle.std.specs.Prelude.{IfSome}
 use Rattle.label_uses.specs.declared.held.Held.{Held}
 use Rattle.label_uses.specs.Uses.{Uses, set_use, free_in, mapped_in}
-use Rattle.label_uses.specs.Held.{towards, Holds, is_fec, is_node, uses_from}
+use Rattle.label_uses.specs.Held.{towards, HoldsOwned, is_fec, is_node, uses_from}
 use Rattle.label_uses.proofs.ListLemmas.{mapped_agrees, least_agrees, none_agrees}
 use Rattle.label_uses.proofs.StepLemmas.{session_seen, same_tables, mapped_binding, map_holds, map_labels, given_back}
 use Rattle.label_uses.proofs.label_uses.LabelUses.map.Goals as goal
@@ -33,7 +33,7 @@ invariant_of-self-in_err-reserve-2 c = same_tables c.self.inside.space c.self.in
 pub invariant_of-self-in-Err : goal.invariant_of-self-in-Err
 invariant_of-self-in-Err c = same_tables c.map.new.space c.self.inside.held c.reserve.new.self (maps.get c.self.inside.bindings.kept) (get is_node c.self.inside.sessions) c.self.inside.mapped c.reserve-2.new.self (get is_fec c.self.inside.waiting)
     c.reserve.ensures.entries c.reserve-2.ensures.entries
-    (subst (λ (x : Space). Holds (state_of x) (get nat_eq c.self.inside.held) (maps.get c.self.inside.bindings.kept) (get is_node c.self.inside.sessions) (get is_fec c.self.inside.mapped) (get is_fec c.self.inside.waiting)) (sym c.in-Err.ensures.unchanged) c.self.invariant)
+    (subst (λ (x : Space). HoldsOwned (state_of x) (get nat_eq c.self.inside.held) (maps.get c.self.inside.bindings.kept) (get is_node c.self.inside.sessions) (get is_fec c.self.inside.mapped) (get is_fec c.self.inside.waiting)) (sym c.in-Err.ensures.unchanged) c.self.invariant)
 
 pub end-requires : goal.end-requires
 end-requires c = subst (λ (b : AnyBinding). IfSome (label_of b) (λ label. IsOwned c.map.new.space label)) (sym c.in-Err-keep.ensures.back)
@@ -42,10 +42,10 @@ end-requires c = subst (λ (b : AnyBinding). IfSome (label_of b) (λ label. IsOw
 pub invariant_of-self-in-Err-keep : goal.invariant_of-self-in-Err-keep
 invariant_of-self-in-Err-keep c =
     let back = given_back c.self.inside.space c.map.new.space c.end.new.space c.in-Ok.mapped.state.label c.in-Ok.ensures.least c.in-Ok.ensures.owned (c.end.ensures ∙ ap (λ (b : AnyBinding). with_free c.map.new.space (label_of b)) c.in-Err-keep.ensures.back) in
-    subst (λ n. Holds (state_of c.end.new.space) (get nat_eq c.reserve.new.self) (maps.get n.kept) (get is_node c.self.inside.sessions) (get is_fec c.reserve-2.new.self) (get is_fec c.self.inside.waiting)) (sym c.in-Err-keep.ensures.unchanged)
+    subst (λ n. HoldsOwned (state_of c.end.new.space) (get nat_eq c.reserve.new.self) (maps.get n.kept) (get is_node c.self.inside.sessions) (get is_fec c.reserve-2.new.self) (get is_fec c.self.inside.waiting)) (sym c.in-Err-keep.ensures.unchanged)
     (same_tables c.end.new.space c.self.inside.held c.reserve.new.self (maps.get c.self.inside.bindings.kept) (get is_node c.self.inside.sessions) c.self.inside.mapped c.reserve-2.new.self (get is_fec c.self.inside.waiting)
     c.reserve.ensures.entries c.reserve-2.ensures.entries
-    (subst (λ (x : Space). Holds (state_of x) (get nat_eq c.self.inside.held) (maps.get c.self.inside.bindings.kept) (get is_node c.self.inside.sessions) (get is_fec c.self.inside.mapped) (get is_fec c.self.inside.waiting)) (sym back) c.self.invariant))
+    (subst (λ (x : Space). HoldsOwned (state_of x) (get nat_eq c.self.inside.held) (maps.get c.self.inside.bindings.kept) (get is_node c.self.inside.sessions) (get is_fec c.self.inside.mapped) (get is_fec c.self.inside.waiting)) (sym back) c.self.invariant))
 
 pub returns-in-Err-keep-clause-none_mapped : goal.returns-in-Err-keep-clause-none_mapped
 returns-in-Err-keep-clause-none_mapped c =

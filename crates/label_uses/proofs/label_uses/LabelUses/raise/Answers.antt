@@ -8,7 +8,7 @@ use Rattle.mv_base.specs.declared.ids.NodeId.{NodeId}
 use Rattle.tunnel_bindings.specs.declared.binding.Incarnation.{Incarnation}
 use Rattle.tunnel_bindings.specs.Labels.{state_of}
 use Rattle.label_uses.specs.Uses.{Uses}
-use Rattle.label_uses.specs.Held.{towards, Holds, is_fec, is_node, uses_from}
+use Rattle.label_uses.specs.Held.{towards, HoldsOwned, is_fec, is_node, uses_from}
 use Rattle.label_uses.proofs.HoldLemmas.{holds_sessions}
 use Rattle.label_uses.proofs.StepLemmas.{session_seen}
 use Rattle.label_uses.proofs.SeenLemmas.{session_comes, not_it, node_same}
@@ -16,7 +16,7 @@ use Rattle.label_uses.proofs.label_uses.LabelUses.raise.Goals as goal
 
 pub invariant_of-self : goal.invariant_of-self
 invariant_of-self c =
-    subst (λ (es : List (NodeId × Incarnation)). Holds (state_of c.self.inside.space) (get nat_eq c.self.inside.held) (maps.get c.self.inside.bindings.kept) (λ q. lookup (is_node q) es) (get is_fec c.self.inside.mapped) (get is_fec c.self.inside.waiting)) (sym c.in_err-insert.ensures.err) c.self.invariant
+    subst (λ (es : List (NodeId × Incarnation)). HoldsOwned (state_of c.self.inside.space) (get nat_eq c.self.inside.held) (maps.get c.self.inside.bindings.kept) (λ q. lookup (is_node q) es) (get is_fec c.self.inside.mapped) (get is_fec c.self.inside.waiting)) (sym c.in_err-insert.ensures.err) c.self.invariant
 
 pub invariant_of-self-2 : goal.invariant_of-self-2
 invariant_of-self-2 c =

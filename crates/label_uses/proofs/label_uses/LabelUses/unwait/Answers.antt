@@ -7,7 +7,7 @@ use Rattle.tunnel_bindings.specs.Bindings.{Named}
 use Rattle.tunnel_bindings.specs.Labels.{Space, IsOwned, state_of}
 use Rattle.tunnel_bindings.specs.States.{label_of, with_free}
 use Rattle.label_uses.specs.Uses.{Uses}
-use Rattle.label_uses.specs.Held.{Holds, is_fec, is_node, waiting_binding, uses_from}
+use Rattle.label_uses.specs.Held.{HoldsOwned, is_fec, is_node, waiting_binding, uses_from}
 use Rattle.label_uses.proofs.TableLemmas.{Sets, sets_tree, name_gone}
 use Rattle.label_uses.proofs.HoldLemmas.{same_own, holds_unwait}
 use Rattle.label_uses.proofs.SeenLemmas.{waiting_goes, waiting_none}
@@ -30,7 +30,7 @@ invariant_of-self c =
     let is = same_own c.take.result c.unwrap-binding.result (waiting_binding c.args.fec.now c.in-Some.own) c.unwrap-binding.ensures (c.take.ensures.binding ∙ c.self.invariant.waits c.args.fec.now c.in-Some.own at) in
     let space : c.end.new.space ≡ c.self.inside.space = c.end.ensures ∙ ap (λ (b : AnyBinding). with_free c.self.inside.space (label_of b)) is in
     let names = subst (λ n. Sets (maps.get c.self.inside.bindings.kept) (maps.get n) c.in-Some.own.name None) (sym (ap (λ (n : Named). n.kept) c.take.ensures.taken)) (name_gone c.self.inside.bindings.kept c.in-Some.own.name) in
-    subst (λ (x : Space). Holds (state_of x) (get nat_eq c.self.inside.held) (maps.get c.take.new.self.kept) (get is_node c.self.inside.sessions) (get is_fec c.self.inside.mapped) (get is_fec c.forget_waiting.new.waiting)) (sym space)
+    subst (λ (x : Space). HoldsOwned (state_of x) (get nat_eq c.self.inside.held) (maps.get c.take.new.self.kept) (get is_node c.self.inside.sessions) (get is_fec c.self.inside.mapped) (get is_fec c.forget_waiting.new.waiting)) (sym space)
     (holds_unwait (state_of c.self.inside.space) (get nat_eq c.self.inside.held) (maps.get c.self.inside.bindings.kept) (maps.get c.take.new.self.kept) (get is_node c.self.inside.sessions) (get is_fec c.self.inside.mapped) (get is_fec c.self.inside.waiting) (get is_fec c.forget_waiting.new.waiting)
     c.args.fec.now c.in-Some.own c.self.invariant at names (sets_tree (get is_fec c.self.inside.waiting) (get is_fec c.forget_waiting.new.waiting) c.args.fec.now None c.forget_waiting.ensures.each))
 

@@ -9,7 +9,7 @@ use Rattle.tunnel_bindings.specs.declared.any_binding.AnyBinding.TheVariants as 
 use Rattle.tunnel_bindings.specs.Labels.{state_of}
 use Rattle.label_uses.specs.declared.table.Waiting.{Waiting}
 use Rattle.label_uses.specs.Uses.{Uses}
-use Rattle.label_uses.specs.Held.{Holds, is_fec, is_node, waiting_binding, towards, uses_from}
+use Rattle.label_uses.specs.Held.{HoldsOwned, is_fec, is_node, waiting_binding, towards, uses_from}
 use Rattle.label_uses.proofs.TableLemmas.{Sets, sets_tree, name_kept}
 use Rattle.label_uses.proofs.HoldLemmas.{holds_wait}
 use Rattle.label_uses.proofs.SeenLemmas.{waiting_comes, waiting_absent, insert_removed}
@@ -25,7 +25,7 @@ invariant_of-self-in-Ok c =
     (name_kept c.self.inside.bindings.kept c.in-Ok.name (bindings.Wanted c.new-wanted.result))) in
     holds_wait (state_of c.self.inside.space) (get nat_eq c.self.inside.held) (maps.get c.self.inside.bindings.kept) (maps.get c.keep.new.self.kept) (get is_node c.self.inside.sessions) (get is_fec c.self.inside.mapped) (get is_fec c.reserve.new.self) (get is_fec c.note_waiting.new.waiting)
     c.args.fec.now own
-    (subst (λ (es : List (Fec × Waiting)). Holds (state_of c.self.inside.space) (get nat_eq c.self.inside.held) (maps.get c.self.inside.bindings.kept) (get is_node c.self.inside.sessions) (get is_fec c.self.inside.mapped) (λ q. lookup (is_fec q) es)) (sym c.reserve.ensures.entries) c.self.invariant)
+    (subst (λ (es : List (Fec × Waiting)). HoldsOwned (state_of c.self.inside.space) (get nat_eq c.self.inside.held) (maps.get c.self.inside.bindings.kept) (get is_node c.self.inside.sessions) (get is_fec c.self.inside.mapped) (λ q. lookup (is_fec q) es)) (sym c.reserve.ensures.entries) c.self.invariant)
     (ap (lookup (is_fec c.args.fec.now)) c.reserve.ensures.entries ∙ absent) c.in-Ok.ensures.absent names
     (sets_tree (get is_fec c.reserve.new.self) (get is_fec c.note_waiting.new.waiting) c.args.fec.now (Some own) c.note_waiting.ensures.each)
 

@@ -4,13 +4,14 @@ use Rattle.std.proofs.lemmas.Map.Made.{filter_same_pairs}
 use Rattle.selective.specs.declared.route_key.Learned.{Learned}
 use Rattle.selective.specs.declared.route_key.RouteKey.{RouteKey}
 use Rattle.selective.specs.Leaves.{Leaf, Routes, is_of_peer, without_peer}
-use Rattle.selective.proofs.OrderLemmas.{entries_of}
+use Rattle.selective.specs.Order.{route_cmp}
+use Rattle.mv_base.proofs.SortedMaps.{entries_of}
 use Rattle.selective.proofs.leaf.LeafTunnels.forget_peer.Goals as goal
 
 pub returns : goal.returns
 returns c =
     let left : c.retain.new.self.entries ≡ filter (λ (e : RouteKey × Learned). not (is_of_peer c.args.peer e)) c.self.inside.routes.entries =
     filter_same_pairs _ _ _ (λ k v b w g call. search rules) _ _ c.retain.ensures.filtered in
-    let routes = ap from_sorted (left ∙ ap (filter (λ (e : RouteKey × Learned). not (is_of_peer c.args.peer e))) (sym (entries_of c.self.inside.routes.entries c.self.invariant))) in
+    let routes = ap from_sorted (left ∙ ap (filter (λ (e : RouteKey × Learned). not (is_of_peer c.args.peer e))) (sym (entries_of route_cmp c.self.inside.routes.entries c.self.invariant))) in
     ap (λ (r : Routes). record { delay = c.self.inside.delay; routes = r }) routes
     ∙ ap (λ (l : Leaf). record { delay = l.delay; routes = without_peer c.args.peer l.routes }) c.self.view_is

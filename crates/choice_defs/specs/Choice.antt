@@ -7,6 +7,7 @@ use Rattle.std.specs.declared.cmp.Ordering.TheVariants.{Less, Equal, Greater}
 use Rattle.std.specs.Cmp.Lexicographic.{slice_cmp}
 pub use Rattle.mv_base.specs.Lists.{Among}
 use Rattle.mv_base.specs.Address.{addr_octets}
+pub use Rattle.mv_base.specs.Address.{addr_key}
 use Rattle.mv_base.specs.Prefix.{covers, same_front}
 use Rattle.mv_base.specs.declared.addr.Addr.{Addr}
 use Rattle.mv_base.specs.declared.addr.Addr.TheVariants.{V4, V6}
@@ -22,12 +23,6 @@ use Rattle.choice_defs.specs.declared.origin.Origin.{Origin}
 use Rattle.choice_defs.specs.declared.origin.Origin.TheVariants.{Local, Remote}
 
 -- ---- addresses and route distinguishers
-
--- the numbers by which addresses are compared: those of IPv4 are lower than those of IPv6, and within a family the octets
--- tell
-abbrev pub addr_key : Addr → List ℕ
-addr_key (V4 octets) = 4 ∷ octets
-addr_key (V6 octets) = 6 ∷ octets
 
 abbrev pub addr_cmp : Addr → Addr → Ordering
 addr_cmp a b = slice_cmp nat_cmp (addr_key a) (addr_key b)

@@ -20,7 +20,7 @@ use Rattle.bgp_update.specs.Written.{vpn_text, afi_of}
 use Rattle.table_laws.specs.Words.{IsExact}
 use Rattle.selective_defs.proofs.PartLemmas.{one_addr, one_word}
 use Rattle.edge_defs.specs.Edge.{Note, VrfPattern, VrfFlow, note_cmp, pattern_cmp, flow_cmp}
-use Rattle.edge_defs.specs.Keys.{Value, addr_part, word_part, afi_number, key_parts, parts_cmp, key_cmp, value_parts, same_value}
+use Rattle.edge_defs.specs.Keys.{Value, addr_key, word_part, afi_number, key_parts, parts_cmp, key_cmp, value_parts, same_value}
 use Rattle.edge_defs.proofs.PartLemmas.{one_key, one_value}
 
 parts_total : IsTotalOrder parts_cmp
@@ -47,13 +47,13 @@ value_exact own other = (
 
 -- a number, a source and a group
 abbrev flow_key : ℕ → Addr → Addr → List (List ℕ)
-flow_key number source group = (number ∷ []) ∷ addr_part source ∷ addr_part group ∷ []
+flow_key number source group = (number ∷ []) ∷ addr_key source ∷ addr_key group ∷ []
 
 one_flow_key : (n m : ℕ) (source from group to : Addr) → flow_key n source group ≡ flow_key m from to → (n ≡ m) × (source ≡ from) × (group ≡ to)
 one_flow_key n m source from group to e =
     let numbers : n ≡ m = cc in
-    let sources : addr_part source ≡ addr_part from = cc in
-    let groups : addr_part group ≡ addr_part to = cc in
+    let sources : addr_key source ≡ addr_key from = cc in
+    let groups : addr_key group ≡ addr_key to = cc in
     (numbers, one_addr source from sources, one_addr group to groups)
 
 abbrev note_parts : Note → List (List ℕ)
@@ -107,7 +107,7 @@ ipv4_first own other = refl
 
 -- the parts of keys by the AFI of their prefixes
 abbrev parts_by : Afi → Rd → Prefix → List (List ℕ)
-parts_by afi rd prefix = (0 ∷ afi_number afi ∷ []) ∷ vpn_text [] rd prefix ∷ rd.0 ∷ addr_part prefix.addr ∷ (prefix.bits ∷ []) ∷ []
+parts_by afi rd prefix = (0 ∷ afi_number afi ∷ []) ∷ vpn_text [] rd prefix ∷ rd.0 ∷ addr_key prefix.addr ∷ (prefix.bits ∷ []) ∷ []
 
 first_by : (a b : Afi) (rd other_rd : Rd) (prefix other : Prefix) → a ≡ Ipv4 → b ≡ Ipv6 → parts_cmp (parts_by a rd prefix) (parts_by b other_rd other) ≡ Less
 first_by a b rd other_rd prefix other h k =

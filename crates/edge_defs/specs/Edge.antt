@@ -16,7 +16,7 @@ use Rattle.pim_defs.specs.Entries.{Entries}
 use Rattle.label_defs.specs.Keys.{node_cmp}
 use Rattle.label_defs.specs.LabelData as labels
 use Rattle.label_defs.specs.LabelData.{LabelData}
-use Rattle.edge_defs.specs.Keys.{Value, key_cmp, addr_part, word_part, parts_cmp}
+use Rattle.edge_defs.specs.Keys.{Value, key_cmp, addr_key, word_part, parts_cmp}
 
 -- ---- what is kept by what
 
@@ -28,8 +28,8 @@ pub record Note : Type 0 where
 
 abbrev pub note_cmp : Note → Note → Ordering
 note_cmp a b =
-    parts_cmp ((a.iface.0 ∷ []) ∷ addr_part a.source ∷ addr_part a.group ∷ [])
-    ((b.iface.0 ∷ []) ∷ addr_part b.source ∷ addr_part b.group ∷ [])
+    parts_cmp ((a.iface.0 ∷ []) ∷ addr_key a.source ∷ addr_key a.group ∷ [])
+    ((b.iface.0 ∷ []) ∷ addr_key b.source ∷ addr_key b.group ∷ [])
 
 -- A pattern that is selected in a VRF.
 pub record VrfPattern : Type 0 where
@@ -49,8 +49,8 @@ pub record VrfFlow : Type 0 where
 
 abbrev pub flow_cmp : VrfFlow → VrfFlow → Ordering
 flow_cmp a b =
-    parts_cmp ((a.vrf.0 ∷ []) ∷ addr_part a.source ∷ addr_part a.group ∷ [])
-    ((b.vrf.0 ∷ []) ∷ addr_part b.source ∷ addr_part b.group ∷ [])
+    parts_cmp ((a.vrf.0 ∷ []) ∷ addr_key a.source ∷ addr_key a.group ∷ [])
+    ((b.vrf.0 ∷ []) ∷ addr_key b.source ∷ addr_key b.group ∷ [])
 
 -- ---- what is kept
 

@@ -21,7 +21,7 @@ use Rattle.route_targets.specs.declared.communities.ExtComm.{ExtComm}
 use Rattle.bgp_attributes.specs.declared.key.Key.{Key}
 use Rattle.bgp_attributes.specs.declared.key.Key.TheVariants.{Mcast, Unicast}
 use Rattle.bgp_update.specs.Written.{vpn_text, afi_of}
-pub use Rattle.selective_defs.specs.Parts.{addr_part, word_part}
+pub use Rattle.selective_defs.specs.Parts.{addr_key, word_part}
 
 -- ---- the order of keys
 
@@ -32,25 +32,25 @@ afi_number Ipv6 = 2
 abbrev pub leaf_parts : LeafKey → List (List ℕ)
 leaf_parts (leaf_keys.Inter rd source_as) = (2 ∷ source_as ∷ []) ∷ rd.0 ∷ []
 leaf_parts (leaf_keys.Selective rd source group originator) =
-    (3 ∷ []) ∷ rd.0 ∷ word_part source ∷ word_part group ∷ addr_part originator ∷ []
+    (3 ∷ []) ∷ rd.0 ∷ word_part source ∷ word_part group ∷ addr_key originator ∷ []
 
 -- the parts of a route, which tell it from every other one
 abbrev pub route_parts : Route → List (List ℕ)
-route_parts (routes.Intra rd originator) = (1 ∷ []) ∷ rd.0 ∷ addr_part originator ∷ []
+route_parts (routes.Intra rd originator) = (1 ∷ []) ∷ rd.0 ∷ addr_key originator ∷ []
 route_parts (routes.Inter rd source_as) = (2 ∷ source_as ∷ []) ∷ rd.0 ∷ []
 route_parts (routes.Selective rd source group originator) =
-    (3 ∷ []) ∷ rd.0 ∷ word_part source ∷ word_part group ∷ addr_part originator ∷ []
-route_parts (routes.Leaf key originator) = (4 ∷ []) ∷ addr_part originator ∷ leaf_parts key
-route_parts (routes.Active rd source group) = (5 ∷ []) ∷ rd.0 ∷ addr_part source ∷ addr_part group ∷ []
-route_parts (routes.SharedJoin rd source_as source group) = (6 ∷ source_as ∷ []) ∷ rd.0 ∷ addr_part source ∷ addr_part group ∷ []
-route_parts (routes.SourceJoin rd source_as source group) = (7 ∷ source_as ∷ []) ∷ rd.0 ∷ addr_part source ∷ addr_part group ∷ []
+    (3 ∷ []) ∷ rd.0 ∷ word_part source ∷ word_part group ∷ addr_key originator ∷ []
+route_parts (routes.Leaf key originator) = (4 ∷ []) ∷ addr_key originator ∷ leaf_parts key
+route_parts (routes.Active rd source group) = (5 ∷ []) ∷ rd.0 ∷ addr_key source ∷ addr_key group ∷ []
+route_parts (routes.SharedJoin rd source_as source group) = (6 ∷ source_as ∷ []) ∷ rd.0 ∷ addr_key source ∷ addr_key group ∷ []
+route_parts (routes.SourceJoin rd source_as source group) = (7 ∷ source_as ∷ []) ∷ rd.0 ∷ addr_key source ∷ addr_key group ∷ []
 route_parts (routes.Other kind octets) = (8 ∷ kind ∷ []) ∷ octets ∷ []
 
 -- What keys are ordered by: unicast keys before multicast keys, in each kind those of AFI 1 before those of AFI 2, and then the octets
 -- that spell them, the label of a unicast route aside. The parts of the key stand behind, so that no two keys tie.
 abbrev pub key_parts : Key → List (List ℕ)
 key_parts (Unicast rd prefix) =
-    (0 ∷ afi_number (afi_of prefix.addr) ∷ []) ∷ vpn_text [] rd prefix ∷ rd.0 ∷ addr_part prefix.addr ∷ (prefix.bits ∷ []) ∷ []
+    (0 ∷ afi_number (afi_of prefix.addr) ∷ []) ∷ vpn_text [] rd prefix ∷ rd.0 ∷ addr_key prefix.addr ∷ (prefix.bits ∷ []) ∷ []
 key_parts (Mcast afi route) = (1 ∷ afi_number afi ∷ []) ∷ written route ∷ route_parts route
 
 abbrev pub parts_cmp : List (List ℕ) → List (List ℕ) → Ordering
@@ -82,8 +82,8 @@ kind_number Down = 8
 
 abbrev pub tunnel_parts : Tunnel → List (List ℕ)
 tunnel_parts tunnels.None = (0 ∷ []) ∷ [] ∷ []
-tunnel_parts (tunnels.Mldp fec) = (2 ∷ kind_number fec.kind ∷ addr_part fec.root) ∷ fec.opaque ∷ []
-tunnel_parts (tunnels.Ingress addr) = (6 ∷ addr_part addr) ∷ [] ∷ []
+tunnel_parts (tunnels.Mldp fec) = (2 ∷ kind_number fec.kind ∷ addr_key fec.root) ∷ fec.opaque ∷ []
+tunnel_parts (tunnels.Ingress addr) = (6 ∷ addr_key addr) ∷ [] ∷ []
 tunnel_parts (tunnels.Other kind ident) = (8 ∷ kind ∷ []) ∷ ident ∷ []
 
 abbrev pub pmsi_parts : Option Pmsi → List (List ℕ)
@@ -91,7 +91,7 @@ pmsi_parts None = [] ∷ [] ∷ [] ∷ []
 pmsi_parts (Some pmsi) = (1 ∷ flag_number pmsi.leaf_info ∷ label_part pmsi.label) ∷ tunnel_parts pmsi.tunnel
 
 abbrev pub value_parts : Value → List (List ℕ)
-value_parts value = addr_part value.next_hop ∷ (pmsi_parts value.pmsi ++ map (λ comm. comm.0) value.comms)
+value_parts value = addr_key value.next_hop ∷ (pmsi_parts value.pmsi ++ map (λ comm. comm.0) value.comms)
 
 -- whether both are one value
 abbrev pub same_value : Value → Value → Bool

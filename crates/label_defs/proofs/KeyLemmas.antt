@@ -8,13 +8,13 @@ use Rattle.std.proofs.lemmas.Cmp.{on_total}
 use Rattle.std.proofs.lemmas.Bool.{cases_Bool}
 use Rattle.std.proofs.lemmas.Bool.Decides.{nat_tests}
 use Rattle.mv_base.specs.declared.ids.NodeId.{NodeId}
-use Rattle.mv_base.specs.declared.addr.Addr.{Addr}
-use Rattle.mv_base.specs.declared.addr.Addr.TheVariants.{V4, V6}
+use Rattle.mv_base.specs.Address.{addr_front}
+use Rattle.mv_base.proofs.AddressLemmas.{addr_fronts}
 use Rattle.mldp_fec.specs.declared.fec.FecKind.{FecKind}
 use Rattle.mldp_fec.specs.declared.fec.FecKind.TheVariants.{P2mp, Up, Down}
 use Rattle.mldp_fec.specs.declared.fec.Fec.{Fec}
 use Rattle.label_defs.specs.declared.branch.Branch.{Branch}
-use Rattle.label_defs.specs.Keys.{kind_key, root_key, fec_key, fec_cmp, branch_key, branch_cmp, node_cmp}
+use Rattle.label_defs.specs.Keys.{kind_key, fec_key, fec_cmp, branch_key, branch_cmp, node_cmp}
 use Rattle.label_defs.specs.LabelData.{same_fec}
 
 pub fec_cmp_total : IsTotalOrder fec_cmp
@@ -25,32 +25,6 @@ branch_cmp_total = on_total branch_key nat_list_cmp_total
 
 pub node_cmp_total : IsTotalOrder node_cmp
 node_cmp_total = on_total (λ (node : NodeId). node.0) nat_cmp_total
-
--- Lists of one length in front of others.
-fronts : (xs ys us vs : List ℕ) → length xs ≡ length ys → xs ++ us ≡ ys ++ vs → (xs ≡ ys) × (us ≡ vs)
-fronts [] [] us vs h e = (refl, e)
-fronts [] (y ∷ ys) us vs h e = absurd (omega (arith, h))
-fronts (x ∷ xs) [] us vs h e = absurd (omega (arith, h))
-fronts (x ∷ xs) (y ∷ ys) us vs h e =
-    let head : x ≡ y = cc in
-    let behind : xs ++ us ≡ ys ++ vs = cc in
-    let rest = fronts xs ys us vs (omega (arith, h)) behind in
-    ((λ i. head i ∷ rest.0 i), rest.1)
-
--- Addresses with equal numbers in front of others.
-root_fronts : (a b : Addr) (us vs : List ℕ) → root_key a ++ us ≡ root_key b ++ vs → (a ≡ b) × (us ≡ vs)
-root_fronts (V4 xs) (V4 ys) us vs e =
-    let size : length xs ≡ length ys = cc in
-    let behind : xs ++ us ≡ ys ++ vs = cc in
-    let both = fronts xs ys us vs size behind in
-    (ap (λ (octets : List ℕ). V4 octets) both.0, both.1)
-root_fronts (V6 xs) (V6 ys) us vs e =
-    let size : length xs ≡ length ys = cc in
-    let behind : xs ++ us ≡ ys ++ vs = cc in
-    let both = fronts xs ys us vs size behind in
-    (ap (λ (octets : List ℕ). V6 octets) both.0, both.1)
-root_fronts (V4 xs) (V6 ys) us vs e = absurd cc
-root_fronts (V6 xs) (V4 ys) us vs e = absurd cc
 
 one_kind : (a b : FecKind) → kind_key a ≡ kind_key b → a ≡ b
 one_kind P2mp P2mp e = refl
@@ -66,9 +40,9 @@ one_kind Down Down e = refl
 one_fec : (a b : Fec) → fec_key a ≡ fec_key b → a ≡ b
 one_fec a b e =
     let number : kind_key a.kind ≡ kind_key b.kind = cc in
-    let behind : root_key a.root ++ a.opaque ≡ root_key b.root ++ b.opaque = cc in
+    let behind : addr_front a.root ++ a.opaque ≡ addr_front b.root ++ b.opaque = cc in
     let kind = one_kind a.kind b.kind number in
-    let both = root_fronts a.root b.root a.opaque b.opaque behind in
+    let both = addr_fronts a.root b.root a.opaque b.opaque behind in
     λ i. record { kind = kind i; root = both.0 i; opaque = both.1 i }
 
 one_branch : (a b : Branch) → branch_key a ≡ branch_key b → a ≡ b

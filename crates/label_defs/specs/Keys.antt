@@ -1,11 +1,10 @@
 -- The orders of trees, branches and nodes.
-use Rattle.std.specs.Prelude.{ℕ, List, ◌∷◌, ◌++◌, length}
+use Rattle.std.specs.Prelude.{ℕ, List, ◌∷◌, ◌++◌}
 use Rattle.std.specs.Ordering.{nat_cmp}
 use Rattle.std.specs.declared.cmp.Ordering.{Ordering}
 use Rattle.std.specs.Cmp.Lexicographic.{slice_cmp}
 use Rattle.mv_base.specs.declared.ids.NodeId.{NodeId}
-use Rattle.mv_base.specs.declared.addr.Addr.{Addr}
-use Rattle.mv_base.specs.declared.addr.Addr.TheVariants.{V4, V6}
+use Rattle.mv_base.specs.Address.{addr_front}
 use Rattle.mldp_fec.specs.declared.fec.FecKind.{FecKind}
 use Rattle.mldp_fec.specs.declared.fec.FecKind.TheVariants.{P2mp, Up, Down}
 use Rattle.mldp_fec.specs.declared.fec.Fec.{Fec}
@@ -16,13 +15,9 @@ kind_key P2mp = 0
 kind_key Up = 1
 kind_key Down = 2
 
-abbrev pub root_key : Addr → List ℕ
-root_key (V4 octets) = 4 ∷ length octets ∷ octets
-root_key (V6 octets) = 6 ∷ length octets ∷ octets
-
 -- the numbers by which trees are told apart, and ordered: by root address, and then by the octets of the opaque value
 abbrev pub fec_key : Fec → List ℕ
-fec_key fec = kind_key fec.kind ∷ (root_key fec.root ++ fec.opaque)
+fec_key fec = kind_key fec.kind ∷ (addr_front fec.root ++ fec.opaque)
 
 abbrev pub fec_cmp : Fec → Fec → Ordering
 fec_cmp a b = slice_cmp nat_cmp (fec_key a) (fec_key b)

@@ -1,5 +1,5 @@
 -- The label part of a node as plain data, and what is read from it.
-use Rattle.std.specs.Prelude.{ℕ, ◌+◌, ◌-◌, ◌||◌, ◌&&◌, Bool, true, false, not, nat_le, nat_lt, if◌then◌else◌}
+use Rattle.std.specs.Prelude.{◌≡◌, ◌⊎◌, ℕ, ◌+◌, ◌-◌, ◌||◌, ◌&&◌, Bool, true, false, not, nat_le, nat_lt, if◌then◌else◌}
 use Rattle.std.specs.Prelude.{List, [], ◌∷◌, ◌++◌, map, replicate, slice_get, position, count_by, Option, None, Some, option_map, is_some}
 use Rattle.std.specs.List.{filter, list_any}
 use Rattle.std.specs.Ordering.{eq_by_cmp}
@@ -49,6 +49,10 @@ same_fec a b = eq_by_cmp fec_cmp a b
 -- what the label is used for, where the node has it
 abbrev pub use_of : LabelData → ℕ → Option LabelUse
 use_of part label = if nat_lt label first_label then None else slice_get part.labels (label - first_label)
+
+-- the label is mapped to the tree towards that neighbour, or is leaving
+abbrev pub IsUsedTowards : Fec → NodeId → Option LabelUse → Type 0
+IsUsedTowards fec upstream usage = (usage ≡ Some (uses.Mapped fec upstream)) ⊎ (usage ≡ Some (uses.Leaving fec upstream))
 
 -- whether the use is free
 abbrev pub is_free : LabelUse → Bool

@@ -29,7 +29,8 @@ use Rattle.label_forwarding.specs.Hops.{hop_cmp, is_hop}
 use Rattle.label_forwarding.specs.FibData.{FibData, branch_in, with_leaf, is_on, AreHops, IsEntry}
 use Rattle.label_forwarding.specs.Slots.{is_fec, kept, Pairs, Slots, fib_of, leaves_in, noted, mapped_of, IsFib}
 use Rattle.label_forwarding.proofs.HopLemmas.{hop_cmp_total, hop-ties}
-use Rattle.label_forwarding.proofs.SlotLemmas.{fec_equal, fec_itself, fec-ties, fec_flips, hop_of, leaf_of, has_hop, leaf_seen, branch_seen, kept_leaf, kept_hop, kept_count}
+use Rattle.label_forwarding.proofs.SlotLemmas.{fec-ties, fec_flips, hop_of, leaf_of, has_hop, leaf_seen, branch_seen, kept_leaf, kept_hop, kept_count}
+use Rattle.mldp_fec.proofs.SameLemmas.{fec_equal, fec_itself}
 
 -- ---- order
 

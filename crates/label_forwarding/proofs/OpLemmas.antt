@@ -16,7 +16,8 @@ use Rattle.label_forwarding.specs.Slots.{is_fec, fresh, kept, Pairs, Slots, fib_
 use Rattle.label_defs.proofs.KeyLemmas.{branch_cmp_total, branch_cmp_exact}
 use Rattle.label_defs.proofs.SetLemmas.{removed_again}
 use Rattle.label_forwarding.proofs.HopLemmas.{hop_cmp_exact, hop-ties}
-use Rattle.label_forwarding.proofs.SlotLemmas.{fec_itself, leaf_of, has_hop, branch_seen, had_leaf, had_hop, had_count}
+use Rattle.label_forwarding.proofs.SlotLemmas.{leaf_of, has_hop, branch_seen, had_leaf, had_hop, had_count}
+use Rattle.mldp_fec.proofs.SameLemmas.{fec_itself}
 use Rattle.label_forwarding.proofs.FibLemmas.{Changed, changed_by, leaves_stay, leaves_change}
 use Rattle.label_forwarding.proofs.StepLemmas.{branches_stay, branches_add, branches_cut, pairs_put, pairs_cut, fib_kept, same_counts, more_counts, less_counts, roomier}
 

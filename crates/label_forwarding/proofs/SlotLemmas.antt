@@ -12,10 +12,8 @@ use Rattle.std.proofs.lemmas.Map.Keys.{IsDistinct-head, IsDistinct-tail}
 use Rattle.std.proofs.lemmas.List.Folds.{list_any-append}
 use Rattle.std.proofs.lemmas.Bool.Decides.{eqb_tells}
 use Rattle.mv_base.specs.Address.{same_addr_equal, same_addr_equiv}
-use Rattle.mldp_fec.specs.declared.fec.FecKind.{FecKind}
-use Rattle.mldp_fec.specs.declared.fec.FecKind.TheVariants.{P2mp, Up, Down}
-use Rattle.mldp_fec.specs.contracts.fec.FecKindPartialEq.TheImpl as kinds_equal
 use Rattle.mldp_fec.specs.declared.fec.Fec.{Fec}
+use Rattle.mldp_fec.proofs.SameLemmas.{fec_equal, fec_itself}
 use Rattle.label_defs.specs.declared.branch.Branch.{Branch as TreeBranch}
 use Rattle.label_defs.specs.Keys.{fec_cmp, branch_cmp}
 use Rattle.label_defs.proofs.KeyLemmas.{fec_cmp_total, fec_cmp_exact, branch_cmp_total, branch_cmp_exact}
@@ -35,32 +33,6 @@ and_first false b h = absurd cc
 and_second : (a b : Bool) → (a && b) ≡ true → b ≡ true
 and_second true b h = h
 and_second false b h = absurd cc
-
-kind_equal : (a b : FecKind) → kinds_equal.ghosts.eq a b ≡ true → a ≡ b
-kind_equal P2mp P2mp e = refl
-kind_equal Up Up e = refl
-kind_equal Down Down e = refl
-kind_equal P2mp Up e = absurd cc
-kind_equal P2mp Down e = absurd cc
-kind_equal Up P2mp e = absurd cc
-kind_equal Up Down e = absurd cc
-kind_equal Down P2mp e = absurd cc
-kind_equal Down Up e = absurd cc
-
-kind_itself : (a : FecKind) → kinds_equal.ghosts.eq a a ≡ true
-kind_itself P2mp = refl
-kind_itself Up = refl
-kind_itself Down = refl
-
-pub fec_equal : (a b : Fec) → is_fec a b ≡ true → a ≡ b
-fec_equal a b h =
-    let kind = kind_equal a.kind b.kind (and_first _ _ h) in
-    let root = same_addr_equal a.root b.root (and_first _ _ (and_second _ _ h)) in
-    let opaque = same_text a.opaque b.opaque (sym (and_second _ _ (and_second _ _ h))) in
-    λ i. record { kind = kind i; root = root i; opaque = opaque i }
-
-pub fec_itself : (a : Fec) → is_fec a a ≡ true
-fec_itself a = rw (kind_itself a.kind, same_addr_equiv.refl a.root) (nat_list_eq_equiv.refl a.opaque)
 
 pub fec-ties : (a b : Fec) → is_fec a b ≡ eq_by_cmp fec_cmp a b
 fec-ties a b = both_ways (is_fec a b) (eq_by_cmp fec_cmp a b)

@@ -18,7 +18,8 @@ use Rattle.label_forwarding.specs.Hops.{hop_cmp, Hops, is_hop}
 use Rattle.label_forwarding.specs.FibData.{branch_in}
 use Rattle.label_forwarding.specs.Slots.{is_fec, is_idle, kept, Pairs, Slots, fib_of, leaves_in, branches_in, noted, mapped_of, IsFib}
 use Rattle.label_forwarding.proofs.HopLemmas.{hop_cmp_total, hop_cmp_exact, hop-ties}
-use Rattle.label_forwarding.proofs.SlotLemmas.{fec_equal, fec_flips, has_hop, hop_of, branch_seen, branch-ties}
+use Rattle.label_forwarding.proofs.SlotLemmas.{fec_flips, has_hop, hop_of, branch_seen, branch-ties}
+use Rattle.mldp_fec.proofs.SameLemmas.{fec_equal}
 use Rattle.label_forwarding.proofs.FibLemmas.{Changed, hop_then, count_then, find-lookup}
 
 -- ---- the branches

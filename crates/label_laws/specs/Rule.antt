@@ -13,6 +13,7 @@ use Rattle.label_defs.specs.declared.end.End.{End}
 use Rattle.label_defs.specs.declared.label_use.LabelUse.{LabelUse}
 use Rattle.label_defs.specs.declared.label_use.LabelUse.TheVariants as uses
 use Rattle.label_defs.specs.LabelData.{LabelData, same_fec, use_of}
+pub use Rattle.label_defs.specs.LabelData.{IsUsedTowards}
 use Rattle.label_defs.specs.Steps.{branch_to}
 use Rattle.label_defs.specs.Settled.{AllSettled}
 use Rattle.label_laws.specs.Network.{PacketCopy, LabelNetwork, place_of}
@@ -29,10 +30,6 @@ is_of_owner label other = false
 abbrev pub is_release_of : ℕ → LabelMessage → Bool
 is_release_of label (messages.Release fec own) = own == label
 is_release_of label other = false
-
--- the label is mapped to the tree towards that neighbour, or is leaving
-abbrev pub IsUsedTowards : Fec → NodeId → Option LabelUse → Type 0
-IsUsedTowards fec u usage = (usage ≡ Some (uses.Mapped fec u)) ⊎ (usage ≡ Some (uses.Leaving fec u))
 
 -- the label is used for nothing towards that neighbour
 abbrev pub IsOther : NodeId → Option LabelUse → Type 0

@@ -32,7 +32,8 @@ use Rattle.tunnel_bindings.specs.Labels as labels
 use Rattle.tunnel_bindings.specs.States.{label_of, label_in}
 use Rattle.label_uses.specs.declared.held.Held.{Held}
 use Rattle.label_uses.specs.declared.table.Waiting.{Waiting}
-use Rattle.label_forwarding.proofs.SlotLemmas.{fec_equal, fec_itself, fec-ties, fec_flips}
+use Rattle.label_forwarding.proofs.SlotLemmas.{fec-ties, fec_flips}
+use Rattle.mldp_fec.proofs.SameLemmas.{fec_equal, fec_itself}
 use Rattle.label_uses.specs.Uses.{Uses, use_in, mapped_in, binding_for, awaiting, IsOfLabel, IsOfTree, AreBindings}
 use Rattle.label_uses.specs.Held.{is_fec, is_node, use_held, use_by, uses_from, binding_of, waiting_binding, towards, IsNamed, IsAwaited, HoldsOwned}
 use Rattle.label_uses.proofs.HoldLemmas.{same_own, not_waiting, tree_of}

@@ -13,7 +13,7 @@ use Rattle.tunnel_bindings.specs.Bindings.{name_cmp}
 use Rattle.tunnel_bindings.specs.Labels.{Space, state_of, set_label}
 use Rattle.tunnel_bindings.proofs.LabelLemmas.{set-label, set-others}
 use Rattle.tunnel_bindings.proofs.PlaceLemmas.{name_cmp_total, name_cmp_exact, tied, untied}
-use Rattle.label_forwarding.proofs.SlotLemmas.{fec_equal, fec_itself}
+use Rattle.mldp_fec.proofs.SameLemmas.{fec_equal, fec_itself}
 use Rattle.label_uses.specs.declared.held.Held.{Held}
 use Rattle.label_uses.specs.Held.{is_fec}
 

@@ -4,3 +4,4 @@ pub mod RootLemmas
 pub mod OpaqueLemmas
 pub mod FecLemmas
 pub mod CallLemmas
+pub mod SameLemmas

@@ -4,3 +4,4 @@ pub mod DottedLemmas
 pub mod AddrTextLemmas
 pub mod Fields
 pub mod SortedMaps
+pub mod AddressLemmas

@@ -1,5 +1,5 @@
 -- Addresses: when two are one, their octets, and how many they are.
-use Rattle.std.specs.Prelude.{◌≡◌, ℕ, Bool, true, false, nat_eq, List, length, refl}
+use Rattle.std.specs.Prelude.{◌≡◌, ℕ, Bool, true, false, nat_eq, List, ◌∷◌, length, refl}
 use Rattle.std.specs.Hash as fed
 use Rattle.std.specs.Cmp.{IsEquivalence}
 use Rattle.std.specs.Cmp.Lexicographic.{pointwise, same_text, nat_list_eq_equiv}
@@ -18,6 +18,16 @@ same_addr (V6 a) (V4 b) = false
 abbrev pub addr_octets : Addr → List ℕ
 addr_octets (V4 octets) = octets
 addr_octets (V6 octets) = octets
+
+-- the numbers by which addresses are ordered: those of IPv4 are lower than those of IPv6, and within a family the octets tell
+abbrev pub addr_key : Addr → List ℕ
+addr_key (V4 octets) = 4 ∷ octets
+addr_key (V6 octets) = 6 ∷ octets
+
+-- the same with the number of octets, where other numbers stand behind
+abbrev pub addr_front : Addr → List ℕ
+addr_front (V4 octets) = 4 ∷ length octets ∷ octets
+addr_front (V6 octets) = 6 ∷ length octets ∷ octets
 
 -- an address has the octets of its family
 abbrev pub IsAddr : Addr → Type 0

@@ -10,61 +10,35 @@ use Rattle.std.proofs.lemmas.Bool.{and_parts}
 use Rattle.std.proofs.lemmas.Bool.Decides.{nat_tests}
 use Rattle.std.proofs.lemmas.List.{append-nil}
 use Rattle.mv_base.specs.declared.addr.Addr.{Addr}
-use Rattle.mv_base.specs.declared.addr.Addr.TheVariants.{V4, V6}
-use Rattle.mv_base.specs.Address.{same_addr, same_addr_equiv, same_addr_equal}
+use Rattle.mv_base.specs.Address.{addr_front, same_addr, same_addr_equiv, same_addr_equal}
+use Rattle.mv_base.proofs.AddressLemmas.{addr_fronts}
 use Rattle.scenario_defs.specs.declared.event.JoinEntry.{JoinEntry}
 use Rattle.scenario_defs.specs.declared.event.JoinEntry.TheVariants.{Star, Source, Rpt}
 use Rattle.scenario_defs.specs.declared.event.IfaceEntry.{IfaceEntry}
 use Rattle.pim_defs.specs.Mention.{same_entry}
-use Rattle.pim_defs.specs.Entries.{addr_key, entry_key, iface_entry_key, entry_cmp}
+use Rattle.pim_defs.specs.Entries.{entry_key, iface_entry_key, entry_cmp}
 
 pub entry_cmp_total : IsTotalOrder entry_cmp
 entry_cmp_total = on_total iface_entry_key nat_list_cmp_total
 
--- Lists of one length in front of others.
-fronts : (xs ys us vs : List ℕ) → length xs ≡ length ys → xs ++ us ≡ ys ++ vs → (xs ≡ ys) × (us ≡ vs)
-fronts [] [] us vs h e = (refl, e)
-fronts [] (y ∷ ys) us vs h e = absurd (omega (arith, h))
-fronts (x ∷ xs) [] us vs h e = absurd (omega (arith, h))
-fronts (x ∷ xs) (y ∷ ys) us vs h e =
-    let head : x ≡ y = cc in
-    let behind : xs ++ us ≡ ys ++ vs = cc in
-    let rest = fronts xs ys us vs (omega (arith, h)) behind in
-    ((λ i. head i ∷ rest.0 i), rest.1)
+one_addr : (a b : Addr) → addr_front a ≡ addr_front b → a ≡ b
+one_addr a b e = (addr_fronts a b [] [] (append-nil (addr_front a) ∙ e ∙ sym (append-nil (addr_front b)))).0
 
--- Addresses with equal numbers in front of others.
-addr_fronts : (a b : Addr) (us vs : List ℕ) → addr_key a ++ us ≡ addr_key b ++ vs → (a ≡ b) × (us ≡ vs)
-addr_fronts (V4 xs) (V4 ys) us vs e =
-    let size : length xs ≡ length ys = cc in
-    let behind : xs ++ us ≡ ys ++ vs = cc in
-    let both = fronts xs ys us vs size behind in
-    (ap (λ (octets : List ℕ). V4 octets) both.0, both.1)
-addr_fronts (V6 xs) (V6 ys) us vs e =
-    let size : length xs ≡ length ys = cc in
-    let behind : xs ++ us ≡ ys ++ vs = cc in
-    let both = fronts xs ys us vs size behind in
-    (ap (λ (octets : List ℕ). V6 octets) both.0, both.1)
-addr_fronts (V4 xs) (V6 ys) us vs e = absurd cc
-addr_fronts (V6 xs) (V4 ys) us vs e = absurd cc
-
-one_addr : (a b : Addr) → addr_key a ≡ addr_key b → a ≡ b
-one_addr a b e = (addr_fronts a b [] [] (append-nil (addr_key a) ∙ e ∙ sym (append-nil (addr_key b)))).0
-
-two_addrs : (a b c d : Addr) → addr_key a ++ addr_key c ≡ addr_key b ++ addr_key d → (a ≡ b) × (c ≡ d)
+two_addrs : (a b c d : Addr) → addr_front a ++ addr_front c ≡ addr_front b ++ addr_front d → (a ≡ b) × (c ≡ d)
 two_addrs a b c d e =
-    let both = addr_fronts a b (addr_key c) (addr_key d) e in
+    let both = addr_fronts a b (addr_front c) (addr_front d) e in
     (both.0, one_addr c d both.1)
 
 one_entry : (a b : JoinEntry) → entry_key a ≡ entry_key b → a ≡ b
 one_entry (Star g) (Star h) e =
-    let behind : addr_key g ≡ addr_key h = cc in
+    let behind : addr_front g ≡ addr_front h = cc in
     ap (λ (x : Addr). Star x) (one_addr g h behind)
 one_entry (Source s g) (Source t h) e =
-    let behind : addr_key s ++ addr_key g ≡ addr_key t ++ addr_key h = cc in
+    let behind : addr_front s ++ addr_front g ≡ addr_front t ++ addr_front h = cc in
     let both = two_addrs s t g h behind in
     λ i. Source (both.0 i) (both.1 i)
 one_entry (Rpt s g) (Rpt t h) e =
-    let behind : addr_key s ++ addr_key g ≡ addr_key t ++ addr_key h = cc in
+    let behind : addr_front s ++ addr_front g ≡ addr_front t ++ addr_front h = cc in
     let both = two_addrs s t g h behind in
     λ i. Rpt (both.0 i) (both.1 i)
 one_entry (Star g) (Source t h) e = absurd cc

@@ -1,5 +1,5 @@
 -- The entries of an edge, each with its expiry, and what messages and timers make of them.
-use Rattle.std.specs.Prelude.{ℕ, ◌==◌, nat_lt, not, Bool, List, [], ◌∷◌, ◌++◌, length, map, Option, None, Some, if◌then◌else◌}
+use Rattle.std.specs.Prelude.{ℕ, ◌==◌, nat_lt, not, Bool, List, [], ◌∷◌, ◌++◌, map, Option, None, Some, if◌then◌else◌}
 use Rattle.std.specs.List.{flat_map, count_by}
 use Rattle.std.specs.Ordering.{nat_cmp}
 use Rattle.std.specs.declared.cmp.Ordering.{Ordering}
@@ -7,7 +7,7 @@ use Rattle.std.specs.Cmp.Lexicographic.{slice_cmp}
 use Rattle.std.specs.FinMap.{FinMap, get, keys, values, len, from_entries, retain_keys}
 use Rattle.mv_base.specs.declared.ids.IfaceId.{IfaceId}
 use Rattle.mv_base.specs.declared.addr.Addr.{Addr}
-use Rattle.mv_base.specs.declared.addr.Addr.TheVariants.{V4, V6}
+use Rattle.mv_base.specs.Address.{addr_front}
 use Rattle.scenario_defs.specs.declared.event.JoinEntry.{JoinEntry}
 use Rattle.scenario_defs.specs.declared.event.JoinEntry.TheVariants.{Star, Source, Rpt}
 use Rattle.pim_joinprune.specs.declared.message.JoinPrune.{JoinPrune}
@@ -20,14 +20,10 @@ use Rattle.pim_defs.specs.Asking.{asks_by}
 -- ---- a finite map from entries to expiries
 
 -- the numbers by which entries are told apart, and ordered
-abbrev pub addr_key : Addr → List ℕ
-addr_key (V4 octets) = 4 ∷ length octets ∷ octets
-addr_key (V6 octets) = 6 ∷ length octets ∷ octets
-
 abbrev pub entry_key : JoinEntry → List ℕ
-entry_key (Star group) = 0 ∷ addr_key group
-entry_key (Source source group) = 1 ∷ addr_key source ++ addr_key group
-entry_key (Rpt source group) = 2 ∷ addr_key source ++ addr_key group
+entry_key (Star group) = 0 ∷ addr_front group
+entry_key (Source source group) = 1 ∷ addr_front source ++ addr_front group
+entry_key (Rpt source group) = 2 ∷ addr_front source ++ addr_front group
 
 abbrev pub iface_entry_key : IfaceEntry → List ℕ
 iface_entry_key at = at.iface.0 ∷ entry_key at.entry

@@ -3,7 +3,7 @@ ghost use Rattle.std.specs.Prelude.{◌≡◌, refl};
 ghost use Rattle.std.specs.Ordering.{eq_by_cmp, as_partial_cmp, nat_cmp};
 ghost use Rattle.std.specs.Cmp.Lexicographic.{slice_cmp};
 ghost use Rattle.std.specs.Cmp.{partial_equiv_from_equiv, eq_by_cmp_equiv, partial_order_from_total};
-ghost use Rattle.selective_defs.specs.Parts.{addr_part, word_part};
+ghost use Rattle.selective_defs.specs.Parts.{addr_key, word_part};
 ghost use Rattle.selective.specs.Order.{place_part, route_cmp, route_total};
 
 use mldp_fec::Fec;
@@ -40,7 +40,7 @@ pub struct Learned {
 
 /// The order of addresses: those of IPv4 first, and then by their octets.
 fn compare_addrs(one: Addr, other: Addr) -> Ordering
-    ensures { result ≡ slice_cmp nat_cmp (addr_part one) (addr_part other) }
+    ensures { result ≡ slice_cmp nat_cmp (addr_key one) (addr_key other) }
 {
     match (one, other) {
         (Addr::V4(own), Addr::V4(others)) => own.as_slice().cmp(others.as_slice()),

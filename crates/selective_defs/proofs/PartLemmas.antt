@@ -2,7 +2,7 @@
 use Rattle.std.proofs.Common.{◌≡◌, ℕ, ◌==◌, cond, List, [], ◌∷◌, Option, Some, None, refl, sym, ap, ◌∙◌}
 use Rattle.mv_base.specs.declared.addr.Addr.{Addr}
 use Rattle.mv_base.specs.declared.addr.Addr.TheVariants.{V4, V6}
-use Rattle.selective_defs.specs.Parts.{addr_part, word_part}
+use Rattle.selective_defs.specs.Parts.{addr_key, word_part}
 
 abbrev pub first : List ℕ → ℕ
 first [] = 0
@@ -15,11 +15,11 @@ behind (number ∷ rest) = rest
 abbrev pub addr_back : List ℕ → Addr
 addr_back part = cond (first part == 4) (V4 (behind part)) (V6 (behind part))
 
-pub addr_again : (addr : Addr) → addr_back (addr_part addr) ≡ addr
+pub addr_again : (addr : Addr) → addr_back (addr_key addr) ≡ addr
 addr_again (V4 octets) = refl
 addr_again (V6 octets) = refl
 
-pub one_addr : (a b : Addr) → addr_part a ≡ addr_part b → a ≡ b
+pub one_addr : (a b : Addr) → addr_key a ≡ addr_key b → a ≡ b
 one_addr a b e = sym (addr_again a) ∙ ap addr_back e ∙ addr_again b
 
 abbrev pub word_back : List ℕ → Option Addr

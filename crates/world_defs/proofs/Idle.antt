@@ -27,7 +27,7 @@ use Rattle.label_defs.specs.Steps.{label_step, raised_end, holds_run, woken, fre
 use Rattle.label_defs.specs.Members.{in_order}
 use Rattle.label_defs.proofs.KeyLemmas.{fec_cmp_total, fec_cmp_exact, branch_cmp_total, branch_cmp_exact}
 use Rattle.label_defs.proofs.MemberLemmas.{none_in_order}
-use Rattle.edge_defs.specs.Keys.{addr_part, same_value}
+use Rattle.edge_defs.specs.Keys.{addr_key, same_value}
 use Rattle.table_defs.specs.Changes.{changes}
 use Rattle.edge_defs.specs.Edge.{Note, note_cmp, Upstream, VrfFlow, Taken, Selected, VrfPattern, no_control, flow_cmp, pattern_cmp}
 use Rattle.edge_defs.specs.Flows.{flows_at, vrf_flows, is_flow, with_upstream, joined_by, active_from, noted_flow}
@@ -47,7 +47,7 @@ use Rattle.world_defs.proofs.Nothing.{flat_none, no_entries, empty_by, no_union,
 -- ---- an edge that keeps nothing
 
 note_cmp_total : IsTotalOrder note_cmp
-note_cmp_total = on_total (λ (note : Note). (note.iface.0 ∷ []) ∷ addr_part note.source ∷ addr_part note.group ∷ []) (lists_total nat_list_cmp_total)
+note_cmp_total = on_total (λ (note : Note). (note.iface.0 ∷ []) ∷ addr_key note.source ∷ addr_key note.group ∷ []) (lists_total nat_list_cmp_total)
 
 entry_cmp_total : IsTotalOrder entry_cmp
 entry_cmp_total = on_total iface_entry_key nat_list_cmp_total

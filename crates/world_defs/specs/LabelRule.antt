@@ -16,7 +16,7 @@ use Rattle.scenario_defs.specs.Vpn.{same_vpn, vrf_of_site}
 use Rattle.scenario_defs.specs.declared.event.Kind.TheVariants as kinds
 use Rattle.scenario_defs.specs.declared.scenario.Scenario.{Scenario}
 use Rattle.scenario_defs.specs.declared.scenario.Vrf.{Vrf}
-use Rattle.label_defs.specs.LabelData.{LabelData, use_of}
+use Rattle.label_defs.specs.LabelData.{LabelData, use_of, IsUsedTowards}
 use Rattle.label_defs.specs.Steps.{branch_to}
 use Rattle.label_defs.specs.declared.end.End.{End}
 use Rattle.label_defs.specs.declared.label_use.LabelUse.{LabelUse}
@@ -71,10 +71,6 @@ pub data CopyCase (world : World) (u n : NodeId) (copy : LinkCopy) : Type 0 wher
 
 -- ---- branches
 
--- the label is mapped to the tree towards that neighbour, or is leaving
-abbrev pub Holds : Fec → NodeId → Option LabelUse → Type 0
-Holds fec u usage = (usage ≡ Some (uses.Mapped fec u)) ⊎ (usage ≡ Some (uses.Leaving fec u))
-
 -- the withdraw of the label is among what u's stream holds back from n, followed by what is in transit there
 pub record IsWithdrawnTo (world : World) (u n : NodeId) (fec : Fec) (label : ℕ) : Type 0 where
   pub all : List LabelMessage
@@ -103,4 +99,4 @@ pub record LabelRule (world : World) : Type 0 where
       ⊎ ((use_of (part_at world n) label ≡ Some (uses.Leaving fec u)) × IsWithdrawnTo world u n fec label)
   pub unjoined : (u n : NodeId) (fec : Fec) (label : ℕ) → u ≢ n → world.network.joined (direction kinds.Ldp u n) ≡ false
       → HasBranch world u n fec label
-      → (end_at world n u ≡ None) ⊎ Holds fec u (use_of (part_at world n) label)
+      → (end_at world n u ≡ None) ⊎ IsUsedTowards fec u (use_of (part_at world n) label)

@@ -52,7 +52,10 @@ expiry_then entries iface message clock at =
 
 -- the entries of the interface that the message names
 abbrev pub named_in : IfaceId → JoinPrune → List IfaceEntry
-named_in iface message = flat_map (λ group. map (λ source. record { iface = iface; entry = entry_of group.group source }) (group.joins ++ group.prunes)) message.groups
+named_in iface message =
+    flat_map
+    (λ group. map (λ source. record { iface = iface; entry = entry_of group.group source }) (group.joins ++ group.prunes))
+    message.groups
 
 -- of these entries each that has an expiry, with it
 abbrev pub with_expiries : (IfaceEntry → Option Expiry) → List IfaceEntry → List (IfaceEntry × Expiry)
@@ -89,4 +92,7 @@ due entries clock = count_by (λ expiry. not (is_after expiry clock)) (values en
 -- whether the interface asks for (S,G) at the clock, where S is known to send to G or not
 abbrev pub asks : Entries → IfaceId → Addr → Addr → Bool → ℕ → Bool
 asks entries iface source group active clock =
-    asks_by clock active (expiry_at entries iface (Source source group)) (expiry_at entries iface (Star group)) (expiry_at entries iface (Rpt source group))
+    asks_by clock active
+    (expiry_at entries iface (Source source group))
+    (expiry_at entries iface (Star group))
+    (expiry_at entries iface (Rpt source group))

@@ -5,6 +5,7 @@ use Rattle.mv_base.specs.declared.addr.Addr.{Addr}
 use Rattle.mv_base.specs.Address.{same_addr}
 use Rattle.scenario_defs.specs.declared.event.JoinEntry.{JoinEntry}
 use Rattle.scenario_defs.specs.declared.event.JoinEntry.TheVariants.{Star, Source, Rpt}
+use Rattle.scenario_defs.specs.Rules.{group_of}
 use Rattle.pim_joinprune.specs.declared.source.SourceKind.{SourceKind}
 use Rattle.pim_joinprune.specs.declared.source.SourceKind.TheVariants as kinds
 use Rattle.pim_joinprune.specs.declared.source.JpSource.{JpSource}
@@ -29,12 +30,6 @@ entry_by kinds.Rpt group addr = Rpt addr group
 -- the entry that a source of a group names
 abbrev pub entry_of : Addr → JpSource → JoinEntry
 entry_of group source = entry_by source.kind group source.addr
-
--- the group of an entry
-abbrev pub group_of : JoinEntry → Addr
-group_of (Star group) = group
-group_of (Source source group) = group
-group_of (Rpt source group) = group
 
 -- whether one of the sources of the group is the entry
 abbrev pub lists : Addr → List JpSource → JoinEntry → Bool

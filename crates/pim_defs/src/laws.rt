@@ -10,6 +10,7 @@ ghost use Rattle.pim_defs.specs.Entries.{Entries, applied, expiry_then, kept_at}
 /// Behind a message each entry has the expiry that the message leaves it; behind a run of the timers the entries that
 /// have ended are gone.
 pub fn each_entry()
-    ensures message { (entries : Entries) (iface : IfaceId) (message : JoinPrune) (clock : ℕ) (at : IfaceEntry) → get (applied entries iface message clock) at ≡ expiry_then entries iface message clock at }
+    ensures message { (entries : Entries) (iface : IfaceId) (message : JoinPrune) (clock : ℕ) (at : IfaceEntry) →
+        get (applied entries iface message clock) at ≡ expiry_then entries iface message clock at }
     ensures timers { (entries : Entries) (clock : ℕ) (at : IfaceEntry) → get (kept_at entries clock) at ≡ remaining clock (get entries at) }
 {}

@@ -1,6 +1,7 @@
 //! Messages of one entry.
 ghost use Rattle.std.specs.Prelude.{◌≡◌, IfOk};
-ghost use Rattle.scenario_defs.specs.Rules.{IsIpv4, IsEntry};
+ghost use Rattle.mv_base.specs.Address.{IsAddr};
+ghost use Rattle.scenario_defs.specs.Rules.{IsEntry, AreOfOneFamily, group_of};
 ghost use Rattle.pim_joinprune.specs.Spelling.{IsJoinPrune};
 ghost use Rattle.pim_defs.specs.Single.{source_of, one_source, message_with, join_of, prune_of};
 
@@ -64,19 +65,21 @@ fn message_with(
     })
 }
 
-/// The message that joins the entry, for that neighbour upstream.
+/// The message that joins the entry, for that neighbour upstream. Both are of one family.
+#[tactic(auto, using(crate::proofs::SingleLemmas::join_spelled))]
 pub fn join_of(alloc: Global, neighbour: Addr, entry: &JoinEntry) -> Result<JoinPrune, NoMemory>
     ensures value { IfOk result (λ message. message ≡ join_of neighbour entry.now) }
-    ensures spelled { IsIpv4 neighbour → IsEntry entry.now → IfOk result IsJoinPrune }
+    ensures spelled { IsAddr neighbour → IsEntry entry.now → AreOfOneFamily neighbour (group_of entry.now) → IfOk result IsJoinPrune }
 {
     let joins = one_source(alloc, neighbour, entry)?;
     message_with(alloc, neighbour, group_of(entry), joins, Seq::new(alloc))
 }
 
-/// The message that prunes the entry, for that neighbour upstream.
+/// The message that prunes the entry, for that neighbour upstream. Both are of one family.
+#[tactic(auto, using(crate::proofs::SingleLemmas::prune_spelled))]
 pub fn prune_of(alloc: Global, neighbour: Addr, entry: &JoinEntry) -> Result<JoinPrune, NoMemory>
     ensures value { IfOk result (λ message. message ≡ prune_of neighbour entry.now) }
-    ensures spelled { IsIpv4 neighbour → IsEntry entry.now → IfOk result IsJoinPrune }
+    ensures spelled { IsAddr neighbour → IsEntry entry.now → AreOfOneFamily neighbour (group_of entry.now) → IfOk result IsJoinPrune }
 {
     let prunes = one_source(alloc, neighbour, entry)?;
     message_with(alloc, neighbour, group_of(entry), Seq::new(alloc), prunes)

@@ -15,7 +15,7 @@ use Rattle.net_world.specs.WorldState.{WorldState}
 abbrev network_code : Coded Network
 network_code = code_by (Scenario × (ℕ × (ℕ × (List Entries × List Session))))
     (coded× scenarios.the_row.coded (coded× coded_ℕ (coded× coded_ℕ
-      (coded× (coded_list entries_code) (coded_list sessions.the_row.coded)))))
+    (coded× (coded_list entries_code) (coded_list sessions.the_row.coded)))))
     (λ n. (n.scenario, (n.clock, (n.accepted, (n.entries, n.sessions)))))
     (λ p. record { scenario = p.0; clock = p.1.0; accepted = p.1.1.0; entries = p.1.1.1.0; sessions = p.1.1.1.1 }) (λ _. refl)
 

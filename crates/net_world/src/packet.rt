@@ -28,12 +28,7 @@ fn four_header(
     Ok(octets)
 }
 
-fn four_packet(
-    alloc: Global,
-    source: Addr,
-    group: Addr,
-    payload: &[u8],
-) -> Result<Bytes, NoMemory>
+fn four_packet(alloc: Global, source: Addr, group: Addr, payload: &[u8]) -> Result<Bytes, NoMemory>
     requires { length payload.now + FOUR_HEADER_LEN < 2 ^ 16 }
     ensures { IfOk result (λ octets. octets ≡ four_written source group payload.now) }
 {
@@ -44,12 +39,7 @@ fn four_packet(
     Ok(octets)
 }
 
-fn six_packet(
-    alloc: Global,
-    source: Addr,
-    group: Addr,
-    payload: &[u8],
-) -> Result<Bytes, NoMemory>
+fn six_packet(alloc: Global, source: Addr, group: Addr, payload: &[u8]) -> Result<Bytes, NoMemory>
     requires { length payload.now < 2 ^ 16 }
     ensures { IfOk result (λ octets. octets ≡ six_written source group payload.now) }
 {

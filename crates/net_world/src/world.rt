@@ -52,8 +52,8 @@ impl Model for World {
     ghost coded = { world_code };
 
     ghost view = { λ w. record {
-        network = record { scenario = w.scenario; clock = w.clock; accepted = w.accepted; entries = w.downstreams; sessions = w.sessions };
-        halt = w.halt
+      network = record { scenario = w.scenario; clock = w.clock; accepted = w.accepted; entries = w.downstreams; sessions = w.sessions };
+      halt = w.halt;
     } };
 
     ghost invariant = { λ w. w.halt ≡ None → InStep
@@ -115,7 +115,7 @@ impl World {
     fn timers(&mut self, node: NodeId)
         requires running { self.old.halt ≡ None }
         ensures { self.new ≡ record self.old {
-            network = with_entries self.old.network node (kept_at (entries_of_node self.old.network node) self.old.network.clock)
+          network = with_entries self.old.network node (kept_at (entries_of_node self.old.network node) self.old.network.clock);
         } }
     {
         self.downstreams.timers(node, self.clock);

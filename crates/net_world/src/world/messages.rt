@@ -39,7 +39,7 @@ impl World {
         requires clock { self.old.network.clock < 2 ^ 63 }
         requires known { iface.0 < length self.old.network.scenario.ifaces }
         ensures taken { OnOk result (self.new ≡ record self.old {
-            network = with_message self.old.network (Some (record { iface = iface; message = message.now }))
+          network = with_message self.old.network (Some (record { iface = iface; message = message.now }));
         }) }
         ensures fits { OnOk result (
             are_too_many (applied (entries_at self.old.network iface) iface message.now self.old.network.clock) ≡ false) }

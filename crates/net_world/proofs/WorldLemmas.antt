@@ -1,6 +1,6 @@
 -- Laws of the VRFs at which a datagram goes on, and of the edges of interfaces.
 use Rattle.std.proofs.Common.{◌≡◌, ℕ, ◌+◌, ◌<◌, ◌≤◌, Bool, true, false, List, [], ◌∷◌, length, filter, cond, refl, sym, ap, subst, ◌∙◌, arith}
-use Rattle.std.specs.Prelude.{Option, None, Some, IfSome, Result, Ok, Err, OnOk, OnErr, slice_index_or}
+use Rattle.std.specs.Prelude.{None, Some, Result, Ok, Err, OnOk, OnErr, slice_index_or}
 use Rattle.std.proofs.lemmas.Option.{slice_get_within}
 use Rattle.mv_base.specs.declared.ids.IfaceId.{IfaceId}
 use Rattle.mv_base.specs.declared.ids.NodeId.{NodeId}
@@ -12,10 +12,7 @@ use Rattle.scenario_defs.specs.declared.scenario.Route.{Route}
 use Rattle.scenario_defs.specs.declared.scenario.Scenario.{Scenario}
 use Rattle.scenario_defs.specs.Vpn.{is_attached_at, edge_of, entered, entered_from}
 use Rattle.scenario_defs.specs.Home.{local_routes}
-use Rattle.mv_base.specs.Address.{IsAddr}
-use Rattle.scenario_defs.specs.declared.scenario.Iface.{Iface}
-use Rattle.scenario_defs.specs.Rules.{Rules, AreOfOneFamily, IsOfIface}
-use Rattle.mvpn_model.specs.Messages.{own_addr}
+use Rattle.scenario_defs.specs.Rules.{Rules}
 use Rattle.scenario_defs.proofs.RuleLemmas.{iface_rules_at, vrf_rules_at}
 use Rattle.mvpn_model.proofs.VpnLemmas.{element_at}
 use Rattle.net_defs.specs.Network.{is_chosen}
@@ -81,11 +78,3 @@ ok_then (Err e) p f = tt
 pub err_then : {T E : Type 0} {P Q : Type 0} (r : Result T E) → OnErr r P → (P → Q) → OnErr r Q
 err_then (Ok x) p f = tt
 err_then (Err e) p f = f p
-
--- The interface's own address is of the family of a group that is named there.
-pub own_fits : (scenario : Scenario) → Rules scenario → (iface : IfaceId) (group : Addr) → iface.0 < length scenario.ifaces → IsOfIface scenario iface group →
-    IsAddr (own_addr scenario iface) × AreOfOneFamily (own_addr scenario iface) group
-own_fits scenario rules iface group h named =
-    let own = element_at scenario.ifaces iface.0 h in
-    let one : AreOfOneFamily own.0.addr group = subst (λ (found : Option Iface). IfSome found (λ found. AreOfOneFamily found.addr group)) own.1 named in
-    (rw (own.1, own_addr) (iface_rules_at scenario rules iface.0 own.0 own.1).addr, rw (own.1, own_addr) one)

@@ -106,7 +106,7 @@ three_words_meets draft built row a b c =
     bind_meets _ (iface_at draft row a) _ (λ iface i. bind_meets _ (entry_at row b c) _ (λ entry e.
     let own = (entry_meets row b c).holds entry e in
     let facts : (iface.0 < length draft.scenario.ifaces) × IsEntry entry × IsOfIface draft.scenario iface (group_of entry) =
-        ((iface_meets draft row a).holds iface i, own.0, of_iface draft built iface (group_of entry) own.1) in
+    ((iface_meets draft row a).holds iface i, own.0, of_iface draft built iface (group_of entry) own.1) in
     ok_meets _ _ facts))
 
 four_words_meets : (draft : Drafted) → IsBuiltScenario draft.scenario → (row : Row) (a b c d : Placed) → Meets (IsNamed draft) (four_words draft row a b c d)
@@ -115,7 +115,7 @@ four_words_meets draft built row a b c d =
     bind_meets _ (iface_at draft row a) _ (λ iface i. bind_meets _ (rpt_entry row b c d) _ (λ entry e.
     let own = (rpt_entry_meets row b c d).holds entry e in
     let facts : (iface.0 < length draft.scenario.ifaces) × IsEntry entry × IsOfIface draft.scenario iface (group_of entry) =
-        ((iface_meets draft row a).holds iface i, own.0, of_iface draft built iface (group_of entry) own.1) in
+    ((iface_meets draft row a).holds iface i, own.0, of_iface draft built iface (group_of entry) own.1) in
     ok_meets _ _ facts))
 
 iface_entry_meets : (draft : Drafted) → IsBuiltScenario draft.scenario → (row : Row) (words : List Placed) → Meets (IsNamed draft) (iface_entry draft row words)
@@ -152,7 +152,7 @@ unfolding send_head
 send_head_meets draft row a b c =
     bind_meets _ (site_at draft row a) _ (λ site i. bind_meets _ (source_at row b) _ (λ source s. bind_meets _ (group_at row c) _ (λ group g.
     let facts : (site.0 < length draft.scenario.sites) × NamesFlow source group × IsIpv4 source =
-        ((site_meets draft row a).holds site i, names_flow row b c source group s g, ((source_meets row b).holds source s).0) in
+    ((site_meets draft row a).holds site i, names_flow row b c source group s g, ((source_meets row b).holds source s).0) in
     ok_meets _ _ facts)))
 
 send_words_meets : (draft : Drafted) (row : Row) (a b c d : Placed) → length d.text ≤ 4096 → Meets (IsTold draft) (send_words draft row a b c d)
@@ -161,7 +161,7 @@ send_words_meets draft row a b c d short =
     bind_meets _ (send_head draft row a b c) _ (λ head h. bind_meets _ (payload_at row d) _ (λ payload p.
     let facts = (send_head_meets draft row a b c).holds head h in
     let all : (head.site.0 < length draft.scenario.sites) × NamesFlow head.source head.group × (length payload ≤ 2048) =
-        (facts.0, facts.1, (payload_meets row d short).holds payload p) in
+    (facts.0, facts.1, (payload_meets row d short).holds payload p) in
     ok_meets _ _ (all, facts.2)))
 
 send_line_meets : (draft : Drafted) (row : Row) (words : List Placed) → AllByRecursion (λ w. length w.text ≤ 4096) words → Meets (IsTold draft) (send_line draft row words)

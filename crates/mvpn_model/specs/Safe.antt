@@ -21,7 +21,8 @@ pub record IsAdmitted (scenario : Scenario) (iface : IfaceId) (site : SiteId) : 
       admits scenario own.vrf other.vrf ≡ true
 
 -- The datagram of that number was accepted among the events, has these octets, and may leave at the interface.
-pub record IsSafeOut (scenario : Scenario) (events : List Timed) (refused : List ℕ) (number : ℕ) (iface : IfaceId) (octets : List ℕ) : Type 0 where
+pub record IsSafeOut
+    (scenario : Scenario) (events : List Timed) (refused : List ℕ) (number : ℕ) (iface : IfaceId) (octets : List ℕ) : Type 0 where
   pub datagram : Datagram
   pub counted : 0 < number
   pub accepted : slice_get (datagrams refused 0 events) (number - 1) ≡ Some datagram

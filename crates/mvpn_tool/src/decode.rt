@@ -43,8 +43,12 @@ pub fn decode<S: Source, K: Sink>(
 ) -> Result<bool, Stop>
     ensures ends { DecodeEnds format (S.left source.old) result (K.written sink.old) (K.written sink.new) }
     ensures taken { DecodeTakes result (S.left source.old) (S.left source.new) }
-    ensures whole { (input octets : List ℕ) → S.left source.old ≡ Some input → octets_of input ≡ Ok octets → IsWhole format octets → result ≢ Ok true }
-    ensures fault { (input octets : List ℕ) → S.left source.old ≡ Some input → octets_of input ≡ Ok octets → HasFault format octets → result ≢ Ok false }
+    ensures whole { (input octets : List ℕ) →
+        S.left source.old ≡ Some input → octets_of input ≡ Ok octets → IsWhole format octets →
+        result ≢ Ok true }
+    ensures fault { (input octets : List ℕ) →
+        S.left source.old ≡ Some input → octets_of input ≡ Ok octets → HasFault format octets →
+        result ≢ Ok false }
     ensures source_later { S.faults source.old ≤ S.faults source.new }
     ensures source_failed { IsErrOf result stops.Source → Rose (S.faults source.old) (S.faults source.new) }
     ensures sink_later { K.faults sink.old ≤ K.faults sink.new }

@@ -28,8 +28,10 @@ fn write_lines<K: Sink>(
     sink: &mut K,
 ) -> Result<(), Stop>
     requires { All (IsLineOf world.now.network.scenario) lines.now }
-    ensures ok { OnOk result (Appended (K.written sink.old) (K.written sink.new) (flat_map (line_text world.now.network.scenario) lines.now)) }
-    ensures err { OnErr result (AppendedPart (K.written sink.old) (K.written sink.new) (flat_map (line_text world.now.network.scenario) lines.now)) }
+    ensures ok { OnOk result (
+        Appended (K.written sink.old) (K.written sink.new) (flat_map (line_text world.now.network.scenario) lines.now)) }
+    ensures err { OnErr result (
+        AppendedPart (K.written sink.old) (K.written sink.new) (flat_map (line_text world.now.network.scenario) lines.now)) }
     ensures later { K.faults sink.old ≤ K.faults sink.new }
     ensures failed { IsErrOf result stops.Sink → Rose (K.faults sink.old) (K.faults sink.new) }
     ensures others { IfErr result (λ stop. (stop ≡ stops.Sink) ⊎ (stop ≡ stops.Memory)) }

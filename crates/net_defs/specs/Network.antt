@@ -117,9 +117,9 @@ is_chosen scenario vrf source site = elim (local_choice scenario vrf source) [ N
 abbrev pub leaves : Network → SiteId → Addr → Addr → VrfId → List IfaceId
 leaves network site source group vrf =
     if is_chosen network.scenario vrf source site then
-        ifaces_where (leaves_at network vrf site source group) 0 network.scenario.ifaces
+    ifaces_where (leaves_at network vrf site source group) 0 network.scenario.ifaces
     else
-        []
+    []
 
 -- the lines of a datagram's entering at a VRF
 abbrev pub entering : Network → SiteId → Addr → Addr → List ℕ → VrfId → List ReportLine

@@ -14,7 +14,8 @@ use Rattle.net_world.specs.WorldState.{WorldState}
 
 abbrev network_code : Coded Network
 network_code = code_by (Scenario × (ℕ × (ℕ × (List Entries × List Session))))
-    (coded× scenarios.the_row.coded (coded× coded_ℕ (coded× coded_ℕ (coded× (coded_list entries_code) (coded_list sessions.the_row.coded)))))
+    (coded× scenarios.the_row.coded (coded× coded_ℕ (coded× coded_ℕ
+    (coded× (coded_list entries_code) (coded_list sessions.the_row.coded)))))
     (λ n. (n.scenario, (n.clock, (n.accepted, (n.entries, n.sessions)))))
     (λ p. record { scenario = p.0; clock = p.1.0; accepted = p.1.1.0; entries = p.1.1.1.0; sessions = p.1.1.1.1 }) (λ _. refl)
 
@@ -34,4 +35,6 @@ abbrev halt_code : Coded Halt
 halt_code = code_by (Option ℕ) (coded_option coded_ℕ) halt_to halt_from halt_back
 
 abbrev pub world_code : Coded WorldState
-world_code = code_by (Network × Option Halt) (coded× network_code (coded_option halt_code)) (λ w. (w.network, w.halt)) (λ p. record { network = p.0; halt = p.1 }) (λ _. refl)
+world_code =
+    code_by (Network × Option Halt) (coded× network_code (coded_option halt_code))
+    (λ w. (w.network, w.halt)) (λ p. record { network = p.0; halt = p.1 }) (λ _. refl)

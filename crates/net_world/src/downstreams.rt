@@ -79,9 +79,11 @@ impl Downstreams {
     ) -> Result<(), TakeFault>
         requires known { node.0 < length self.old }
         requires clock { now < 2 ^ 63 }
-        ensures taken { OnOk result (self.new ≡ slice_set self.old node.0 (applied (slice_index_or self.old node.0 empty) iface message.now now)) }
+        ensures taken { OnOk result (
+            self.new ≡ slice_set self.old node.0 (applied (slice_index_or self.old node.0 empty) iface message.now now)) }
         ensures fits { OnOk result (are_too_many (applied (slice_index_or self.old node.0 empty) iface message.now now) ≡ false) }
-        ensures full { result ≡ Err TakeFault.Full → are_too_many (applied (slice_index_or self.old node.0 empty) iface message.now now) ≡ true }
+        ensures full { result ≡ Err TakeFault.Full →
+            are_too_many (applied (slice_index_or self.old node.0 empty) iface message.now now) ≡ true }
         ensures unchanged { OnErr result (self.new ≡ self.old) }
     {
         self.nodes[usize::from(node.0)].take(iface, message, now)

@@ -105,8 +105,10 @@ fn enter(
     entering: &Entering<'_>,
     lines: &mut Lines,
 ) -> Result<(), NoMemory>
-    ensures ok { OnOk result (lines.new ≡ lines.old ++ outs ifaces.now entering.now.site entering.now.number entering.now.octets.now entering.now.asking.now vrf) }
-    ensures err { OnErr result (AppendsFront lines.old lines.new (outs ifaces.now entering.now.site entering.now.number entering.now.octets.now entering.now.asking.now vrf)) }
+    ensures ok { OnOk result (lines.new ≡ lines.old ++
+        outs ifaces.now entering.now.site entering.now.number entering.now.octets.now entering.now.asking.now vrf) }
+    ensures err { OnErr result (AppendsFront lines.old lines.new
+        (outs ifaces.now entering.now.site entering.now.number entering.now.octets.now entering.now.asking.now vrf)) }
 {
     for iface in entering.asking {
         if is_outside(ifaces, vrf, entering.site, *iface) {
@@ -124,8 +126,10 @@ pub(crate) fn enter_each(
     entering: &Entering<'_>,
     lines: &mut Lines,
 ) -> Result<(), NoMemory>
-    ensures ok { OnOk result (lines.new ≡ lines.old ++ outs_of_each ifaces.now entering.now.site entering.now.number entering.now.octets.now entering.now.asking.now vrfs.now) }
-    ensures err { OnErr result (AppendsFront lines.old lines.new (outs_of_each ifaces.now entering.now.site entering.now.number entering.now.octets.now entering.now.asking.now vrfs.now)) }
+    ensures ok { OnOk result (lines.new ≡ lines.old ++
+        outs_of_each ifaces.now entering.now.site entering.now.number entering.now.octets.now entering.now.asking.now vrfs.now) }
+    ensures err { OnErr result (AppendsFront lines.old lines.new
+        (outs_of_each ifaces.now entering.now.site entering.now.number entering.now.octets.now entering.now.asking.now vrfs.now)) }
 {
     for vrf in vrfs {
         enter(alloc, ifaces, *vrf, entering, lines)?;

@@ -115,7 +115,9 @@ fn forget_group(flows: &mut IndexMap<Flow, IfaceList>, group: &Group)
 
 /// Forgets the flows that a message names, in joins or in prunes: other flows are asked for as before it.
 pub(crate) fn forget(flows: &mut IndexMap<Flow, IfaceList>, groups: &[Group])
-    ensures { (flow : Flow) → get same_flow flows.new flow ≡ unless (list_any (λ group. names_in group flow) groups.now) (get same_flow flows.old flow) }
+    ensures { (flow : Flow) →
+        get same_flow flows.new flow ≡
+        unless (list_any (λ group. names_in group flow) groups.now) (get same_flow flows.old flow) }
 {
     for group in groups {
         forget_group(flows, group);

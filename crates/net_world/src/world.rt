@@ -51,9 +51,14 @@ impl Model for World {
 
     ghost coded = { world_code };
 
-    ghost view = { λ w. record { network = record { scenario = w.scenario; clock = w.clock; accepted = w.accepted; entries = w.downstreams; sessions = w.sessions }; halt = w.halt } };
+    ghost view = { λ w. record {
+      network = record { scenario = w.scenario; clock = w.clock; accepted = w.accepted; entries = w.downstreams; sessions = w.sessions };
+      halt = w.halt;
+    } };
 
-    ghost invariant = { λ w. w.halt ≡ None → InStep (record { scenario = w.scenario; clock = w.clock; accepted = w.accepted; entries = w.downstreams; sessions = w.sessions }) w.flows w.routes w.vrfs };
+    ghost invariant = { λ w. w.halt ≡ None → InStep
+        (record { scenario = w.scenario; clock = w.clock; accepted = w.accepted; entries = w.downstreams; sessions = w.sessions })
+        w.flows w.routes w.vrfs };
 }
 
 impl World {
@@ -109,7 +114,9 @@ impl World {
     /// Removes the entries of the node that have ended.
     fn timers(&mut self, node: NodeId)
         requires running { self.old.halt ≡ None }
-        ensures { self.new ≡ record self.old { network = with_entries self.old.network node (kept_at (entries_of_node self.old.network node) self.old.network.clock) } }
+        ensures { self.new ≡ record self.old {
+          network = with_entries self.old.network node (kept_at (entries_of_node self.old.network node) self.old.network.clock);
+        } }
     {
         self.downstreams.timers(node, self.clock);
         self.flows.clear();

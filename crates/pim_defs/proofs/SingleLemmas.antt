@@ -7,10 +7,9 @@ use Rattle.pim_joinprune.specs.Families.{IsOf, family_of}
 use Rattle.pim_joinprune.specs.Spelling.{IsMulticast, IsSource, AreSources, IsJoinPrune}
 use Rattle.pim_joinprune.specs.declared.source.JpSource.{JpSource}
 use Rattle.scenario_defs.specs.Rules as rules
-use Rattle.scenario_defs.specs.Rules.{AreOfOneFamily, IsUnicast, NamesFlow, IsEntry}
+use Rattle.scenario_defs.specs.Rules.{AreOfOneFamily, IsUnicast, NamesFlow, IsEntry, group_of}
 use Rattle.scenario_defs.specs.declared.event.JoinEntry.{JoinEntry}
 use Rattle.scenario_defs.specs.declared.event.JoinEntry.TheVariants.{Star, Source, Rpt}
-use Rattle.pim_defs.specs.Mention.{group_of}
 use Rattle.pim_defs.specs.Single.{source_of, one_source, message_with, join_of, prune_of}
 
 own : (neighbour : Addr) → IsAddr neighbour → IsOf (family_of neighbour) neighbour

@@ -5,6 +5,7 @@ use Rattle.mv_base.specs.declared.addr.Addr.{Addr}
 use Rattle.mv_base.specs.Address.{same_addr}
 use Rattle.scenario_defs.specs.declared.event.JoinEntry.{JoinEntry}
 use Rattle.scenario_defs.specs.declared.event.JoinEntry.TheVariants.{Star, Source, Rpt}
+use Rattle.scenario_defs.specs.Rules.{group_of}
 use Rattle.pim_joinprune.specs.declared.source.SourceKind.{SourceKind}
 use Rattle.pim_joinprune.specs.declared.source.SourceKind.TheVariants as kinds
 use Rattle.pim_joinprune.specs.declared.source.JpSource.{JpSource}
@@ -12,7 +13,6 @@ use Rattle.pim_joinprune.specs.declared.message.JoinPrune.{JoinPrune}
 use Rattle.pim_defs.specs.declared.expiry.Expiry.{Expiry}
 use Rattle.pim_defs.specs.declared.mention.Mention.{Mention}
 use Rattle.pim_defs.specs.Expiry.{extended}
-pub use Rattle.scenario_defs.specs.Rules.{group_of}
 
 -- whether both are one entry
 abbrev pub same_entry : JoinEntry → JoinEntry → Bool

@@ -6,7 +6,7 @@ use Rattle.scenario_defs.specs.declared.event.JoinEntry.TheVariants.{Star, Sourc
 use Rattle.pim_joinprune.specs.declared.source.SourceKind.TheVariants as kinds
 use Rattle.pim_joinprune.specs.declared.source.JpSource.{JpSource}
 use Rattle.pim_joinprune.specs.declared.message.JoinPrune.{JoinPrune}
-use Rattle.pim_defs.specs.Mention.{group_of}
+use Rattle.scenario_defs.specs.Rules.{group_of}
 
 -- the source that names the entry; for (*,G) it is the RP, which is the neighbour
 abbrev pub source_of : Addr → JoinEntry → JpSource

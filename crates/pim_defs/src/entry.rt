@@ -1,6 +1,7 @@
 //! The entries of interfaces.
 ghost use Rattle.std.specs.Prelude.{◌≡◌};
-ghost use Rattle.pim_defs.specs.Mention.{entry_of, group_of, same_entry};
+ghost use Rattle.scenario_defs.specs.Rules.{group_of};
+ghost use Rattle.pim_defs.specs.Mention.{entry_of, same_entry};
 
 use mv_base::Addr;
 use pim_joinprune::{JpSource, SourceKind};

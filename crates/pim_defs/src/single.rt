@@ -1,8 +1,7 @@
 //! Messages of one entry.
 ghost use Rattle.std.specs.Prelude.{◌≡◌, IfOk};
 ghost use Rattle.mv_base.specs.Address.{IsAddr};
-ghost use Rattle.scenario_defs.specs.Rules.{IsEntry, AreOfOneFamily};
-ghost use Rattle.pim_defs.specs.Mention.{group_of};
+ghost use Rattle.scenario_defs.specs.Rules.{IsEntry, AreOfOneFamily, group_of};
 ghost use Rattle.pim_joinprune.specs.Spelling.{IsJoinPrune};
 ghost use Rattle.pim_defs.specs.Single.{source_of, one_source, message_with, join_of, prune_of};
 

@@ -15,7 +15,8 @@ use Rattle.pim_joinprune.specs.declared.source.JpSource.{JpSource}
 use Rattle.pim_joinprune.specs.declared.message.JoinPrune.{JoinPrune}
 use Rattle.scenario_defs.specs.declared.event.IfaceEntry.{IfaceEntry}
 use Rattle.pim_defs.specs.declared.expiry.Expiry.{Expiry}
-use Rattle.pim_defs.specs.Mention.{entry_of, same_entry, lists, group_of, mention_of, expiry_after}
+use Rattle.pim_defs.specs.Mention.{entry_of, same_entry, lists, mention_of, expiry_after}
+use Rattle.scenario_defs.specs.Rules.{group_of}
 use Rattle.pim_defs.specs.Entries.{Entries, applied}
 use Rattle.pim_defs.proofs.KeyLemmas.{entry_cmp_total, entry_cmp_exact}
 use Rattle.pim_defs.proofs.EntriesLemmas.{get-applied}

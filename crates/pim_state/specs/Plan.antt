@@ -12,7 +12,8 @@ use Rattle.scenario_defs.specs.declared.event.IfaceEntry.{IfaceEntry}
 use Rattle.scenario_defs.specs.contracts.event.IfaceEntryPartialEq.TheImpl as ifaces_equal
 use Rattle.pim_defs.specs.declared.expiry.Expiry.{Expiry}
 use Rattle.pim_defs.specs.declared.mention.Mention.{Mention}
-use Rattle.pim_defs.specs.Mention.{group_of, joins, prunes, expiry_after}
+use Rattle.scenario_defs.specs.Rules.{group_of}
+use Rattle.pim_defs.specs.Mention.{joins, prunes, expiry_after}
 use Rattle.pim_state.specs.declared.arrival.Arrival.{Arrival}
 
 -- whether both are one entry, as `==` tells it

@@ -22,7 +22,8 @@ use Rattle.pim_joinprune.specs.declared.source.JpSource.{JpSource}
 use Rattle.pim_joinprune.specs.declared.source.SourceKind.{SourceKind}
 use Rattle.pim_joinprune.specs.declared.source.SourceKind.TheVariants as kinds
 use Rattle.pim_joinprune.proofs.Calls.{is_spelled}
-use Rattle.pim_defs.specs.Mention.{entry_by, entry_of, group_of}
+use Rattle.scenario_defs.specs.Rules.{group_of}
+use Rattle.pim_defs.specs.Mention.{entry_by, entry_of}
 use Rattle.pim_defs.specs.Single.{source_of, join_of, prune_of}
 use Rattle.mvpn_model.specs.Messages.{own_addr, read_at}
 use Rattle.mvpn_model.specs.declared.message.Given.{Given}

@@ -41,8 +41,12 @@ impl World {
         requires counted { self.old.network.accepted + 1 < 2 ^ 64 }
         requires fits { length payload.now ≤ 2048 }
         ensures same { self.new ≡ self.old }
-        ensures ok { OnOk result (lines.new ≡ lines.old ++ outs_of_each self.old.network.scenario.ifaces site (self.old.network.accepted + 1) (packet flow.source flow.group payload.now) (asking self.old.network flow.source flow.group) vrfs.now) }
-        ensures err { OnErr result (AppendsFront lines.old lines.new (outs_of_each self.old.network.scenario.ifaces site (self.old.network.accepted + 1) (packet flow.source flow.group payload.now) (asking self.old.network flow.source flow.group) vrfs.now)) }
+        ensures ok { OnOk result (lines.new ≡ lines.old ++
+            outs_of_each self.old.network.scenario.ifaces site (self.old.network.accepted + 1)
+            (packet flow.source flow.group payload.now) (asking self.old.network flow.source flow.group) vrfs.now) }
+        ensures err { OnErr result (AppendsFront lines.old lines.new
+            (outs_of_each self.old.network.scenario.ifaces site (self.old.network.accepted + 1)
+            (packet flow.source flow.group payload.now) (asking self.old.network flow.source flow.group) vrfs.now)) }
     {
         let octets = packet(self.alloc, flow.source, flow.group, payload)?;
         let moment = Moment {
@@ -70,7 +74,8 @@ impl World {
     fn chosen(&self, site: SiteId, source: Addr) -> Result<Seq<VrfId>, NoMemory>
         requires running { self.now.halt ≡ None }
         requires known { site.0 < length self.now.network.scenario.sites }
-        ensures { IfOk result (λ vrfs. vrfs ≡ filter (λ vrf. is_chosen self.now.network.scenario vrf source site) (entered self.now.network.scenario site)) }
+        ensures { IfOk result (λ vrfs. vrfs ≡
+            filter (λ vrf. is_chosen self.now.network.scenario vrf source site) (entered self.now.network.scenario site)) }
     {
         let entered = list_at(self.vrfs.as_slice(), site.0);
         choosing(self.alloc, self.routes.as_slice(), source, site, entered)
@@ -90,8 +95,10 @@ impl World {
         requires known { site.0 < length self.old.network.scenario.sites }
         requires fits { length payload.now ≤ 2048 }
         ensures same { self.new ≡ self.old }
-        ensures ok { (line : ℕ) → OnOk result (lines.new ≡ lines.old ++ event_lines self.old.network line (events.Send site flow.source flow.group payload.now)) }
-        ensures err { (line : ℕ) → OnErr result (AppendsFront lines.old lines.new (event_lines self.old.network line (events.Send site flow.source flow.group payload.now))) }
+        ensures ok { (line : ℕ) → OnOk result (lines.new ≡ lines.old ++
+            event_lines self.old.network line (events.Send site flow.source flow.group payload.now)) }
+        ensures err { (line : ℕ) → OnErr result (AppendsFront lines.old lines.new
+            (event_lines self.old.network line (events.Send site flow.source flow.group payload.now))) }
     {
         let vrfs = self.chosen(site, flow.source)?;
         if vrfs.is_empty() {
@@ -114,7 +121,8 @@ impl World {
         requires known { site.0 < length self.old.network.scenario.sites }
         requires fits { length payload.now ≤ 2048 }
         ensures ok { OnOk result (Acts self.old line (events.Send site flow.source flow.group payload.now) self.new lines.old lines.new) }
-        ensures err { OnErr result (Halts self.old line (events.Send site flow.source flow.group payload.now) self.new lines.old lines.new) }
+        ensures err { OnErr result (
+            Halts self.old line (events.Send site flow.source flow.group payload.now) self.new lines.old lines.new) }
     {
         if self.accepted == u64::MAX {
             return Err(self.stop());

@@ -38,9 +38,13 @@ impl World {
         requires running { self.old.halt ≡ None }
         requires clock { self.old.network.clock < 2 ^ 63 }
         requires known { iface.0 < length self.old.network.scenario.ifaces }
-        ensures taken { OnOk result (self.new ≡ record self.old { network = with_message self.old.network (Some (record { iface = iface; message = message.now })) }) }
-        ensures fits { OnOk result (are_too_many (applied (entries_at self.old.network iface) iface message.now self.old.network.clock) ≡ false) }
-        ensures full { result ≡ Err TakeFault.Full → are_too_many (applied (entries_at self.old.network iface) iface message.now self.old.network.clock) ≡ true }
+        ensures taken { OnOk result (self.new ≡ record self.old {
+          network = with_message self.old.network (Some (record { iface = iface; message = message.now }));
+        }) }
+        ensures fits { OnOk result (
+            are_too_many (applied (entries_at self.old.network iface) iface message.now self.old.network.clock) ≡ false) }
+        ensures full { result ≡ Err TakeFault.Full →
+            are_too_many (applied (entries_at self.old.network iface) iface message.now self.old.network.clock) ≡ true }
         ensures unchanged { OnErr result (self.new ≡ self.old) }
     {
         match edge_of(&self.scenario, iface) {
@@ -90,7 +94,8 @@ impl World {
         requires clock { self.old.network.clock < 2 ^ 63 }
         requires known { iface.0 < length self.old.network.scenario.ifaces }
         requires spelled { IfOk written IsJoinPrune }
-        ensures ok { OnOk result (IfOk written (λ message. Meets self.old line (record { iface = iface; message = message }) self.new lines.old lines.new)) }
+        ensures ok { OnOk result (IfOk written (λ message.
+            Meets self.old line (record { iface = iface; message = message }) self.new lines.old lines.new)) }
         ensures wrote { OnOk result (IsOk written) }
         ensures err { OnErr result (HaltsAtOnce self.new lines.old lines.new) }
     {

@@ -1,0 +1,194 @@
+//! The lines of the text, one by one.
+ghost use Rattle.std.specs.Prelude.{◌≡◌, ◌++◌, ◌≤◌, OnOk, codes};
+ghost use Rattle.generator.specs.Made as made;
+
+use mv_base::{Bytes, NoMemory};
+use report_text::put_number;
+
+/// The number of a VPN and that of an edge.
+fn put_pair(out: &mut Bytes, vpn: u32, edge: u32) -> Result<(), NoMemory>
+    ensures { OnOk result (out.new ≡ out.old ++ made.pair vpn edge) }
+{
+    put_number(out, u64::from(vpn))?;
+    out.extend(b"_")?;
+    put_number(out, u64::from(edge))
+}
+
+/// The edge at whose site the source of the VPN's flow is.
+fn source_edge(number: u32, vpn: u32) -> u32
+    ensures { result ≡ made.source_edge number vpn }
+{
+    ((u64::from(number) + 5 * u64::from(vpn)) % 32 + 1) as u32
+}
+
+/// Source and group of the VPN's flow.
+fn put_flow(out: &mut Bytes, number: u32, vpn: u32) -> Result<(), NoMemory>
+    ensures { OnOk result (out.new ≡ out.old ++ made.flow number vpn) }
+{
+    out.extend(b"10.")?;
+    put_number(out, u64::from(source_edge(number, vpn)))?;
+    out.extend(b".")?;
+    put_number(out, u64::from(vpn))?;
+    out.extend(b".9 232.1.1.")?;
+    put_number(out, u64::from(vpn))
+}
+
+pub(crate) fn put_edge(out: &mut Bytes, edge: u32) -> Result<(), NoMemory>
+    ensures { OnOk result (out.new ≡ out.old ++ made.edge_line edge) }
+{
+    out.extend(b"edge E")?;
+    put_number(out, u64::from(edge))?;
+    out.extend(b" 192.0.2.")?;
+    put_number(out, u64::from(edge))?;
+    out.extend(b"\n")
+}
+
+pub(crate) fn put_core(out: &mut Bytes, core: u32) -> Result<(), NoMemory>
+    ensures { OnOk result (out.new ≡ out.old ++ made.core_line core) }
+{
+    out.extend(b"core C")?;
+    put_number(out, u64::from(core))?;
+    out.extend(b" 192.0.3.")?;
+    put_number(out, u64::from(core))?;
+    out.extend(b"\n")
+}
+
+/// A link of the ring.
+pub(crate) fn put_ring(out: &mut Bytes, core: u32) -> Result<(), NoMemory>
+    ensures { OnOk result (out.new ≡ out.old ++ made.ring_line core) }
+{
+    out.extend(b"link C")?;
+    put_number(out, u64::from(core))?;
+    out.extend(b" C")?;
+    put_number(out, u64::from(core % 16 + 1))?;
+    out.extend(b" 1\n")
+}
+
+/// The link of an edge to a core node.
+pub(crate) fn put_spur(out: &mut Bytes, edge: u32) -> Result<(), NoMemory>
+    requires { 1 ≤ edge }
+    ensures { OnOk result (out.new ≡ out.old ++ made.spur_line edge) }
+{
+    out.extend(b"link E")?;
+    put_number(out, u64::from(edge))?;
+    out.extend(b" C")?;
+    put_number(out, u64::from((edge - 1) % 16 + 1))?;
+    out.extend(b" 1\n")
+}
+
+fn put_vrf(out: &mut Bytes, edge: u32, vpn: u32) -> Result<(), NoMemory>
+    ensures { OnOk result (out.new ≡ out.old ++ made.vrf_line edge vpn) }
+{
+    out.extend(b"vrf V")?;
+    put_pair(out, vpn, edge)?;
+    out.extend(b" E")?;
+    put_number(out, u64::from(edge))?;
+    out.extend(b" ")?;
+    put_number(out, u64::from(vpn))?;
+    out.extend(b" 65000:")?;
+    put_number(out, u64::from(vpn))?;
+    out.extend(b" 65000:")?;
+    put_number(out, u64::from(vpn))?;
+    out.extend(b" highest\n")
+}
+
+fn put_site(out: &mut Bytes, edge: u32, vpn: u32) -> Result<(), NoMemory>
+    ensures { OnOk result (out.new ≡ out.old ++ made.site_line edge vpn) }
+{
+    out.extend(b"site S")?;
+    put_pair(out, vpn, edge)?;
+    out.extend(b" 10.")?;
+    put_number(out, u64::from(edge))?;
+    out.extend(b".")?;
+    put_number(out, u64::from(vpn))?;
+    out.extend(b".0/24\n")
+}
+
+fn put_iface(out: &mut Bytes, edge: u32, vpn: u32) -> Result<(), NoMemory>
+    ensures { OnOk result (out.new ≡ out.old ++ made.iface_line edge vpn) }
+{
+    out.extend(b"iface I")?;
+    put_pair(out, vpn, edge)?;
+    out.extend(b" V")?;
+    put_pair(out, vpn, edge)?;
+    out.extend(b" S")?;
+    put_pair(out, vpn, edge)?;
+    out.extend(b" 10.")?;
+    put_number(out, u64::from(edge))?;
+    out.extend(b".")?;
+    put_number(out, u64::from(vpn))?;
+    out.extend(b".1\n")
+}
+
+/// What a VPN has at an edge.
+pub(crate) fn put_attachment(out: &mut Bytes, edge: u32, vpn: u32) -> Result<(), NoMemory>
+    ensures { OnOk result (out.new ≡ out.old ++ made.attachment edge vpn) }
+{
+    put_vrf(out, edge, vpn)?;
+    put_site(out, edge, vpn)?;
+    put_iface(out, edge, vpn)?;
+    Ok(())
+}
+
+fn put_join_line(out: &mut Bytes, number: u32, vpn: u32, edge: u32) -> Result<(), NoMemory>
+    ensures { OnOk result (out.new ≡ out.old ++ codes "join I" ++ made.pair vpn edge ++ codes " " ++ made.flow number vpn ++ codes "\n") }
+{
+    out.extend(b"join I")?;
+    put_pair(out, vpn, edge)?;
+    out.extend(b" ")?;
+    put_flow(out, number, vpn)?;
+    out.extend(b"\n")
+}
+
+/// The join of an edge that has a receiver of the VPN's flow.
+pub(crate) fn put_join(out: &mut Bytes, number: u32, vpn: u32, edge: u32) -> Result<(), NoMemory>
+    ensures { OnOk result (out.new ≡ out.old ++ made.join_line number vpn edge) }
+{
+    if edge != source_edge(number, vpn)
+        && (u64::from(edge) + u64::from(vpn) + u64::from(number)) % 4 == 0
+    {
+        put_join_line(out, number, vpn, edge)
+    } else {
+        Ok(())
+    }
+}
+
+/// A datagram of the VPN's flow.
+pub(crate) fn put_send(
+    out: &mut Bytes,
+    number: u32,
+    payload: &[u8],
+    vpn: u32,
+) -> Result<(), NoMemory>
+    ensures { OnOk result (out.new ≡ out.old ++ made.send_line number payload.now vpn) }
+{
+    out.extend(b"send S")?;
+    put_pair(out, vpn, source_edge(number, vpn))?;
+    out.extend(b" ")?;
+    put_flow(out, number, vpn)?;
+    out.extend(b" ")?;
+    out.extend(payload)?;
+    out.extend(b"\n")
+}
+
+fn put_select_line(out: &mut Bytes, number: u32, vpn: u32) -> Result<(), NoMemory>
+    ensures { OnOk result (out.new ≡ out.old
+        ++ codes "select V" ++ made.pair vpn (made.source_edge number vpn) ++ codes " " ++ made.flow number vpn ++ codes "\n") }
+{
+    out.extend(b"select V")?;
+    put_pair(out, vpn, source_edge(number, vpn))?;
+    out.extend(b" ")?;
+    put_flow(out, number, vpn)?;
+    out.extend(b"\n")
+}
+
+/// The selection of the VPN's flow, in every second VPN.
+pub(crate) fn put_select(out: &mut Bytes, number: u32, vpn: u32) -> Result<(), NoMemory>
+    ensures { OnOk result (out.new ≡ out.old ++ made.select_line number vpn) }
+{
+    if vpn % 2 == 1 {
+        put_select_line(out, number, vpn)
+    } else {
+        Ok(())
+    }
+}

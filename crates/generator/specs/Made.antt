@@ -102,5 +102,5 @@ last_part number =
     ++ codes "drain\ntick 3\nsettle\nstate\n" ++ sends number (codes "03") ++ codes "drain\nstate\n"
 
 -- the whole text
-abbrev pub made : ℕ → List ℕ
+unfoldable pub made : ℕ → List ℕ
 made number = scenario ++ first_part number ++ last_part number

@@ -16,17 +16,13 @@ fn put_pair(out: &mut Bytes, vpn: u32, edge: u32) -> Result<(), NoMemory>
 
 /// The edge at whose site the source of the VPN's flow is.
 fn source_edge(number: u32, vpn: u32) -> u32
-    requires number { number ≤ 1000000 }
-    requires vpn { vpn ≤ 8 }
     ensures { result ≡ made.source_edge number vpn }
 {
-    (number + 5 * vpn) % 32 + 1
+    ((u64::from(number) + 5 * u64::from(vpn)) % 32 + 1) as u32
 }
 
 /// Source and group of the VPN's flow.
 fn put_flow(out: &mut Bytes, number: u32, vpn: u32) -> Result<(), NoMemory>
-    requires number { number ≤ 1000000 }
-    requires vpn { vpn ≤ 8 }
     ensures { OnOk result (out.new ≡ out.old ++ made.flow number vpn) }
 {
     out.extend(b"10.")?;
@@ -135,8 +131,6 @@ pub(crate) fn put_attachment(out: &mut Bytes, edge: u32, vpn: u32) -> Result<(),
 }
 
 fn put_join_line(out: &mut Bytes, number: u32, vpn: u32, edge: u32) -> Result<(), NoMemory>
-    requires number { number ≤ 1000000 }
-    requires vpn { vpn ≤ 8 }
     ensures { OnOk result (out.new ≡ out.old ++ codes "join I" ++ made.pair vpn edge ++ codes " " ++ made.flow number vpn ++ codes "\n") }
 {
     out.extend(b"join I")?;
@@ -148,12 +142,11 @@ fn put_join_line(out: &mut Bytes, number: u32, vpn: u32, edge: u32) -> Result<()
 
 /// The join of an edge that has a receiver of the VPN's flow.
 pub(crate) fn put_join(out: &mut Bytes, number: u32, vpn: u32, edge: u32) -> Result<(), NoMemory>
-    requires number { number ≤ 1000000 }
-    requires vpn { vpn ≤ 8 }
-    requires edge { edge ≤ 32 }
     ensures { OnOk result (out.new ≡ out.old ++ made.join_line number vpn edge) }
 {
-    if edge != source_edge(number, vpn) && (edge + vpn + number) % 4 == 0 {
+    if edge != source_edge(number, vpn)
+        && (u64::from(edge) + u64::from(vpn) + u64::from(number)) % 4 == 0
+    {
         put_join_line(out, number, vpn, edge)
     } else {
         Ok(())
@@ -167,8 +160,6 @@ pub(crate) fn put_send(
     payload: &[u8],
     vpn: u32,
 ) -> Result<(), NoMemory>
-    requires number { number ≤ 1000000 }
-    requires vpn { vpn ≤ 8 }
     ensures { OnOk result (out.new ≡ out.old ++ made.send_line number payload.now vpn) }
 {
     out.extend(b"send S")?;
@@ -181,8 +172,6 @@ pub(crate) fn put_send(
 }
 
 fn put_select_line(out: &mut Bytes, number: u32, vpn: u32) -> Result<(), NoMemory>
-    requires number { number ≤ 1000000 }
-    requires vpn { vpn ≤ 8 }
     ensures { OnOk result (out.new ≡ out.old
         ++ codes "select V" ++ made.pair vpn (made.source_edge number vpn) ++ codes " " ++ made.flow number vpn ++ codes "\n") }
 {
@@ -195,8 +184,6 @@ fn put_select_line(out: &mut Bytes, number: u32, vpn: u32) -> Result<(), NoMemor
 
 /// The selection of the VPN's flow, in every second VPN.
 pub(crate) fn put_select(out: &mut Bytes, number: u32, vpn: u32) -> Result<(), NoMemory>
-    requires number { number ≤ 1000000 }
-    requires vpn { vpn ≤ 8 }
     ensures { OnOk result (out.new ≡ out.old ++ made.select_line number vpn) }
 {
     if vpn % 2 == 1 {

@@ -73,8 +73,6 @@ fn put_scenario(out: &mut Bytes) -> Result<(), NoMemory>
 
 /// The joins of a VPN.
 fn put_vpn_joins(out: &mut Bytes, number: u32, vpn: u32) -> Result<(), NoMemory>
-    requires number { number ≤ 1000000 }
-    requires vpn { vpn ≤ 8 }
     ensures { OnOk result (out.new ≡ out.old ++ made.each (made.join_line number vpn) 32) }
 {
     for edge in 0..32 {
@@ -84,7 +82,6 @@ fn put_vpn_joins(out: &mut Bytes, number: u32, vpn: u32) -> Result<(), NoMemory>
 }
 
 fn put_joins(out: &mut Bytes, number: u32) -> Result<(), NoMemory>
-    requires { number ≤ 1000000 }
     ensures { OnOk result (out.new ≡ out.old ++ made.joins number) }
 {
     for vpn in 0..8 {
@@ -94,7 +91,6 @@ fn put_joins(out: &mut Bytes, number: u32) -> Result<(), NoMemory>
 }
 
 fn put_sends(out: &mut Bytes, number: u32, payload: &[u8]) -> Result<(), NoMemory>
-    requires { number ≤ 1000000 }
     ensures { OnOk result (out.new ≡ out.old ++ made.sends number payload.now) }
 {
     for vpn in 0..8 {
@@ -104,7 +100,6 @@ fn put_sends(out: &mut Bytes, number: u32, payload: &[u8]) -> Result<(), NoMemor
 }
 
 fn put_selects(out: &mut Bytes, number: u32) -> Result<(), NoMemory>
-    requires { number ≤ 1000000 }
     ensures { OnOk result (out.new ≡ out.old ++ made.selects number) }
 {
     for vpn in 0..8 {
@@ -115,7 +110,6 @@ fn put_selects(out: &mut Bytes, number: u32) -> Result<(), NoMemory>
 
 /// The joins, and a datagram of each flow over the inclusive tunnels.
 fn put_first_sends(out: &mut Bytes, number: u32) -> Result<(), NoMemory>
-    requires { number ≤ 1000000 }
     ensures { OnOk result (out.new ≡ out.old ++ made.first_part number) }
 {
     out.extend(b"events\nheal\nsettle\ntick 3\nsettle\n")?;
@@ -128,7 +122,6 @@ fn put_first_sends(out: &mut Bytes, number: u32) -> Result<(), NoMemory>
 
 /// The selections, and a datagram of each flow before and behind their delay.
 fn put_last_sends(out: &mut Bytes, number: u32) -> Result<(), NoMemory>
-    requires { number ≤ 1000000 }
     ensures { OnOk result (out.new ≡ out.old ++ made.last_part number) }
 {
     put_selects(out, number)?;
@@ -140,9 +133,8 @@ fn put_last_sends(out: &mut Bytes, number: u32) -> Result<(), NoMemory>
     Ok(())
 }
 
-/// Appends the text of that number, which is at most 1,000,000. After want of memory a prefix of it may stand.
+/// Appends the text of that number. After want of memory nothing is said of what stands.
 pub fn put_made(out: &mut Bytes, number: u32) -> Result<(), NoMemory>
-    requires { number ≤ 1000000 }
     ensures { OnOk result (out.new ≡ out.old ++ made.made number) }
 {
     put_scenario(out)?;

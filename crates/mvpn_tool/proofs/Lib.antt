@@ -1,3 +1,4 @@
 pub mod OutcomeLemmas
 pub mod EndLemmas
 pub mod DecodeLemmas
+pub mod RunsLemmas

@@ -1,6 +1,7 @@
 -- The words of commands.
-use Rattle.std.specs.Prelude.{ℕ, List, [], ◌∷◌, codes, nat_eq, Option, None, Some, if◌then◌else◌, option_map}
+use Rattle.std.specs.Prelude.{ℕ, ◌&&◌, nat_eq, nat_le, List, [], ◌∷◌, codes, Option, None, Some, if◌then◌else◌, option_map}
 use Rattle.std.specs.Cmp.Lexicographic.{pointwise}
+use Rattle.mv_base.specs.Number.{◌>>?◌, only_if, number_of}
 use Rattle.decode_text.specs.declared.format.Format.{Format}
 use Rattle.decode_text.specs.declared.format.Format.TheVariants as formats
 use Rattle.mvpn_tool.specs.declared.command.Command.{Command}
@@ -16,11 +17,21 @@ format_of word =
     if pointwise nat_eq word (codes "ldp") then Some formats.Ldp else
     if pointwise nat_eq word (codes "pim") then Some formats.Pim else None
 
--- the command that the words name: `replay`, or `decode` and a format
+-- the number of a made network: 1 to 1,000,000, in decimal without leading zeros
+unfoldable pub made_number_of : List ℕ → Option ℕ
+made_number_of word = number_of word >>? λ number. only_if (nat_le 1 number && nat_le number 1000000) number
+
+-- the command of two words: `decode` and a format, or `make` and a number
+abbrev pub command_with : List ℕ → List ℕ → Option Command
+command_with a b =
+    if pointwise nat_eq a (codes "decode") then option_map (λ format. commands.Decode format) (format_of b) else
+    if pointwise nat_eq a (codes "make") then option_map (λ number. commands.Make number) (made_number_of b) else None
+
+-- the command that the words name: `replay`, `decode` and a format, or `make` and a number
 abbrev pub command_of : List (List ℕ) → Option Command
 command_of [] = None
 command_of (a ∷ []) = if pointwise nat_eq a (codes "replay") then Some commands.Replay else None
-command_of (a ∷ b ∷ []) = if pointwise nat_eq a (codes "decode") then option_map (λ format. commands.Decode format) (format_of b) else None
+command_of (a ∷ b ∷ []) = command_with a b
 command_of (a ∷ b ∷ c ∷ more) = None
 
 -- the line that tells the forms of a command

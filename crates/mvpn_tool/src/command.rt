@@ -1,8 +1,9 @@
 //! The words of commands.
 ghost use Rattle.std.specs.Prelude.{◌≡◌, map, string_bytes};
-ghost use Rattle.mvpn_tool.specs.Commands.{command_of, format_of};
+ghost use Rattle.mvpn_tool.specs.Commands.{command_of, command_with, format_of, made_number_of};
 
 use decode_text::Format;
+use mv_base::read_number;
 
 /// A command that is built.
 #[derive(Clone, Copy, PartialEq, Eq)]
@@ -11,6 +12,8 @@ pub enum Command {
     Replay,
     /// `decode` and the word of a format
     Decode(Format),
+    /// `make` and the number of a network, 1 to 1,000,000
+    Make(u32),
 }
 
 /// The format of a word.
@@ -28,13 +31,37 @@ fn format_of(word: &str) -> Option<Format>
     }
 }
 
+/// The number of a made network that a word writes.
+#[tactic(auto, unfolding(crate::specs::Commands::made_number_of))]
+fn made_number_of(word: &str) -> Option<u32>
+    ensures { result ≡ made_number_of word.now }
+{
+    let number = read_number(word.as_bytes())?;
+    if number >= 1 && number <= 1000000 {
+        Some(number as u32)
+    } else {
+        None
+    }
+}
+
+/// The command of two words.
+fn command_with(word: &str, kind: &str) -> Option<Command>
+    ensures { result ≡ command_with word.now kind.now }
+{
+    match word {
+        "decode" => format_of(kind).map(Command::Decode),
+        "make" => made_number_of(kind).map(Command::Make),
+        _ => None,
+    }
+}
+
 /// The command that the words name.
 pub fn command_of(words: &[String]) -> Option<Command>
     ensures { result ≡ command_of (map string_bytes words.now) }
 {
     match words {
         [word] if word.as_str() == "replay" => Some(Command::Replay),
-        [word, kind] if word.as_str() == "decode" => format_of(kind.as_str()).map(Command::Decode),
+        [word, kind] => command_with(word.as_str(), kind.as_str()),
         _ => None,
     }
 }

@@ -4,6 +4,7 @@
 mod command;
 mod decode;
 mod input;
+mod make;
 mod replay;
 mod report;
 mod stop;

@@ -1,0 +1,127 @@
+-- How a call of `run` ends, command by command: what is true of each status.
+use Rattle.std.specs.Prelude.{◌≡◌, ◌≢◌, ◌⊎◌, ℕ, true, false, List, [], Option, None, Some, Ok, Err}
+use Rattle.mv_io.specs.Causes.{Rose}
+use Rattle.mv_io.specs.Octets.{Appended, AppendedPart}
+use Rattle.scenario_defs.specs.declared.event.Script.{Script}
+use Rattle.line_words.specs.declared.fault.TextFault.{TextFault}
+use Rattle.scenario_text.specs.Grammar.{script_of}
+use Rattle.decode_text.specs.declared.format.Format.{Format}
+use Rattle.decode_text.specs.HexText.{octets_of}
+use Rattle.decode_text.specs.Formats.{IsWhole, HasFault}
+use Rattle.generator.specs.Made.{made}
+use Rattle.net_world.specs.WorldState.{WorldState}
+use Rattle.mvpn_tool.specs.Commands.{usage_line}
+use Rattle.mvpn_tool.specs.Input.{Taken}
+use Rattle.mvpn_tool.specs.Outcome.{EndsFaulty, EndsEarly, EndsWellSome}
+use Rattle.mvpn_tool.specs.DecodeOutcome.{Decoded, DecodesFaulty, DecodesEarly}
+use Rattle.mvpn_tool.specs.declared.command.Command.{Command}
+use Rattle.mvpn_tool.specs.declared.command.Command.TheVariants as commands
+
+-- A call and its end: the status and the world that it answers; what the source had left before it and has left behind it, and what
+-- the sink had written, where they tell that; and how often each of them has failed, before and behind.
+pub record Ending : Type 0 where
+  pub status : ℕ
+  pub world : Option WorldState
+  pub left : Option (List ℕ)
+  pub rest : Option (List ℕ)
+  pub old : Option (List ℕ)
+  pub new : Option (List ℕ)
+  pub source_before : ℕ
+  pub source_now : ℕ
+  pub sink_before : ℕ
+  pub sink_now : ℕ
+
+-- the source, and the sink, failed in this call
+abbrev pub SourceFailed : Ending → Type 0
+SourceFailed e = Rose e.source_before e.source_now
+
+abbrev pub SinkFailed : Ending → Type 0
+SinkFailed e = Rose e.sink_before e.sink_now
+
+-- this was written, and a prefix of this
+abbrev pub Wrote : Ending → List ℕ → Type 0
+Wrote e text = Appended e.old e.new text
+
+abbrev pub WrotePart : Ending → List ℕ → Type 0
+WrotePart e text = AppendedPart e.old e.new text
+
+-- The statuses by which a call may end that meets no fault of source or sink and has the memory that it wants, and by which it may
+-- end otherwise.
+abbrev pub IsStopped : ℕ → Type 0
+IsStopped status = (status ≡ 4) ⊎ (status ≡ 5) ⊎ (status ≡ 6)
+
+-- The words name no command: the usage line, and the source is not touched.
+pub record UsageRun (e : Ending) : Type 0 where
+  pub two : e.status ≡ 2 → Wrote e usage_line
+  pub five : e.status ≡ 5 → WrotePart e usage_line
+  pub five_cause : e.status ≡ 5 → SinkFailed e
+  pub only : (e.status ≡ 2) ⊎ (e.status ≡ 5)
+  pub untouched : e.rest ≡ e.left
+  pub worldless : e.world ≡ None
+
+-- `replay`
+pub record ReplayRun (e : Ending) : Type 0 where
+  -- all was read, replayed and written, and there is a world exactly there
+  pub zero : e.status ≡ 0 → EndsWellSome e.left e.old e.new e.world
+  pub worldless : (e.status ≡ 0 → ⊥) → e.world ≡ None
+  -- the text has a fault, and the line that tells it is written alone
+  pub three : e.status ≡ 3 → EndsFaulty e.left e.old e.new
+  pub three_always :
+      (input : List ℕ) (fault : TextFault) → e.left ≡ Some input → script_of input ≡ Err fault → (e.status ≡ 3) ⊎ IsStopped e.status
+  -- the source failed, and nothing is written
+  pub four : e.status ≡ 4 → Wrote e []
+  pub four_cause : e.status ≡ 4 → SourceFailed e
+  -- the sink failed, with a prefix of the output written
+  pub five : e.status ≡ 5 → EndsEarly e.left e.old e.new
+  pub five_cause : e.status ≡ 5 → SinkFailed e
+  -- there was no memory, and nothing or a prefix of the output is written
+  pub six : e.status ≡ 6 → Wrote e [] ⊎ EndsEarly e.left e.old e.new
+  -- the input was taken to its end, or one octet past the limit
+  pub taken : e.status ≢ 4 → e.status ≢ 6 → Taken e.left e.rest
+  -- nothing but memory keeps a script from being replayed, where neither end failed
+  pub complete :
+      (input : List ℕ) (script : Script) → (SourceFailed e → ⊥) → (SinkFailed e → ⊥) → e.left ≡ Some input →
+      script_of input ≡ Ok script → (e.status ≡ 0) ⊎ (e.status ≡ 6)
+  pub only : (e.status ≡ 0) ⊎ (e.status ≡ 3) ⊎ IsStopped e.status
+
+-- `decode` and a format
+pub record DecodeRun (format : Format) (e : Ending) : Type 0 where
+  -- the octets are whole, and the lines of their values were written
+  pub zero : e.status ≡ 0 → Decoded format false e.left e.old e.new
+  -- they have a first fault, and the lines before it were written, and then its own
+  pub one : e.status ≡ 1 → Decoded format true e.left e.old e.new
+  pub one_always :
+      (input octets : List ℕ) → e.left ≡ Some input → octets_of input ≡ Ok octets → HasFault format octets →
+      (e.status ≡ 1) ⊎ IsStopped e.status
+  -- the text is not hexadecimal, and the line that tells it is written alone
+  pub three : e.status ≡ 3 → DecodesFaulty e.left e.old e.new
+  pub three_always :
+      (input : List ℕ) (fault : TextFault) → e.left ≡ Some input → octets_of input ≡ Err fault → (e.status ≡ 3) ⊎ IsStopped e.status
+  pub four : e.status ≡ 4 → Wrote e []
+  pub four_cause : e.status ≡ 4 → SourceFailed e
+  pub five : e.status ≡ 5 → DecodesEarly format e.left e.old e.new
+  pub five_cause : e.status ≡ 5 → SinkFailed e
+  pub six : e.status ≡ 6 → Wrote e [] ⊎ DecodesEarly format e.left e.old e.new
+  pub taken : e.status ≢ 4 → e.status ≢ 6 → Taken e.left e.rest
+  pub complete :
+      (input octets : List ℕ) → (SourceFailed e → ⊥) → (SinkFailed e → ⊥) → e.left ≡ Some input → octets_of input ≡ Ok octets →
+      IsWhole format octets → (e.status ≡ 0) ⊎ (e.status ≡ 6)
+  pub only : (e.status ≡ 0) ⊎ (e.status ≡ 1) ⊎ (e.status ≡ 3) ⊎ IsStopped e.status
+  pub worldless : e.world ≡ None
+
+-- `make` and a number: the text of that number, and the source is not touched
+pub record MakeRun (number : ℕ) (e : Ending) : Type 0 where
+  pub zero : e.status ≡ 0 → Wrote e (made number)
+  pub five : e.status ≡ 5 → WrotePart e (made number)
+  pub five_cause : e.status ≡ 5 → SinkFailed e
+  pub six : e.status ≡ 6 → Wrote e []
+  pub only : (e.status ≡ 0) ⊎ (e.status ≡ 5) ⊎ (e.status ≡ 6)
+  pub untouched : e.rest ≡ e.left
+  pub worldless : e.world ≡ None
+
+-- how a call ends whose words name that command, or none
+abbrev pub Runs : Option Command → Ending → Type 0
+Runs None e = UsageRun e
+Runs (Some commands.Replay) e = ReplayRun e
+Runs (Some (commands.Decode format)) e = DecodeRun format e
+Runs (Some (commands.Make number)) e = MakeRun number e

@@ -4,6 +4,7 @@
 mod fault;
 mod settling;
 mod standing;
+mod steps;
 mod telling;
 
 pub use fault::NodeFault;

@@ -1,5 +1,5 @@
 //! A tree that settles (RFC 6388 sections 2.4.1.1 and 2.4.2.1).
-ghost use Rattle.std.specs.Prelude.{◌≡◌, ◌++◌, ◌∷◌, [], true, is_some, None, Some, OnOk};
+ghost use Rattle.std.specs.Prelude.{◌≡◌, ◌++◌, ◌∷◌, [], true, length, is_some, None, Some, All, OnOk};
 ghost use Rattle.std.specs.FinMap as maps;
 ghost use Rattle.std.specs.FinMap.{FinMap};
 ghost use Rattle.mv_base.specs.declared.ids.NodeId.{NodeId};
@@ -8,9 +8,11 @@ ghost use Rattle.label_defs.specs.Keys.{node_cmp};
 ghost use Rattle.label_defs.specs.declared.change.Change.TheVariants as changes;
 ghost use Rattle.label_defs.specs.Settling.{upstream_of, same_neighbour, change_by, withdrawn};
 ghost use Rattle.label_uses.specs.Uses.{use_in, free_in, mapped_in};
-ghost use Rattle.mldp_node.specs.Parts.{held_at, Turned, SettledSo, LacksOne};
+ghost use Rattle.mldp_node.specs.Parts.{held_at, AllSettledSo, AreTied, IsPut, LacksAny, LacksOne, SettledSo, Turned};
 
 use crate::fault::NodeFault;
+use crate::standing::Standing;
+use core_paths::Core;
 use label_defs::Put;
 use label_ends::Ends;
 use label_trees::LabelTrees;
@@ -190,4 +192,46 @@ pub(crate) fn settle(
             Ok(())
         }
     }
+}
+
+/// The tree settles, by the neighbour that the core gives.
+pub(crate) fn settle_tree(
+    place: &Standing,
+    core: &Core,
+    trees: &mut LabelTrees,
+    ends: &Ends,
+    fec: &Fec,
+    puts: &mut Vec<Put>,
+) -> Result<(), NodeFault>
+    requires nodes { core.now.nodes ≡ length place.now.addrs }
+    requires tied { AreTied trees.old ends.now }
+    requires written { All IsPut puts.old.items }
+    ensures ok { OnOk result (AllSettledSo core.now place.now (fec.now ∷ []) ends.now trees.old puts.old.items trees.new puts.new.items) }
+    ensures lacks { result ≡ Err NodeFault.NoLabel → LacksAny core.now place.now (fec.now ∷ []) ends.now trees.old puts.old.items }
+{
+    let upstream = place.upstream(core, fec);
+    settle(trees, ends, fec, upstream, puts)
+}
+
+/// The trees settle one after another.
+pub(crate) fn settle_all(
+    place: &Standing,
+    core: &Core,
+    trees: &mut LabelTrees,
+    ends: &Ends,
+    fecs: &[Fec],
+    puts: &mut Vec<Put>,
+) -> Result<(), NodeFault>
+    requires nodes { core.now.nodes ≡ length place.now.addrs }
+    requires tied { AreTied trees.old ends.now }
+    requires written { All IsPut puts.old.items }
+    ensures ok { OnOk result (AllSettledSo core.now place.now fecs.now ends.now trees.old puts.old.items trees.new puts.new.items) }
+    ensures lacks { result ≡ Err NodeFault.NoLabel → LacksAny core.now place.now fecs.now ends.now trees.old puts.old.items }
+{
+    for fec in fecs {
+        if let Err(fault) = settle_tree(place, core, trees, ends, fec, puts) {
+            return Err(fault);
+        }
+    }
+    Ok(())
 }

@@ -3,3 +3,4 @@ pub mod CoreLemmas
 pub mod SpelledLemmas
 pub mod SettleLemmas
 pub mod StepLemmas
+pub mod NodeLemmas

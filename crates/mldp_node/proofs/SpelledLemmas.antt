@@ -91,9 +91,10 @@ good old fec (changes.Map upstream label) new h k t e =
     let element : IsElement fec = on_tree old.part fec h t.0 in
     let free = (free_some old.part label t.1).free in
     let more = with_use_spelled old.part label uses.Free (uses.Mapped fec upstream) free h (λ f u is. subst IsElement (one_tree fec f upstream u is).0 element) in
-    subst (λ (s : Stepped). AreSpelled s.part × All IsPut s.puts) (same_Some _ new e)
-    (record { leaves = more.leaves; branches = more.branches; mapped = more.mapped; few = more.few },
-    All-push IsPut old.puts (record { to = upstream; message = messages.Mapping fec label }) k (element, label_fits old.part label uses.Free h free))
+    subst (λ (s : Stepped). AreSpelled s.part × All IsPut s.puts) (same_Some _ new e) (
+      record { leaves = more.leaves; branches = more.branches; mapped = more.mapped; few = more.few },
+      All-push IsPut old.puts (record { to = upstream; message = messages.Mapping fec label }) k (element, label_fits old.part label uses.Free h free),
+    )
 good old fec (changes.Withdraw upstream label) new h k t e =
     let own = mapped_some old.part fec label t in
     let more = with_use_spelled old.part label (uses.Mapped fec own.0) (uses.Leaving fec upstream) own.1 h (λ f u is. absurd cc) in

@@ -65,11 +65,14 @@ part_code = code_by (List LabelUse × (FinSet branch_cmp × (FinSet fec_cmp × (
 
 abbrev pub label_node_code : Coded LabelNode
 label_node_code = code_by (LabelData × (FinMap node_cmp ℕ × (FinMap node_cmp (List ℕ) × Option Spent)))
-    (coded× part_code (coded× (maps.code nodes.the_row.coded coded_ℕ) (coded× (maps.code nodes.the_row.coded (coded_list coded_ℕ)) (coded_option spent_code))))
-    (λ n. (n.part, (n.raises, (n.waiting, n.spent)))) (λ q. record { part = q.0; raises = q.1.0; waiting = q.1.1.0; spent = q.1.1.1 }) (λ _. refl)
+    (coded× part_code (coded× (maps.code nodes.the_row.coded coded_ℕ)
+    (coded× (maps.code nodes.the_row.coded (coded_list coded_ℕ)) (coded_option spent_code))))
+    (λ n. (n.part, (n.raises, (n.waiting, n.spent))))
+    (λ q. record { part = q.0; raises = q.1.0; waiting = q.1.1.0; spent = q.1.1.1 }) (λ _. refl)
 
 abbrev pub node_code : Coded NodeData
-node_code = code_by (NodePlace × (LabelNode × FinMap fec_cmp NodeId)) (coded× place_code (coded× label_node_code (maps.code fecs.the_row.coded nodes.the_row.coded)))
+node_code = code_by (NodePlace × (LabelNode × FinMap fec_cmp NodeId))
+    (coded× place_code (coded× label_node_code (maps.code fecs.the_row.coded nodes.the_row.coded)))
     (λ n. (n.place, (n.node, n.awaited))) (λ q. record { place = q.0; node = q.1.0; awaited = q.1.1 }) (λ _. refl)
 
 -- ---- what is seen, and what is kept

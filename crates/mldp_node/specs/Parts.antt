@@ -82,13 +82,16 @@ pub record AreTied (trees : Trees) (ends : Ends) : Type 0 where
 
 -- The tree's change was made and put. Sessions stay as they are.
 pub record Turned (fec : Fec) (change : Change) (old : Trees) (puts : List Put) (new : Trees) (told : List Put) : Type 0 where
-  pub made : (up : FinMap node_cmp End) → behind_change (record { part = part_of old up; puts = puts }) fec change ≡ Some (record { part = part_of new up; puts = told })
+  pub made : (up : FinMap node_cmp End) → behind_change (record { part = part_of old up; puts = puts }) fec change
+      ≡ Some (record { part = part_of new up; puts = told })
   pub sessions : new.uses.sessions ≡ old.uses.sessions
   pub life : new.uses.life ≡ old.uses.life
 
 -- the tree settled so
-pub record SettledSo (upstream : Option NodeId) (fec : Fec) (up : FinMap node_cmp End) (old : Trees) (puts : List Put) (new : Trees) (told : List Put) : Type 0 where
-  pub made : settled_toward upstream fec (record { part = part_of old up; puts = puts }) ≡ Some (record { part = part_of new up; puts = told })
+pub record SettledSo (upstream : Option NodeId) (fec : Fec) (up : FinMap node_cmp End)
+    (old : Trees) (puts : List Put) (new : Trees) (told : List Put) : Type 0 where
+  pub made : settled_toward upstream fec (record { part = part_of old up; puts = puts })
+      ≡ Some (record { part = part_of new up; puts = told })
   pub sessions : new.uses.sessions ≡ old.uses.sessions
   pub life : new.uses.life ≡ old.uses.life
 
@@ -107,8 +110,10 @@ abbrev pub stepped_of : Trees → FinMap node_cmp End → List Put → Stepped
 stepped_of trees up puts = record { part = part_of trees up; puts = puts }
 
 -- The trees settled one after another, whichever way the core is told. What ties the parts holds still.
-pub record AllSettledSo (core : Topology) (place : NodePlace) (fecs : List Fec) (ends : Ends) (old : Trees) (puts : List Put) (new : Trees) (told : List Put) : Type 0 where
-  pub made : (own : Core) → IsCoreOf core.nodes core.links own → settle_all (place_in place own) fecs (stepped_of old ends.up puts) ≡ Some (stepped_of new ends.up told)
+pub record AllSettledSo (core : Topology) (place : NodePlace) (fecs : List Fec) (ends : Ends)
+    (old : Trees) (puts : List Put) (new : Trees) (told : List Put) : Type 0 where
+  pub made : (own : Core) → IsCoreOf core.nodes core.links own
+      → settle_all (place_in place own) fecs (stepped_of old ends.up puts) ≡ Some (stepped_of new ends.up told)
   pub tied : AreTied new ends
   pub life : new.uses.life ≡ old.uses.life
   pub written : All IsPut told
@@ -119,7 +124,8 @@ LacksAny core place fecs ends old puts =
     (own : Core) → IsCoreOf core.nodes core.links own → settle_all (place_in place own) fecs (stepped_of old ends.up puts) ≡ None
 
 -- The trees settled, and what was put is told then.
-pub record Finished (core : Topology) (place : NodePlace) (fecs : List Fec) (old : Trees) (ends : Ends) (puts : List Put) (new : Trees) (new_ends : Ends) : Type 0 where
+pub record Finished (core : Topology) (place : NodePlace) (fecs : List Fec)
+    (old : Trees) (ends : Ends) (puts : List Put) (new : Trees) (new_ends : Ends) : Type 0 where
   pub told : List Put
   pub settled : AllSettledSo core place fecs ends old puts new told
   pub over : new_ends ≡ with_puts (addr_in place) ends told
@@ -131,7 +137,8 @@ abbrev pub node_of : Trees → Ends → LabelNode
 node_of trees ends = record { part = part_of trees ends.up; raises = ends.raises; waiting = ends.waiting; spent = None }
 
 -- the call was made, whichever way the core is told
-pub record Made (core : Topology) (place : NodePlace) (now : ℕ) (call : Call) (old : Trees) (old_ends : Ends) (new : Trees) (new_ends : Ends) : Type 0 where
+pub record Made (core : Topology) (place : NodePlace) (now : ℕ) (call : Call)
+    (old : Trees) (old_ends : Ends) (new : Trees) (new_ends : Ends) : Type 0 where
   pub made : (own : Core) → IsCoreOf core.nodes core.links own → called place own now (node_of old old_ends) call ≡ node_of new new_ends
   pub tied : AreTied new new_ends
   pub life : new.uses.life ≡ old.uses.life

@@ -1,7 +1,9 @@
 //! The label part of a node.
 ghost use Rattle.std.specs.Prelude.{◌≡◌, ◌<◌, ◌≤◌, ◌^◌, not, false, length, is_some, None, Some, IfOk};
 ghost use Rattle.std.specs.FinMap as maps;
-ghost use Rattle.label_defs.specs.Node.{fresh_node, handed, handed_out};
+ghost use Rattle.core_walks.specs.Core.{Core as Walks};
+ghost use Rattle.label_defs.specs.LabelData.{due};
+ghost use Rattle.label_defs.specs.Node.{fresh_node, place_in, handed, handed_out};
 ghost use Rattle.label_defs.specs.Steps.{Taken, Want, Unwant, Raised};
 ghost use Rattle.mldp_node.specs.NodeData.{Answers, AreOwnBindings, IsFibOfPart, MayWant};
 ghost use Rattle.mldp_node.specs.Parts.{IsSpelled};
@@ -130,7 +132,15 @@ impl LdpNode {
         if let Some(fault) = self.spent {
             return Err(fault);
         }
-        match steps::take(&self.place, core, &mut self.trees, &mut self.ends, from, message, now) {
+        match steps::take(
+            &self.place,
+            core,
+            &mut self.trees,
+            &mut self.ends,
+            from,
+            message,
+            now,
+        ) {
             Ok(()) => Ok(()),
             Err(fault) => {
                 self.spent = Some(fault);
@@ -148,7 +158,14 @@ impl LdpNode {
         if let Some(fault) = self.spent {
             return Err(fault);
         }
-        match steps::raised(&self.place, core, &mut self.trees, &mut self.ends, peer, now) {
+        match steps::raised(
+            &self.place,
+            core,
+            &mut self.trees,
+            &mut self.ends,
+            peer,
+            now,
+        ) {
             Ok(()) => Ok(()),
             Err(fault) => {
                 self.spent = Some(fault);
@@ -181,6 +198,15 @@ impl LdpNode {
         ensures { AreOwnBindings self.now result.now }
     {
         self.trees.bindings()
+    }
+
+    /// How many timers are due: resting labels, and holds. It takes no memory. Of a spent node nothing is said.
+    pub fn due(&self, now: u64) -> u64
+        ensures { self.now.node.spent ≡ None → (own : Walks) → result ≡ due (place_in self.now.place own) now self.now.node.part }
+    {
+        self.trees
+            .due(now)
+            .saturating_add(self.ends.due(self.place.life(), now))
     }
 
     /// Whether the end of the session with the neighbour is up. It takes no memory.

@@ -57,7 +57,8 @@ fn withdraw(
     puts: &mut Vec<Put>,
 ) -> Result<(), NoMemory>
     requires { mapped_in trees.old.uses.labels fec.now ≡ Some label }
-    ensures { OnOk result (Turned fec.now (withdrawn label (upstream_of (use_in trees.old.uses.labels label))) trees.old puts.old.items trees.new puts.new.items) }
+    ensures { OnOk result (Turned fec.now (withdrawn label (upstream_of (use_in trees.old.uses.labels label)))
+        trees.old puts.old.items trees.new puts.new.items) }
 {
     match trees.upstream(label) {
         None => Ok(()),
@@ -77,7 +78,8 @@ fn map(
 ) -> Result<(), NodeFault>
     requires up { is_some (maps.get trees.old.uses.sessions upstream) ≡ true }
     requires unmapped { mapped_in trees.old.uses.labels fec.now ≡ None }
-    ensures ok { OnOk result (Turned fec.now (change_by true None None (Some upstream) true (free_in trees.old.uses.labels)) trees.old puts.old.items trees.new puts.new.items) }
+    ensures ok { OnOk result (Turned fec.now (change_by true None None (Some upstream) true (free_in trees.old.uses.labels))
+        trees.old puts.old.items trees.new puts.new.items) }
     ensures lacks { result ≡ Err NodeFault.NoLabel → free_in trees.old.uses.labels ≡ None }
 {
     match trees.map(fec, upstream)? {
@@ -90,7 +92,12 @@ fn map(
 }
 
 /// The tree waits for a label towards the neighbour.
-fn wait(trees: &mut LabelTrees, fec: &Fec, upstream: NodeId, puts: &Vec<Put>) -> Result<(), NoMemory>
+fn wait(
+    trees: &mut LabelTrees,
+    fec: &Fec,
+    upstream: NodeId,
+    puts: &Vec<Put>,
+) -> Result<(), NoMemory>
     ensures { OnOk result (Turned fec.now changes.Wait trees.old puts.now.items trees.new puts.now.items) }
 {
     trees.wait(fec, upstream)
@@ -114,7 +121,8 @@ fn reach(
     requires up { is_some (maps.get trees.old.uses.sessions upstream) ≡ is_some (maps.get ends.now.up upstream) }
     requires unmapped { mapped_in trees.old.uses.labels fec.now ≡ None }
     ensures ok { OnOk result (Turned fec.now
-        (change_by true None None (Some upstream) (held_at ends.now.up upstream) (free_in trees.old.uses.labels)) trees.old puts.old.items trees.new puts.new.items) }
+        (change_by true None None (Some upstream) (held_at ends.now.up upstream) (free_in trees.old.uses.labels))
+        trees.old puts.old.items trees.new puts.new.items) }
     ensures lacks { result ≡ Err NodeFault.NoLabel →
         change_by true None None (Some upstream) (held_at ends.now.up upstream) (free_in trees.old.uses.labels) ≡ changes.NoLabel }
 {

@@ -93,8 +93,10 @@ fn take_mapping(
     requires nodes { core.now.nodes ≡ length place.now.addrs }
     requires tied { AreTied trees.old ends.old }
     requires spelled { IsElement fec.now }
-    ensures ok { OnOk result ((now : ℕ) → Made core.now place.now now (Taken from (messages.Mapping fec.now label)) trees.old ends.old trees.new ends.new) }
-    ensures lacks { result ≡ Err NodeFault.NoLabel → (now : ℕ) → LacksLabels core.now place.now now (Taken from (messages.Mapping fec.now label)) trees.old ends.old }
+    ensures ok { OnOk result ((now : ℕ) →
+        Made core.now place.now now (Taken from (messages.Mapping fec.now label)) trees.old ends.old trees.new ends.new) }
+    ensures lacks { result ≡ Err NodeFault.NoLabel → (now : ℕ) →
+        LacksLabels core.now place.now now (Taken from (messages.Mapping fec.now label)) trees.old ends.old }
 {
     if place.is_tree(fec) {
         trees.branch(from, fec, label)?;
@@ -118,8 +120,10 @@ fn take_withdraw(
     requires tied { AreTied trees.old ends.old }
     requires spelled { IsElement fec.now }
     requires label { IsLabel label }
-    ensures ok { OnOk result ((now : ℕ) → Made core.now place.now now (Taken from (messages.Withdraw fec.now label)) trees.old ends.old trees.new ends.new) }
-    ensures lacks { result ≡ Err NodeFault.NoLabel → (now : ℕ) → LacksLabels core.now place.now now (Taken from (messages.Withdraw fec.now label)) trees.old ends.old }
+    ensures ok { OnOk result ((now : ℕ) →
+        Made core.now place.now now (Taken from (messages.Withdraw fec.now label)) trees.old ends.old trees.new ends.new) }
+    ensures lacks { result ≡ Err NodeFault.NoLabel → (now : ℕ) →
+        LacksLabels core.now place.now now (Taken from (messages.Withdraw fec.now label)) trees.old ends.old }
 {
     trees.unbranch(from, fec, label);
     let mut puts = Vec::new(place.alloc());
@@ -142,8 +146,10 @@ fn take_release(
     requires tied { AreTied trees.old ends.old }
     requires life { trees.old.uses.life ≡ place.now.life }
     requires now { now < 2 ^ 63 }
-    ensures ok { OnOk result (Made core.now place.now now (Taken from (messages.Release fec.now label)) trees.old ends.old trees.new ends.new) }
-    ensures lacks { result ≡ Err NodeFault.NoLabel → LacksLabels core.now place.now now (Taken from (messages.Release fec.now label)) trees.old ends.old }
+    ensures ok { OnOk result (Made core.now place.now now (Taken from (messages.Release fec.now label))
+        trees.old ends.old trees.new ends.new) }
+    ensures lacks { result ≡ Err NodeFault.NoLabel →
+        LacksLabels core.now place.now now (Taken from (messages.Release fec.now label)) trees.old ends.old }
 {
     trees.release(from, fec, label, now);
     finish(place, core, trees, ends, &[], Vec::new(place.alloc()))
@@ -158,8 +164,10 @@ fn pass(
 ) -> Result<(), NodeFault>
     requires nodes { core.now.nodes ≡ length place.now.addrs }
     requires tied { AreTied trees.old ends.old }
-    ensures ok { OnOk result ((now : ℕ) (from : NodeId) (kind : ℕ) → Made core.now place.now now (Taken from (messages.Ignored kind)) trees.old ends.old trees.new ends.new) }
-    ensures lacks { result ≡ Err NodeFault.NoLabel → (now : ℕ) (from : NodeId) (kind : ℕ) → LacksLabels core.now place.now now (Taken from (messages.Ignored kind)) trees.old ends.old }
+    ensures ok { OnOk result ((now : ℕ) (from : NodeId) (kind : ℕ) →
+        Made core.now place.now now (Taken from (messages.Ignored kind)) trees.old ends.old trees.new ends.new) }
+    ensures lacks { result ≡ Err NodeFault.NoLabel → (now : ℕ) (from : NodeId) (kind : ℕ) →
+        LacksLabels core.now place.now now (Taken from (messages.Ignored kind)) trees.old ends.old }
 {
     finish(place, core, trees, ends, &[], Vec::new(place.alloc()))
 }
@@ -183,9 +191,15 @@ pub(crate) fn take(
     ensures lacks { result ≡ Err NodeFault.NoLabel → LacksLabels core.now place.now now (Taken from message.now) trees.old ends.old }
 {
     match message {
-        LabelMessage::Mapping(fec, label) => take_mapping(place, core, trees, ends, from, fec, *label),
-        LabelMessage::Withdraw(fec, label) => take_withdraw(place, core, trees, ends, from, fec, *label),
-        LabelMessage::Release(fec, label) => take_release(place, core, trees, ends, from, fec, *label, now),
+        LabelMessage::Mapping(fec, label) => take_mapping(
+            place, core, trees, ends, from, fec, *label,
+        ),
+        LabelMessage::Withdraw(fec, label) => take_withdraw(
+            place, core, trees, ends, from, fec, *label,
+        ),
+        LabelMessage::Release(fec, label) => take_release(
+            place, core, trees, ends, from, fec, *label, now,
+        ),
         LabelMessage::Ignored(_) => pass(place, core, trees, ends),
     }
 }

@@ -2,3 +2,4 @@ pub mod RowLemmas
 pub mod StepLemmas
 pub mod TableLemmas
 mod ChangeLemmas
+mod ToldLemmas

@@ -1,6 +1,7 @@
 //! The core of the provider's network.
 ghost use Rattle.std.specs.Prelude.{◌≡◌, ◌<◌, ◌≤◌, ◌+◌, ◌*◌, ◌↔◌, IfOk, IfErr, IfSome};
 ghost use Rattle.mv_base.specs.declared.ids.NodeId.{NodeId};
+ghost use Rattle.core_walks.specs.Core.{Core as Walks, IsCoreOf};
 ghost use Rattle.core_walks.specs.Walks.{IsLeast, IsToward};
 ghost use Rattle.core_walks.specs.Topology.{IsTopology, IsConnected, IsFirstUnreached};
 ghost use Rattle.core_walks.specs.Costs.{with_cost};
@@ -83,6 +84,8 @@ impl Core {
         ensures value { result ≡ self.now.nodes }
         ensures topology { IsTopology self.now.nodes self.now.links }
         ensures connected { IsConnected self.now.nodes self.now.links }
+        // A core as nodes know it is there.
+        ensures told { (own : Walks) × IsCoreOf self.now.nodes self.now.links own }
     {
         self.nodes
     }

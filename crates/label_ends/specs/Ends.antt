@@ -22,7 +22,8 @@ pub record Ends : Type 0 where
 
 abbrev pub ends_code : Coded Ends
 ends_code = code_by (FinMap node_cmp End × (FinMap node_cmp ℕ × FinMap node_cmp (List ℕ)))
-    (coded× (maps.code nodes.the_row.coded ends.the_row.coded) (coded× (maps.code nodes.the_row.coded coded_ℕ) (maps.code nodes.the_row.coded (coded_list coded_ℕ))))
+    (coded× (maps.code nodes.the_row.coded ends.the_row.coded)
+    (coded× (maps.code nodes.the_row.coded coded_ℕ) (maps.code nodes.the_row.coded (coded_list coded_ℕ))))
     (λ e. (e.up, (e.raises, e.waiting))) (λ p. record { up = p.0; raises = p.1.0; waiting = p.1.1 }) (λ _. refl)
 
 -- no end came up yet

@@ -95,7 +95,8 @@ pub(crate) fn append(
     octets: &[u8],
 ) -> Result<(), NoMemory>
     ensures { OnOk result ((other : NodeId) →
-        get is_node waiting.new other ≡ (if is_node peer other then Some (octets_at waiting.old peer ++ octets.now) else get is_node waiting.old other)) }
+        get is_node waiting.new other ≡
+        (if is_node peer other then Some (octets_at waiting.old peer ++ octets.now) else get is_node waiting.old other)) }
 {
     let mut own = take(waiting, alloc, peer);
     own.extend(octets)?;
@@ -107,5 +108,7 @@ pub(crate) fn append(
 pub(crate) fn count_due(ends: &[End], life: u64, now: u64) -> u64
     ensures { result ≡ count_by (is_hold_due life now) ends.now }
 {
-    ends.iter().filter(|end| is_hold_due(life, now, end)).count() as u64
+    ends.iter()
+        .filter(|end| is_hold_due(life, now, end))
+        .count() as u64
 }

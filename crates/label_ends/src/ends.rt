@@ -1,5 +1,5 @@
 //! The ends of a node's sessions.
-ghost use Rattle.std.specs.Prelude.{◌≡◌, true, Some, count_by, IfOk, OnOk};
+ghost use Rattle.std.specs.Prelude.{◌≡◌, ◌<◌, ◌^◌, true, Some, count_by, IfOk, OnOk};
 ghost use Rattle.std.specs.FinMap as maps;
 ghost use Rattle.mldp_msgs.specs.Spelling.{IsWritable, IsRouter};
 ghost use Rattle.label_defs.specs.LabelData.{is_hold_due};
@@ -108,7 +108,8 @@ impl Ends {
 
     /// How many holds are due. It takes no memory.
     pub fn due(&self, life: u64, now: u64) -> u64
-        ensures { result ≡ count_by (is_hold_due life now) (maps.values self.now.up) }
+        ensures value { result ≡ count_by (is_hold_due life now) (maps.values self.now.up) }
+        ensures few { result < 2 ^ 63 }
     {
         count_due(self.up.values().as_slice(), life, now)
     }

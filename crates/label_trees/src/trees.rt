@@ -117,7 +117,10 @@ impl LabelTrees {
     pub fn leave(&mut self, label: u32, fec: &Fec, upstream: NodeId) -> Result<(), NoMemory>
         requires { use_in self.old.uses.labels label ≡ Some (uses.Mapped fec.now upstream) }
         ensures { OnOk result (self.new ≡
-            record self.old { uses = record self.old.uses { labels = set_use self.old.uses.labels label (uses.Leaving fec.now upstream) } }) }
+            record self.old {
+              uses =
+                  record self.old.uses { labels = set_use self.old.uses.labels label (uses.Leaving fec.now upstream) };
+            }) }
     {
         self.fib.unmap(upstream, label);
         self.uses.leave(label, fec, upstream)
@@ -126,8 +129,10 @@ impl LabelTrees {
     /// A release of the label by the neighbour, for the tree. It counts where the label is leaving so.
     pub fn release(&mut self, from: NodeId, fec: &Fec, label: u32, now: u64)
         requires { now < 2 ^ 63 }
-        ensures { self.new ≡ record self.old { uses =
-            record self.old.uses { labels = with_released self.old.uses.labels from fec.now label (now + self.old.uses.life + 1) } } }
+        ensures { self.new ≡ record self.old {
+          uses =
+              record self.old.uses { labels = with_released self.old.uses.labels from fec.now label (now + self.old.uses.life + 1) };
+        } }
     {
         self.uses.release(from, fec, label, now);
     }

@@ -1,2 +1,6 @@
 pub mod PartLemmas
 pub mod CoreLemmas
+pub mod SpelledLemmas
+pub mod SettleLemmas
+pub mod StepLemmas
+pub mod NodeLemmas

@@ -1,12 +1,16 @@
 -- The parts of a node, the label part that they are, and what ties them to each other.
-use Rattle.std.specs.Prelude.{◌≡◌, ◌≤◌, ℕ, Bool, true, false, List, [], ◌∷◌, ◌++◌, length, Option, None, Some, is_some, option_map, if◌then◌else◌}
+use Rattle.std.specs.Prelude.{◌≡◌, ◌≤◌, ℕ, Bool, true, false, List, [], ◌∷◌, ◌++◌, length, All, Option, None, Some, is_some, option_map, if◌then◌else◌}
 use Rattle.std.specs.FinMap as maps
 use Rattle.std.specs.FinMap.{FinMap}
 use Rattle.std.specs.FinSet as sets
 use Rattle.std.specs.FinSet.{FinSet}
 use Rattle.mv_base.specs.Number.{◌>>?◌}
 use Rattle.mv_base.specs.declared.ids.NodeId.{NodeId}
+use Rattle.core_walks.specs.Core.{Core, IsCoreOf}
+use Rattle.core_walks.specs.Topology.{Topology}
 use Rattle.mldp_fec.specs.declared.fec.Fec.{Fec}
+use Rattle.mldp_msgs.specs.declared.message.LabelMessage.{LabelMessage}
+use Rattle.mldp_msgs.specs.declared.message.LabelMessage.TheVariants as messages
 use Rattle.mldp_msgs.specs.Spelling.{IsElement, IsWritable}
 use Rattle.tunnel_bindings.specs.declared.binding.Incarnation.{Incarnation}
 use Rattle.label_defs.specs.declared.branch.Branch.{Branch}
@@ -15,11 +19,12 @@ use Rattle.label_defs.specs.declared.end.End.{End}
 use Rattle.label_defs.specs.declared.put.Put.{Put}
 use Rattle.label_defs.specs.Keys.{fec_cmp, node_cmp}
 use Rattle.label_defs.specs.LabelData.{LabelData, has_tree, mapped_label, free_label}
-use Rattle.label_defs.specs.Node.{raises_of}
+use Rattle.label_defs.specs.Node.{NodePlace, LabelNode, raises_of, addr_in, place_in, called}
 use Rattle.label_defs.specs.Settled.{Maps}
-use Rattle.label_defs.specs.Settling.{Stepped, change_by, changed, put_by, holder_of, is_ready_to}
+use Rattle.label_defs.specs.Settling.{Stepped, settle_all, change_by, changed, put_by, holder_of, is_ready_to}
+use Rattle.label_defs.specs.Steps.{Call, label_step}
 use Rattle.label_trees.specs.Trees.{Trees}
-use Rattle.label_ends.specs.Ends.{Ends}
+use Rattle.label_ends.specs.Ends.{Ends, with_puts}
 
 -- the trees that wait
 abbrev pub awaited : FinMap fec_cmp NodeId → FinSet fec_cmp
@@ -77,13 +82,16 @@ pub record AreTied (trees : Trees) (ends : Ends) : Type 0 where
 
 -- The tree's change was made and put. Sessions stay as they are.
 pub record Turned (fec : Fec) (change : Change) (old : Trees) (puts : List Put) (new : Trees) (told : List Put) : Type 0 where
-  pub made : (up : FinMap node_cmp End) → behind_change (record { part = part_of old up; puts = puts }) fec change ≡ Some (record { part = part_of new up; puts = told })
+  pub made : (up : FinMap node_cmp End) → behind_change (record { part = part_of old up; puts = puts }) fec change
+      ≡ Some (record { part = part_of new up; puts = told })
   pub sessions : new.uses.sessions ≡ old.uses.sessions
   pub life : new.uses.life ≡ old.uses.life
 
 -- the tree settled so
-pub record SettledSo (upstream : Option NodeId) (fec : Fec) (up : FinMap node_cmp End) (old : Trees) (puts : List Put) (new : Trees) (told : List Put) : Type 0 where
-  pub made : settled_toward upstream fec (record { part = part_of old up; puts = puts }) ≡ Some (record { part = part_of new up; puts = told })
+pub record SettledSo (upstream : Option NodeId) (fec : Fec) (up : FinMap node_cmp End)
+    (old : Trees) (puts : List Put) (new : Trees) (told : List Put) : Type 0 where
+  pub made : settled_toward upstream fec (record { part = part_of old up; puts = puts })
+      ≡ Some (record { part = part_of new up; puts = told })
   pub sessions : new.uses.sessions ≡ old.uses.sessions
   pub life : new.uses.life ≡ old.uses.life
 
@@ -94,3 +102,53 @@ LacksOne upstream fec up old puts = settled_toward upstream fec (record { part =
 -- whether the end is up and its hold was run
 abbrev pub held_at : FinMap node_cmp End → NodeId → Bool
 held_at up peer = elim (maps.get up peer) [ None ↦ false | Some end ↦ end.held ]
+
+-- ---- a row of trees that settle
+
+-- a node with these trees and ends, and what it puts
+abbrev pub stepped_of : Trees → FinMap node_cmp End → List Put → Stepped
+stepped_of trees up puts = record { part = part_of trees up; puts = puts }
+
+-- The trees settled one after another, whichever way the core is told. What ties the parts holds still.
+pub record AllSettledSo (core : Topology) (place : NodePlace) (fecs : List Fec) (ends : Ends)
+    (old : Trees) (puts : List Put) (new : Trees) (told : List Put) : Type 0 where
+  pub made : (own : Core) → IsCoreOf core.nodes core.links own
+      → settle_all (place_in place own) fecs (stepped_of old ends.up puts) ≡ Some (stepped_of new ends.up told)
+  pub tied : AreTied new ends
+  pub life : new.uses.life ≡ old.uses.life
+  pub written : All IsPut told
+
+-- one of the trees needs a label and none is free
+abbrev pub LacksAny : Topology → NodePlace → List Fec → Ends → Trees → List Put → Type 0
+LacksAny core place fecs ends old puts =
+    (own : Core) → IsCoreOf core.nodes core.links own → settle_all (place_in place own) fecs (stepped_of old ends.up puts) ≡ None
+
+-- The trees settled, and what was put is told then.
+pub record Finished (core : Topology) (place : NodePlace) (fecs : List Fec)
+    (old : Trees) (ends : Ends) (puts : List Put) (new : Trees) (new_ends : Ends) : Type 0 where
+  pub told : List Put
+  pub settled : AllSettledSo core place fecs ends old puts new told
+  pub over : new_ends ≡ with_puts (addr_in place) ends told
+
+-- ---- calls
+
+-- a node that is not spent
+abbrev pub node_of : Trees → Ends → LabelNode
+node_of trees ends = record { part = part_of trees ends.up; raises = ends.raises; waiting = ends.waiting; spent = None }
+
+-- the call was made, whichever way the core is told
+pub record Made (core : Topology) (place : NodePlace) (now : ℕ) (call : Call)
+    (old : Trees) (old_ends : Ends) (new : Trees) (new_ends : Ends) : Type 0 where
+  pub made : (own : Core) → IsCoreOf core.nodes core.links own → called place own now (node_of old old_ends) call ≡ node_of new new_ends
+  pub tied : AreTied new new_ends
+  pub life : new.uses.life ≡ old.uses.life
+
+-- the call needs more labels than are free
+abbrev pub LacksLabels : Topology → NodePlace → ℕ → Call → Trees → Ends → Type 0
+LacksLabels core place now call old ends =
+    (own : Core) → IsCoreOf core.nodes core.links own → label_step (place_in place own) now (part_of old ends.up) call ≡ None
+
+-- the message has a spelling: one that says nothing of a multipoint LSP always has
+abbrev pub IsSpelled : LabelMessage → Type 0
+IsSpelled (messages.Ignored kind) = Unit {0}
+IsSpelled other = IsWritable other

@@ -1,5 +1,5 @@
 //! A tree that settles (RFC 6388 sections 2.4.1.1 and 2.4.2.1).
-ghost use Rattle.std.specs.Prelude.{◌≡◌, ◌++◌, ◌∷◌, [], true, is_some, None, Some, OnOk};
+ghost use Rattle.std.specs.Prelude.{◌≡◌, ◌++◌, ◌∷◌, [], true, length, is_some, None, Some, All, OnOk};
 ghost use Rattle.std.specs.FinMap as maps;
 ghost use Rattle.std.specs.FinMap.{FinMap};
 ghost use Rattle.mv_base.specs.declared.ids.NodeId.{NodeId};
@@ -8,9 +8,11 @@ ghost use Rattle.label_defs.specs.Keys.{node_cmp};
 ghost use Rattle.label_defs.specs.declared.change.Change.TheVariants as changes;
 ghost use Rattle.label_defs.specs.Settling.{upstream_of, same_neighbour, change_by, withdrawn};
 ghost use Rattle.label_uses.specs.Uses.{use_in, free_in, mapped_in};
-ghost use Rattle.mldp_node.specs.Parts.{held_at, Turned, SettledSo, LacksOne};
+ghost use Rattle.mldp_node.specs.Parts.{held_at, AllSettledSo, AreTied, IsPut, LacksAny, LacksOne, SettledSo, Turned};
 
 use crate::fault::NodeFault;
+use crate::standing::Standing;
+use core_paths::Core;
 use label_defs::Put;
 use label_ends::Ends;
 use label_trees::LabelTrees;
@@ -55,7 +57,8 @@ fn withdraw(
     puts: &mut Vec<Put>,
 ) -> Result<(), NoMemory>
     requires { mapped_in trees.old.uses.labels fec.now ≡ Some label }
-    ensures { OnOk result (Turned fec.now (withdrawn label (upstream_of (use_in trees.old.uses.labels label))) trees.old puts.old.items trees.new puts.new.items) }
+    ensures { OnOk result (Turned fec.now (withdrawn label (upstream_of (use_in trees.old.uses.labels label)))
+        trees.old puts.old.items trees.new puts.new.items) }
 {
     match trees.upstream(label) {
         None => Ok(()),
@@ -75,7 +78,8 @@ fn map(
 ) -> Result<(), NodeFault>
     requires up { is_some (maps.get trees.old.uses.sessions upstream) ≡ true }
     requires unmapped { mapped_in trees.old.uses.labels fec.now ≡ None }
-    ensures ok { OnOk result (Turned fec.now (change_by true None None (Some upstream) true (free_in trees.old.uses.labels)) trees.old puts.old.items trees.new puts.new.items) }
+    ensures ok { OnOk result (Turned fec.now (change_by true None None (Some upstream) true (free_in trees.old.uses.labels))
+        trees.old puts.old.items trees.new puts.new.items) }
     ensures lacks { result ≡ Err NodeFault.NoLabel → free_in trees.old.uses.labels ≡ None }
 {
     match trees.map(fec, upstream)? {
@@ -88,7 +92,12 @@ fn map(
 }
 
 /// The tree waits for a label towards the neighbour.
-fn wait(trees: &mut LabelTrees, fec: &Fec, upstream: NodeId, puts: &Vec<Put>) -> Result<(), NoMemory>
+fn wait(
+    trees: &mut LabelTrees,
+    fec: &Fec,
+    upstream: NodeId,
+    puts: &Vec<Put>,
+) -> Result<(), NoMemory>
     ensures { OnOk result (Turned fec.now changes.Wait trees.old puts.now.items trees.new puts.now.items) }
 {
     trees.wait(fec, upstream)
@@ -112,7 +121,8 @@ fn reach(
     requires up { is_some (maps.get trees.old.uses.sessions upstream) ≡ is_some (maps.get ends.now.up upstream) }
     requires unmapped { mapped_in trees.old.uses.labels fec.now ≡ None }
     ensures ok { OnOk result (Turned fec.now
-        (change_by true None None (Some upstream) (held_at ends.now.up upstream) (free_in trees.old.uses.labels)) trees.old puts.old.items trees.new puts.new.items) }
+        (change_by true None None (Some upstream) (held_at ends.now.up upstream) (free_in trees.old.uses.labels))
+        trees.old puts.old.items trees.new puts.new.items) }
     ensures lacks { result ≡ Err NodeFault.NoLabel →
         change_by true None None (Some upstream) (held_at ends.now.up upstream) (free_in trees.old.uses.labels) ≡ changes.NoLabel }
 {
@@ -190,4 +200,46 @@ pub(crate) fn settle(
             Ok(())
         }
     }
+}
+
+/// The tree settles, by the neighbour that the core gives.
+pub(crate) fn settle_tree(
+    place: &Standing,
+    core: &Core,
+    trees: &mut LabelTrees,
+    ends: &Ends,
+    fec: &Fec,
+    puts: &mut Vec<Put>,
+) -> Result<(), NodeFault>
+    requires nodes { core.now.nodes ≡ length place.now.addrs }
+    requires tied { AreTied trees.old ends.now }
+    requires written { All IsPut puts.old.items }
+    ensures ok { OnOk result (AllSettledSo core.now place.now (fec.now ∷ []) ends.now trees.old puts.old.items trees.new puts.new.items) }
+    ensures lacks { result ≡ Err NodeFault.NoLabel → LacksAny core.now place.now (fec.now ∷ []) ends.now trees.old puts.old.items }
+{
+    let upstream = place.upstream(core, fec);
+    settle(trees, ends, fec, upstream, puts)
+}
+
+/// The trees settle one after another.
+pub(crate) fn settle_all(
+    place: &Standing,
+    core: &Core,
+    trees: &mut LabelTrees,
+    ends: &Ends,
+    fecs: &[Fec],
+    puts: &mut Vec<Put>,
+) -> Result<(), NodeFault>
+    requires nodes { core.now.nodes ≡ length place.now.addrs }
+    requires tied { AreTied trees.old ends.now }
+    requires written { All IsPut puts.old.items }
+    ensures ok { OnOk result (AllSettledSo core.now place.now fecs.now ends.now trees.old puts.old.items trees.new puts.new.items) }
+    ensures lacks { result ≡ Err NodeFault.NoLabel → LacksAny core.now place.now fecs.now ends.now trees.old puts.old.items }
+{
+    for fec in fecs {
+        if let Err(fault) = settle_tree(place, core, trees, ends, fec, puts) {
+            return Err(fault);
+        }
+    }
+    Ok(())
 }

@@ -10,6 +10,7 @@ ghost use Rattle.mldp_node.specs.Standing.{IsPlace};
 use core_paths::Core;
 use mldp_fec::{Fec, FecKind};
 use mv_base::{Addr, NodeId, Seq};
+use std::alloc::Global;
 use std::marker::Model;
 
 /// Which of the nodes it is, the addresses of all nodes by number, and how long a copy may be on a link, in ticks.
@@ -66,6 +67,11 @@ impl Standing {
         ensures { result ≡ record { me = me; addrs = addrs; life = life } }
     {
         Standing { me, addrs, life }
+    }
+
+    /// The allocator of the node.
+    pub(crate) fn alloc(&self) -> Global {
+        self.addrs.alloc()
     }
 
     /// How long a copy may be on a link.

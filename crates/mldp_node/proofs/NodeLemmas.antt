@@ -1,0 +1,85 @@
+-- What the calls of a node answer.
+use Rattle.std.proofs.Common.{◌≡◌, ℕ, ◌≤◌, Bool, true, false, cond, replicate, length, List, Option, Some, None, is_some, option_map, Result, Ok, Err, refl, sym, ap, subst, ◌∙◌}
+use Rattle.std.specs.FinMap as maps
+use Rattle.std.specs.FinMap.{FinMap}
+use Rattle.std.specs.FinSet as sets
+use Rattle.std.proofs.lemmas.Option.{none-some}
+use Rattle.std.proofs.lemmas.List.{length-replicate}
+use Rattle.mv_base.specs.declared.ids.NodeId.{NodeId}
+use Rattle.core_walks.specs.Core.{Core, IsCoreOf}
+use Rattle.core_walks.specs.Topology.{Topology}
+use Rattle.mldp_fec.specs.declared.fec.Fec.{Fec}
+use Rattle.label_defs.specs.declared.label_use.LabelUse.{LabelUse}
+use Rattle.label_defs.specs.declared.label_use.LabelUse.TheVariants as uses
+use Rattle.label_defs.specs.Keys.{fec_cmp, branch_cmp, node_cmp}
+use Rattle.label_defs.specs.LabelData.{fresh}
+use Rattle.label_defs.specs.Node.{NodePlace, LacksLabel, raises_of, addr_in, place_in, prepared, behind, called}
+use Rattle.label_defs.specs.Settling.{Stepped}
+use Rattle.label_defs.specs.Steps.{Call}
+use Rattle.label_defs.proofs.KeyLemmas.{fec_cmp_total, fec_cmp_exact}
+use Rattle.label_defs.proofs.UseLemmas.{used_some}
+use Rattle.label_defs.proofs.StepLemmas.{all_free}
+use Rattle.label_trees.specs.Trees.{Trees, untouched}
+use Rattle.label_ends.specs.Ends.{Ends, all_down}
+use Rattle.mldp_node.specs.declared.fault.NodeFault.{NodeFault}
+use Rattle.mldp_node.specs.declared.fault.NodeFault.TheVariants as faults
+use Rattle.mldp_node.specs.Parts.{awaited, part_of, node_of, AreTied, Made, LacksLabels}
+use Rattle.mldp_node.specs.NodeData.{NodeData, seen, cause, Answers}
+use Rattle.mldp_node.proofs.PartLemmas.{awaited_is}
+
+fault_is : (a b : NodeFault) → ◌≡◌ {A = Result (Unit {0}) NodeFault} (Err a) (Err b) → a ≡ b
+fault_is a b e = cc
+
+pub answers_ok : (core : Topology) (now : ℕ) (call : Call) (place : NodePlace) (trees : Trees) (ends : Ends) (new_trees : Trees) (new_ends : Ends) (old : NodeData) (spent : Option NodeFault)
+    → spent ≡ None → seen place trees ends spent ≡ old → Made core place now call trees ends new_trees new_ends → Answers core now call old (seen place new_trees new_ends spent) (Ok tt)
+answers_ok core now call place trees ends new_trees new_ends old spent none is h =
+    subst (λ (n : NodeData). Answers core now call n (seen place new_trees new_ends spent) (Ok tt)) is
+    (subst (λ (s : Option NodeFault). Answers core now call (seen place trees ends s) (seen place new_trees new_ends s) (Ok tt)) (sym none) (record {
+      place = refl;
+      before = λ fault e. absurd (none-some (cause fault) e);
+      unspent = refl;
+      made = λ own core_is. sym (h.made own core_is);
+      goes_on = refl;
+      lacks = λ e. absurd cc;
+      faults = λ fault e. absurd cc;
+    }))
+
+pub answers_err : (core : Topology) (now : ℕ) (call : Call) (place : NodePlace) (trees : Trees) (ends : Ends) (new_trees : Trees) (new_ends : Ends) (old : NodeData) (spent : Option NodeFault) (fault : NodeFault)
+    → spent ≡ None → seen place trees ends spent ≡ old → (◌≡◌ {A = Result (Unit {0}) NodeFault} (Err fault) (Err faults.NoLabel) → LacksLabels core place now call trees ends)
+    → Answers core now call old (seen place new_trees new_ends (Some fault)) (Err fault)
+answers_err core now call place trees ends new_trees new_ends old spent fault none is lacks =
+    subst (λ (n : NodeData). Answers core now call n (seen place new_trees new_ends (Some fault)) (Err fault)) is
+    (subst (λ (s : Option NodeFault). Answers core now call (seen place trees ends s) (seen place new_trees new_ends (Some fault)) (Err fault)) (sym none) (record {
+      place = refl;
+      before = λ other e. absurd (none-some (cause other) e);
+      unspent = tt;
+      made = tt;
+      goes_on = tt;
+      lacks = λ e n own core_is. ap (λ (o : Option Stepped). (behind (addr_in place) (place_in place own) now (prepared call (node_of trees ends)) call o).spent) (lacks e own core_is);
+      faults = λ other e. ap (λ (f : NodeFault). Some (cause f)) (fault_is fault other e);
+    }))
+
+-- ---- a fresh node
+
+no_waiting : awaited (maps.empty {R = fec_cmp}) ≡ sets.empty
+no_waiting = sets.same_set fec_cmp_total fec_cmp_exact _ _ (λ q. awaited_is maps.empty q ∙ ap is_some (maps.get-empty fec_cmp q) ∙ sym (sets.contains-empty fec_cmp q))
+
+pub fresh_part : (life count : ℕ) → part_of (untouched life count) maps.empty ≡ fresh count
+fresh_part life count = λ i. record { labels = replicate count uses.Free; branches = sets.empty; leaves = sets.empty; waiting = no_waiting i; ends = maps.empty }
+
+not_in : {K : Type 0} (R : K → K → _) (q : K) → sets.contains (sets.empty {R = R}) q ≡ true → ⊥
+not_in R q e = (let none = sets.contains-empty R q in let both : false ≡ true = sym none ∙ e in absurd cc)
+
+not_mapped : (fec : Fec) (upstream : NodeId) → uses.Mapped fec upstream ≡ uses.Free → ⊥
+not_mapped fec upstream e = absurd cc
+
+pub fresh_tied : (life count : ℕ) → count ≤ 65536 → AreTied (untouched life count) all_down
+fresh_tied life count few = record {
+  sessions = λ peer. maps.get-empty node_cmp peer ∙ sym (ap (λ o. cond (is_some o) (Some (record { 0 = raises_of maps.empty peer })) None) (maps.get-empty node_cmp peer));
+  spelled = record {
+    leaves = λ f e. absurd (not_in fec_cmp f e);
+    branches = λ b e. absurd (not_in branch_cmp b e);
+    mapped = λ f l u e. absurd (not_mapped f u (all_free count _ (uses.Mapped f u) (used_some (replicate count uses.Free) l (uses.Mapped f u) e).1));
+    few = subst (λ n. n ≤ 65536) (sym (length-replicate count uses.Free)) few;
+  };
+}

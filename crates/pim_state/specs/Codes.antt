@@ -43,10 +43,14 @@ entry_back (Source source group) = refl
 entry_back (Rpt source group) = refl
 
 abbrev entry_code : Coded JoinEntry
-entry_code = code_by (Addr ⊎ ((Addr × Addr) ⊎ (Addr × Addr))) (coded⊎ addr_code (coded⊎ (coded× addr_code addr_code) (coded× addr_code addr_code))) entry_to entry_from entry_back
+entry_code =
+    code_by (Addr ⊎ ((Addr × Addr) ⊎ (Addr × Addr)))
+    (coded⊎ addr_code (coded⊎ (coded× addr_code addr_code) (coded× addr_code addr_code))) entry_to entry_from entry_back
 
 abbrev iface_entry_code : Coded IfaceEntry
-iface_entry_code = code_by (ℕ × JoinEntry) (coded× coded_ℕ entry_code) (λ at. (at.iface.0, at.entry)) (λ pair. record { iface = record { 0 = pair.0 }; entry = pair.1 }) (λ _. refl)
+iface_entry_code =
+    code_by (ℕ × JoinEntry) (coded× coded_ℕ entry_code) (λ at. (at.iface.0, at.entry))
+    (λ pair. record { iface = record { 0 = pair.0 }; entry = pair.1 }) (λ _. refl)
 
 abbrev expiry_to : Expiry → Option ℕ
 expiry_to (At moment) = Some moment

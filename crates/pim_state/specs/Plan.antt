@@ -37,7 +37,8 @@ is_among list entry = list_any (is_entry entry) list
 
 -- what is said of an entry where these are joined and those are pruned
 abbrev pub mention_in : List JoinEntry → List JoinEntry → JoinEntry → Mention
-mention_in joined pruned entry = record { joined = is_among joined entry; pruned = is_among pruned entry; shared = is_among joined (Star (group_of entry)) }
+mention_in joined pruned entry =
+    record { joined = is_among joined entry; pruned = is_among pruned entry; shared = is_among joined (Star (group_of entry)) }
 
 -- The arrival tells what the message joins and prunes.
 pub record Tells (arrival : Arrival) (message : JoinPrune) : Type 0 where

@@ -126,7 +126,9 @@ impl Arrival {
     ) -> Result<(), NoMemory>
         requires clock { self.now.clock < 2 ^ 63 }
         requires unique { IsUnique is_at changes.old }
-        ensures each { (at : IfaceEntry) → OnOk result (get is_at changes.new at ≡ told_at self.now entries.now (is_named self.now (entry ∷ []) at) (get is_at changes.old at) at) }
+        ensures each { (at : IfaceEntry) →
+            OnOk result (get is_at changes.new at
+            ≡ told_at self.now entries.now (is_named self.now (entry ∷ []) at) (get is_at changes.old at) at) }
         ensures unique { IsUnique is_at changes.new }
     {
         let at = IfaceEntry {
@@ -147,7 +149,9 @@ impl Arrival {
     ) -> Result<(), NoMemory>
         requires clock { self.now.clock < 2 ^ 63 }
         requires unique { IsUnique is_at changes.old }
-        ensures each { (at : IfaceEntry) → OnOk result (get is_at changes.new at ≡ told_at self.now entries.now (is_named self.now named.now at) (get is_at changes.old at) at) }
+        ensures each { (at : IfaceEntry) →
+            OnOk result (get is_at changes.new at
+            ≡ told_at self.now entries.now (is_named self.now named.now at) (get is_at changes.old at) at) }
         ensures unique { IsUnique is_at changes.new }
     {
         for entry in named {
@@ -177,7 +181,8 @@ impl Arrival {
     ) -> Result<(), NoMemory>
         requires clock { self.now.clock < 2 ^ 63 }
         requires unique { IsUnique is_at changes.old }
-        ensures each { (other : IfaceEntry) → OnOk result (get is_at changes.new other ≡ told_at self.now entries.now (ends_among self.now (at.now ∷ []) other) (get is_at changes.old other) other) }
+        ensures each { (other : IfaceEntry) → OnOk result (get is_at changes.new other
+            ≡ told_at self.now entries.now (ends_among self.now (at.now ∷ []) other) (get is_at changes.old other) other) }
         ensures unique { IsUnique is_at changes.new }
     {
         if self.may_end(at) {
@@ -195,7 +200,8 @@ impl Arrival {
     ) -> Result<(), NoMemory>
         requires clock { self.now.clock < 2 ^ 63 }
         requires unique { IsUnique is_at changes.old }
-        ensures each { (at : IfaceEntry) → OnOk result (get is_at changes.new at ≡ told_at self.now entries.now (ends_among self.now (keys entries.now) at) (get is_at changes.old at) at) }
+        ensures each { (at : IfaceEntry) → OnOk result (get is_at changes.new at
+            ≡ told_at self.now entries.now (ends_among self.now (keys entries.now) at) (get is_at changes.old at) at) }
         ensures unique { IsUnique is_at changes.new }
     {
         let present = entries.keys().as_slice();
@@ -223,7 +229,8 @@ impl Arrival {
     ) -> Result<(), NoMemory>
         requires clock { self.now.clock < 2 ^ 63 }
         requires unique { IsUnique is_at changes.old }
-        ensures each { (at : IfaceEntry) → OnOk result (get is_at changes.new at ≡ told_at self.now entries.now (ends_among self.now (keys entries.now) at) (get is_at changes.old at) at) }
+        ensures each { (at : IfaceEntry) → OnOk result (get is_at changes.new at
+            ≡ told_at self.now entries.now (ends_among self.now (keys entries.now) at) (get is_at changes.old at) at) }
         ensures unique { IsUnique is_at changes.new }
     {
         if self.joins_shared() {
@@ -240,7 +247,9 @@ impl Arrival {
         entries: &IndexMap<IfaceEntry, Expiry>,
     ) -> Result<Changes, NoMemory>
         requires { self.now.clock < 2 ^ 63 }
-        ensures { (message : JoinPrune) → Tells self.now message → IfOk result (λ changes. changed_by (from_entries entries.now.entries) changes.entries ≡ applied (from_entries entries.now.entries) self.now.iface message self.now.clock) }
+        ensures { (message : JoinPrune) → Tells self.now message →
+            IfOk result (λ changes. changed_by (from_entries entries.now.entries) changes.entries
+            ≡ applied (from_entries entries.now.entries) self.now.iface message self.now.clock) }
     {
         let mut changes = IndexMap::new(alloc);
         self.plan_named(entries, self.joins.as_slice(), &mut changes)?;

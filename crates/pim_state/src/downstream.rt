@@ -1,10 +1,12 @@
 //! The entries of an edge's interfaces.
 ghost use Rattle.std.specs.Prelude.{◌≡◌, ◌<◌, ◌≤◌, ◌^◌, ◌&&◌, not, true, false, not, count_by, is_some, Err, IfOk, OnOk, OnErr};
-ghost use Rattle.std.specs.FinMap.{empty, len};
+ghost use Rattle.std.specs.FinMap.{empty, from_entries, len};
+ghost use Rattle.indexmap.specs.IndexMap.{IsUnique};
 ghost use Rattle.pim_defs.specs.Expiry.{is_after};
 ghost use Rattle.scenario_defs.specs.declared.event.JoinEntry.TheVariants as entries;
 ghost use Rattle.pim_defs.specs.Expiry.{counts};
 ghost use Rattle.pim_defs.specs.Entries.{applied, are_too_many, asks, due, expiry_at, kept_at};
+ghost use Rattle.pim_state.specs.Plan.{is_at};
 
 use crate::arrival::Arrival;
 use crate::changes::{apply, count_after};
@@ -137,7 +139,8 @@ impl Downstream {
 
     /// Whether the interface has joined the shared tree of the group and has not pruned the source off it.
     fn asks_shared(&self, iface: IfaceId, source: Addr, group: Addr, now: u64) -> bool
-        ensures { result ≡ (counts now (expiry_at self.now iface (entries.Star group)) && not (counts now (expiry_at self.now iface (entries.Rpt source group)))) }
+        ensures { result ≡ (counts now (expiry_at self.now iface (entries.Star group))
+            && not (counts now (expiry_at self.now iface (entries.Rpt source group)))) }
     {
         counts(now, self.expiry_at(iface, JoinEntry::Star { group }))
             && !counts(now, self.expiry_at(iface, JoinEntry::Rpt { source, group }))
@@ -163,6 +166,14 @@ impl Downstream {
         ensures few { result ≤ 1024 }
     {
         self.entries.len() as u32
+    }
+
+    /// The expiry of each entry, in no order that means anything.
+    pub fn expiries(&self) -> &IndexMap<IfaceEntry, Expiry>
+        ensures entries { from_entries result.now.entries ≡ self.now }
+        ensures unique { IsUnique is_at result.now }
+    {
+        &self.entries
     }
 
     /// Whether the entry of the interface is there.

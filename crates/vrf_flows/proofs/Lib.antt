@@ -1,0 +1,5 @@
+pub mod FlowLemmas
+pub mod TreeLemmas
+pub mod SetLemmas
+pub mod StateLemmas
+pub mod CostLemmas

@@ -1,0 +1,151 @@
+-- The state as plain data.
+use Rattle.std.proofs.Common.{◌≡◌, ℕ, Result, Ok, Err, OnErr, Bool, true, false, cond, ◌||◌, List, [], ◌∷◌, filter, Option, None, Some, refl, sym, ap, subst, ◌∙◌}
+use Rattle.std.specs.List.{list_any, AllByRecursion, IsDistinct}
+use Rattle.std.specs.Map.{lookup, keys_of}
+use Rattle.std.specs.FinMap as maps
+use Rattle.std.specs.FinMap.{find, from_entries, get-from_entries, same_map}
+use Rattle.std.proofs.lemmas.Bool.{or_parts}
+use Rattle.std.proofs.lemmas.Map.Keys.{IsDistinct-head, IsDistinct-tail}
+use Rattle.scenario_defs.specs.declared.event.IfaceEntry.{IfaceEntry}
+use Rattle.pim_defs.specs.declared.expiry.Expiry.{Expiry}
+use Rattle.indexmap.specs.IndexMap.{get, IsUnique}
+use Rattle.mv_base.specs.declared.ids.NodeId.{NodeId}
+use Rattle.mv_base.specs.declared.rd.Rule.{Rule}
+use Rattle.mv_base.specs.declared.rd.Rule.TheVariants.{Highest, Nearest, Hash}
+use Rattle.choice_defs.specs.Choice.{best_route, cost_by}
+use Rattle.umh_select.specs.declared.route.Choice.{Choice}
+use Rattle.umh_select.specs.Routes.{Routes, chosen, known}
+use Rattle.tree_defs.specs.declared.flow.Flow.{Flow}
+use Rattle.tree_defs.specs.declared.flow.Note.{Note}
+use Rattle.tree_defs.specs.declared.flow.ActiveRoute.{ActiveRoute}
+use Rattle.tree_defs.specs.declared.flow.SiteIface.{SiteIface}
+use Rattle.tree_defs.specs.Keys.{same_flow, flow_cmp}
+use Rattle.tree_defs.specs.Flows.{asking, chosen_for, flow_of, is_active}
+use Rattle.tree_defs.proofs.KeyLemmas.{flow_total, flow_exact, flow_ties, same_flow_equal, note_total, note_exact, same_note, note_ties, active_total, active_exact, same_active, active_ties}
+use Rattle.vrf_flows.specs.declared.held.Held.{Held}
+use Rattle.vrf_flows.specs.declared.held.Kept.{Kept}
+use Rattle.vrf_flows.specs.declared.state.State.{State}
+use Rattle.vrf_flows.specs.Held.{FlowTable, Now, is_stale, kept_of, lapsed, marked}
+use Rattle.vrf_flows.specs.Sight.{asking_of, flow_by, ifaces_of, is_sent}
+use Rattle.vrf_flows.specs.Plan.{choice_in}
+use Rattle.vrf_flows.specs.State.{IsSentBy, IsSound, Keeps, compares_costs, flows_in, given_at, needed_in, vrf_of}
+use Rattle.vrf_flows.proofs.SetLemmas.{any-items}
+use Rattle.vrf_flows.proofs.FlowLemmas.{marked-again}
+use Rattle.vrf_flows.proofs.TreeLemmas.{absent-none, keeps-change, kept-change, lapse-same}
+
+-- ---- the flows among what is held
+
+lookup-apart : (q : Flow) (es : List (Flow × Held)) → AllByRecursion (λ k. same_flow q k ≡ false) (keys_of es) → lookup (same_flow q) es ≡ None
+lookup-apart q [] h = refl
+lookup-apart q (e ∷ es) h = rw h.0 (lookup-apart q es h.1)
+
+find-flows : (es : List (Flow × Held)) (q : Flow) → IsDistinct same_flow (keys_of es) → find flow_cmp q (flows_in es) ≡ choice_in (kept_of (lookup (same_flow q) es))
+find-flows [] q h = refl
+find-flows (e ∷ es) q h = by e.1.kept refl (find-flows es q (IsDistinct-tail same_flow e.0 (keys_of es) h))
+  where
+    gone : same_flow q e.0 ≡ true → lookup (same_flow q) es ≡ None
+    gone t = subst (λ (k : Flow). lookup (same_flow k) es ≡ None) (sym (same_flow_equal q e.0 t)) (lookup-apart e.0 es (IsDistinct-head same_flow e.0 (keys_of es) h))
+
+    none : (b : Bool) → same_flow q e.0 ≡ b → e.1.kept ≡ None → choice_in (kept_of (lookup (same_flow q) es)) ≡ choice_in (kept_of (cond b (Some e.1) (lookup (same_flow q) es)))
+    none true t k = ap (λ (o : Option Held). choice_in (kept_of o)) (gone t) ∙ sym (ap choice_in k)
+    none false t k = refl
+
+    some : (b : Bool) (kept : Kept) → e.1.kept ≡ Some kept → find flow_cmp q (flows_in es) ≡ choice_in (kept_of (lookup (same_flow q) es)) →
+        cond b (Some kept.choice) (find flow_cmp q (flows_in es)) ≡ choice_in (kept_of (cond b (Some e.1) (lookup (same_flow q) es)))
+    some true kept k rest = sym (ap choice_in k)
+    some false kept k rest = rest
+
+    by : (now : Now) → e.1.kept ≡ now → find flow_cmp q (flows_in es) ≡ choice_in (kept_of (lookup (same_flow q) es)) →
+        find flow_cmp q (elim now [ None ↦ flows_in es | Some kept ↦ (e.0, kept.choice) ∷ flows_in es ]) ≡ choice_in (kept_of (cond (same_flow q e.0) (Some e.1) (lookup (same_flow q) es)))
+    by None k rest = rest ∙ none (same_flow q e.0) refl k
+    by (Some kept) k rest = ap (λ (b : Bool). cond b (Some kept.choice) (find flow_cmp q (flows_in es))) (sym (flow_ties q e.0)) ∙ some (same_flow q e.0) kept k rest
+
+-- the choice of a flow that is kept
+pub flows-got : (flows : FlowTable) (q : Flow) → IsUnique same_flow flows → maps.get (from_entries {R = flow_cmp} (flows_in flows.entries)) q ≡ choice_in (kept_of (get same_flow flows q))
+flows-got flows q unique = get-from_entries flow_total (flows_in flows.entries) q ∙ find-flows flows.entries q unique
+
+-- Where each flow is kept as it was, the flows are the same.
+pub flows-same : (old new : FlowTable) → IsUnique same_flow old → IsUnique same_flow new → ((q : Flow) → kept_of (get same_flow new q) ≡ kept_of (get same_flow old q)) →
+    from_entries {R = flow_cmp} (flows_in new.entries) ≡ from_entries (flows_in old.entries)
+flows-same old new a b same = same_map flow_total flow_exact _ _ (λ q. flows-got new q b ∙ (ap choice_in (same q) ∙ sym (flows-got old q a)))
+
+-- ---- what is given
+
+choice-by : (test : SiteIface → Bool) (ifaces : List SiteIface) (choice : Choice) → choice_in (flow_by (filter test ifaces) choice) ≡ cond (list_any test ifaces) (Some choice) None
+choice-by test [] choice = refl
+choice-by test (own ∷ more) choice = by (test own) (choice-by test more choice)
+  where
+    by : (b : Bool) → choice_in (flow_by (filter test more) choice) ≡ cond (list_any test more) (Some choice) None →
+        choice_in (flow_by (cond b (own ∷ filter test more) (filter test more)) choice) ≡ cond (b || list_any test more) (Some choice) None
+    by true rest = refl
+    by false rest = rest
+
+-- What is known to be sent is the same in both.
+pub active-sent : (state : State) (q : Flow) → IsSentBy state.sent.keys state.notes.keys state.actives.keys → is_active (vrf_of state) q ≡ is_sent state.sent.keys q
+active-sent state q sent =
+    (λ i. any-items note_total note_exact same_note note_ties (λ (note : Note). same_flow note.flow q) state.notes.keys i
+    || any-items active_total active_exact same_active active_ties (λ (route : ActiveRoute). same_flow route.flow q) state.actives.keys i) ∙ sym (sent q)
+
+pub given-flow : (state : State) (cost : NodeId → ℕ) (clock : ℕ) (q : Flow) → IsSentBy state.sent.keys state.notes.keys state.actives.keys → choice_in (given_at state cost clock q) ≡ flow_of (vrf_of state) cost clock q
+given-flow state cost clock q sent =
+    (λ i. choice_in (flow_by (asking_of state.ifaces state.entries (sym (active-sent state q sent) i) clock q) (chosen_for state.routes cost q)))
+    ∙ choice-by _ state.ifaces (chosen_for state.routes cost q)
+
+-- ---- costs
+
+-- By a rule that does not compare costs the choice is the same by any.
+pub steady : (routes : Routes) (cost other : NodeId → ℕ) (q : Flow) → compares_costs routes.rule ≡ false → chosen_for routes cost q ≡ chosen_for routes other q
+steady routes cost other q h = by routes.rule h
+  where
+    by : (rule : Rule) → compares_costs rule ≡ false →
+        chosen routes.learned (best_route (cost_by rule cost (known routes) q.source q.group) (known routes) q.source) ≡ chosen routes.learned (best_route (cost_by rule other (known routes) q.source q.group) (known routes) q.source)
+    by Highest s = refl
+    by Nearest s = absurd cc
+    by Hash s = refl
+
+-- ---- what is kept
+
+ifaces-by : (list : List SiteIface) (choice : Choice) → ifaces_of (flow_by list choice) ≡ list
+ifaces-by [] choice = refl
+ifaces-by (own ∷ more) choice = refl
+
+-- the interfaces that ask, in both words
+pub asking-same : (state : State) (now : ℕ) (q : Flow) → IsSentBy state.sent.keys state.notes.keys state.actives.keys → asking_of state.ifaces state.entries (is_sent state.sent.keys q) now q ≡ asking (vrf_of state) now q
+asking-same state now q sent = λ i. asking_of state.ifaces state.entries (sym (active-sent state q sent) i) now q
+
+-- What is kept of a flow that is not stale are the interfaces that ask for it.
+pub kept-asking : (state : State) (now : ℕ) (q : Flow) → IsSound state → now ≡ state.clock → is_stale (get same_flow state.flows q) ≡ false → ifaces_of (kept_of (get same_flow state.flows q)) ≡ asking (vrf_of state) now q
+kept-asking state now q sound clock fresh =
+    ap ifaces_of (sound.keeps.fresh q fresh)
+    ∙ (ifaces-by (asking_of state.ifaces state.entries (is_sent state.sent.keys q) state.clock q) (chosen_for state.routes sound.cost q)
+    ∙ ((λ i. asking_of state.ifaces state.entries (is_sent state.sent.keys q) (sym clock i) q) ∙ asking-same state now q sound.sent))
+
+-- ---- refresh
+
+-- With what lapsed marked, and all where costs are compared, what is held is what is given at another clock and by other costs.
+pub mid-keeps : (old : State) (held : Flow → Option Held) (es : List (IfaceEntry × Expiry)) (now : ℕ) (cost : NodeId → ℕ) → IsSound old → from_entries es ≡ old.entries →
+    ((q : Flow) → held q ≡ marked (list_any (lapsed old.clock now q) es) (marked (compares_costs old.rule) (get same_flow old.flows q))) → Keeps held (given_at old cost now) (needed_in old)
+mid-keeps old held es now cost sound listed each =
+    keeps-change (get same_flow old.flows) held (λ q. compares_costs old.rule || list_any (lapsed old.clock now q) es) (given_at old sound.cost old.clock) (given_at old cost now) (needed_in old) (needed_in old) sound.keeps
+    (λ q. each q ∙ marked-again (compares_costs old.rule) (list_any (lapsed old.clock now q) es) (get same_flow old.flows q))
+    (λ q h.
+    let both = or_parts (compares_costs old.rule) (list_any (lapsed old.clock now q) es) h in
+    lapse-same old.ifaces es old.entries old.sent.keys (chosen_for old.routes sound.cost) (chosen_for old.routes cost) old.clock now q listed
+    (steady old.routes sound.cost cost q (sym (ap compares_costs sound.rule) ∙ both.0)) both.1)
+    sound.keeps.needed
+    (λ q h. absent-none old.ifaces old.entries old.sent.keys (chosen_for old.routes cost) now q h)
+
+-- What is kept of a flow then is what was.
+pub mid-kept : (old : State) (held : Flow → Option Held) (es : List (IfaceEntry × Expiry)) (now : ℕ) →
+    ((q : Flow) → held q ≡ marked (list_any (lapsed old.clock now q) es) (marked (compares_costs old.rule) (get same_flow old.flows q))) → (q : Flow) → kept_of (held q) ≡ kept_of (get same_flow old.flows q)
+mid-kept old held es now each q = kept-change _ _ _ (each q) ∙ kept-change (compares_costs old.rule) (get same_flow old.flows q) _ refl
+
+-- the choice of a flow before, by what is kept of it
+pub before-flow : (old : State) (kept : Now) (q : Flow) → IsUnique same_flow old.flows → kept ≡ kept_of (get same_flow old.flows q) → choice_in kept ≡ maps.get (vrf_of old).flows q
+before-flow old kept q unique e = ap choice_in e ∙ sym (flows-got old.flows q unique)
+
+-- ---- answers
+
+pub on-err : {X E P : Type 0} (result : Result X E) → P → OnErr result P
+on-err (Ok x) p = tt
+on-err (Err e) p = p

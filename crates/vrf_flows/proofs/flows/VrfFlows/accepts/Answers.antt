@@ -1,0 +1,7 @@
+use Rattle.std.proofs.Common.{subst, sym}
+use Rattle.umh_select.specs.Routes.{AreOfCore}
+use Rattle.tree_defs.specs.Flows.{VrfData}
+use Rattle.vrf_flows.proofs.flows.VrfFlows.accepts.Goals as goal
+
+pub accepts-requires-clause-peers : goal.accepts-requires-clause-peers
+accepts-requires-clause-peers c = subst (λ (v : VrfData). AreOfCore c.args.core.now.nodes v.routes.learned) (sym c.self.view_is) c.requires.peers

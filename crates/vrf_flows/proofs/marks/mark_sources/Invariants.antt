@@ -1,0 +1,12 @@
+use Rattle.std.proofs.Common.{◌≡◌, take}
+use Rattle.indexmap.specs.IndexMap.{get, IsUnique}
+use Rattle.tree_defs.specs.declared.flow.Flow.{Flow}
+use Rattle.tree_defs.specs.Keys.{same_flow}
+use Rattle.vrf_flows.specs.Held.{names, marked}
+use Rattle.vrf_flows.proofs.marks.mark_sources.Given as goal
+
+abbrev pub invariant-loop-source : goal.invariant-loop-source
+invariant-loop-source l = record {
+  each : (q : Flow) → get same_flow l.flows q ≡ marked (names l.group (take l.source-index l.sources) q) (get same_flow l.initial.flows q);
+  unique : IsUnique same_flow l.flows;
+}

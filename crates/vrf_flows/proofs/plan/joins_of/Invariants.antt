@@ -1,0 +1,12 @@
+use Rattle.std.proofs.Common.{◌≡◌, None, Some}
+use Rattle.indexmap.specs.IndexMap.{get, IsUnique}
+use Rattle.tree_defs.specs.declared.flow.Flow.{Flow}
+use Rattle.tree_defs.specs.Keys.{same_flow}
+use Rattle.vrf_flows.specs.Plan.{puts, gain}
+use Rattle.vrf_flows.proofs.plan.joins_of.Given as goal
+
+abbrev pub invariant-loop-flow : goal.invariant-loop-flow
+invariant-loop-flow l = record {
+  each : (q : Flow) → puts (λ flow now. gain (get same_flow l.flows flow) (Some now)) l.flow-iterator (get same_flow l.joins q) q ≡ puts (λ flow now. gain (get same_flow l.flows flow) (Some now)) l.plan.entries None q;
+  unique : IsUnique same_flow l.joins;
+}

@@ -1,0 +1,13 @@
+use Rattle.std.proofs.Common.{◌≡◌}
+use Rattle.indexmap.specs.IndexMap.{get, IsUnique}
+use Rattle.tree_defs.specs.declared.flow.Flow.{Flow}
+use Rattle.tree_defs.specs.Keys.{same_flow}
+use Rattle.vrf_flows.specs.Sight.{needs}
+use Rattle.vrf_flows.specs.Plan.{sets, settled_by}
+use Rattle.vrf_flows.proofs.plan.settle.Given as goal
+
+abbrev pub invariant-loop-flow : goal.invariant-loop-flow
+invariant-loop-flow l = record {
+  each : (q : Flow) → sets (λ flow now. settled_by (needs l.sight flow) now) l.flow-iterator (get same_flow l.flows q) q ≡ sets (λ flow now. settled_by (needs l.sight flow) now) l.fn.plan.entries (get same_flow l.initial.flows q) q;
+  unique : IsUnique same_flow l.flows;
+}

@@ -1,0 +1,5 @@
+pub mod Held
+pub mod Sight
+pub mod Plan
+pub mod State
+pub mod Codes

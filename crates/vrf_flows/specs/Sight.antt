@@ -1,0 +1,51 @@
+-- What flows are recomputed from.
+use Rattle.std.specs.Prelude.{ℕ, ◌||◌, is_some, Bool, List, [], ◌∷◌, None, Some}
+use Rattle.std.specs.List.{list_any, filter}
+use Rattle.mv_base.specs.declared.ids.NodeId.{NodeId}
+use Rattle.pim_defs.specs.Entries.{Entries, expiry_at, asks}
+use Rattle.scenario_defs.specs.declared.event.JoinEntry.TheVariants.{Source}
+use Rattle.umh_select.specs.declared.route.Choice.{Choice}
+use Rattle.tree_defs.specs.declared.flow.Flow.{Flow}
+use Rattle.tree_defs.specs.declared.flow.SiteIface.{SiteIface}
+use Rattle.tree_defs.specs.Keys.{same_flow}
+use Rattle.tree_defs.specs.Flows.{chosen_for}
+use Rattle.vrf_flows.specs.declared.sight.Sight.{Sight}
+use Rattle.vrf_flows.specs.Held.{Now}
+
+-- those of the interfaces that ask for the flow, where its source is known to send or not
+abbrev pub asking_of : List SiteIface → Entries → Bool → ℕ → Flow → List SiteIface
+asking_of ifaces entries active clock flow =
+    filter (λ (own : SiteIface). asks entries own.iface flow.source flow.group active clock) ifaces
+
+-- a flow that these interfaces ask for; none without an interface
+abbrev pub flow_by : List SiteIface → Choice → Now
+flow_by [] choice = None
+flow_by (own ∷ more) choice = Some (record { choice = choice; ifaces = own ∷ more })
+
+abbrev pub ifaces_of : Now → List SiteIface
+ifaces_of None = []
+ifaces_of (Some kept) = kept.ifaces
+
+-- whether one of the interfaces has an entry that joins the flow itself
+abbrev pub is_joined : List SiteIface → Entries → Flow → Bool
+is_joined ifaces entries flow =
+    list_any (λ (own : SiteIface). is_some (expiry_at entries own.iface (Source flow.source flow.group))) ifaces
+
+-- whether the flow is among these
+abbrev pub is_sent : List Flow → Flow → Bool
+is_sent sent flow = list_any (same_flow flow) sent
+
+-- a flow, where some interface asks for it
+abbrev pub flow_at : List SiteIface → Entries → List Flow → (Flow → Choice) → ℕ → Flow → Now
+flow_at ifaces entries sent chosen clock flow = flow_by (asking_of ifaces entries (is_sent sent flow) clock flow) (chosen flow)
+
+-- whether the VRF may ask for the flow, at this clock or another
+abbrev pub is_needed : List SiteIface → Entries → List Flow → Flow → Bool
+is_needed ifaces entries sent flow = is_joined ifaces entries flow || is_sent sent flow
+
+abbrev pub seen : Sight → (NodeId → ℕ) → Flow → Now
+seen sight cost flow =
+    flow_at sight.ifaces.now sight.entries.now sight.sent.now.keys (chosen_for sight.routes.now cost) sight.clock flow
+
+abbrev pub needs : Sight → Flow → Bool
+needs sight flow = is_needed sight.ifaces.now sight.entries.now sight.sent.now.keys flow

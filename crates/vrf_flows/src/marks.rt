@@ -1,0 +1,156 @@
+//! Marks on the flows that a change may change.
+ghost use Rattle.std.specs.Prelude.{◌≡◌, ◌&&◌, true};
+ghost use Rattle.std.specs.List.{list_any};
+ghost use Rattle.indexmap.specs.IndexMap.{get, IsUnique};
+ghost use Rattle.tree_defs.specs.declared.flow.Flow.{Flow};
+ghost use Rattle.tree_defs.specs.Keys.{same_flow};
+ghost use Rattle.vrf_flows.specs.Held.{concerns, mark, marked, names, names_in, lapses, ends, lapsed, ended, differ};
+
+use crate::held::{Cause, FlowTable, Held, cause_of};
+use indexmap::IndexMap;
+use mv_base::Addr;
+use pim_defs::{Expiry, entry_of};
+use pim_joinprune::{Group, JpSource};
+use scenario_defs::IfaceEntry;
+use tree_defs::Flow;
+
+/// Marks the flow, where it is held.
+fn mark_flow(flows: &mut FlowTable, flow: Flow)
+    requires unique { IsUnique same_flow flows.old }
+    ensures each { (q : Flow) → get same_flow flows.new q ≡ marked (same_flow flow q) (get same_flow flows.old q) }
+    ensures unique { IsUnique same_flow flows.new }
+{
+    if let Some(held) = flows.get_mut(&flow) {
+        held.stale = true;
+    }
+}
+
+/// Marks the flows that the cause touches. It looks at each flow that is held.
+fn mark_where(flows: &mut FlowTable, cause: &Cause)
+    requires unique { IsUnique same_flow flows.old }
+    ensures each { (q : Flow) → get same_flow flows.new q ≡ marked (concerns cause.now q) (get same_flow flows.old q) }
+    ensures unique { IsUnique same_flow flows.new }
+{
+    flows.retain(
+        |flow: &Flow, held: &mut Held| -> bool
+            ensures { (result ≡ true) × (held.new ≡ mark (concerns cause.entry.now flow.now) held.old) }
+        {
+            held.stale = held.stale || cause.concerns(flow);
+            true
+        },
+    );
+}
+
+/// Marks the flows that the cause touches.
+pub(crate) fn mark(flows: &mut FlowTable, cause: &Cause)
+    requires unique { IsUnique same_flow flows.old }
+    ensures each { (q : Flow) → get same_flow flows.new q ≡ marked (concerns cause.now q) (get same_flow flows.old q) }
+    ensures unique { IsUnique same_flow flows.new }
+{
+    match cause {
+        Cause::Flow(flow) => mark_flow(flows, *flow),
+        _ => mark_where(flows, cause),
+    }
+}
+
+/// Marks the flows that the sources of a group name.
+fn mark_sources(flows: &mut FlowTable, group: Addr, sources: &[JpSource])
+    requires unique { IsUnique same_flow flows.old }
+    ensures each { (q : Flow) → get same_flow flows.new q ≡ marked (names group sources.now q) (get same_flow flows.old q) }
+    ensures unique { IsUnique same_flow flows.new }
+{
+    for source in sources {
+        mark(flows, &cause_of(&entry_of(group, source)));
+    }
+}
+
+/// Marks the flows that a group of a message names.
+fn mark_group(flows: &mut FlowTable, group: &Group)
+    requires unique { IsUnique same_flow flows.old }
+    ensures each { (q : Flow) → get same_flow flows.new q ≡ marked (names_in group.now q) (get same_flow flows.old q) }
+    ensures unique { IsUnique same_flow flows.new }
+{
+    mark_sources(flows, group.group, group.joins.as_slice());
+    mark_sources(flows, group.group, group.prunes.as_slice());
+}
+
+/// Marks the flows that a message names.
+pub(crate) fn mark_message(flows: &mut FlowTable, groups: &[Group])
+    requires unique { IsUnique same_flow flows.old }
+    ensures each { (q : Flow) → get same_flow flows.new q
+        ≡ marked (list_any (λ group. names_in group q) groups.now) (get same_flow flows.old q) }
+    ensures unique { IsUnique same_flow flows.new }
+{
+    for group in groups {
+        mark_group(flows, group);
+    }
+}
+
+fn differ(own: bool, other: bool) -> bool
+    ensures { result ≡ differ own other }
+{
+    if own { !other } else { other }
+}
+
+/// Marks the flows of an entry, where it counts at one of the clocks and not at the other.
+fn mark_lapse(flows: &mut FlowTable, at: &IfaceEntry, expiry: Expiry, from: u64, to: u64)
+    requires unique { IsUnique same_flow flows.old }
+    ensures each { (q : Flow) → get same_flow flows.new q ≡ marked (lapses from to at.now expiry q) (get same_flow flows.old q) }
+    ensures unique { IsUnique same_flow flows.new }
+{
+    if differ(expiry.is_after(from), expiry.is_after(to)) {
+        mark(flows, &cause_of(&at.entry));
+    }
+}
+
+/// Marks the flows of the entries that count at one of the clocks and not at the other.
+fn mark_lapsed(flows: &mut FlowTable, entries: &IndexMap<IfaceEntry, Expiry>, from: u64, to: u64)
+    requires unique { IsUnique same_flow flows.old }
+    ensures each { (q : Flow) → get same_flow flows.new q
+        ≡ marked (list_any (lapsed from to q) entries.now.entries) (get same_flow flows.old q) }
+    ensures unique { IsUnique same_flow flows.new }
+{
+    for (at, expiry) in entries.iter() {
+        mark_lapse(flows, at, *expiry, from, to);
+    }
+}
+
+/// The same, which looks at no entry where both clocks are one.
+pub(crate) fn mark_between(
+    flows: &mut FlowTable,
+    entries: &IndexMap<IfaceEntry, Expiry>,
+    from: u64,
+    to: u64,
+)
+    requires unique { IsUnique same_flow flows.old }
+    ensures each { (q : Flow) → get same_flow flows.new q
+        ≡ marked (list_any (lapsed from to q) entries.now.entries) (get same_flow flows.old q) }
+    ensures unique { IsUnique same_flow flows.new }
+{
+    if from != to {
+        mark_lapsed(flows, entries, from, to);
+    }
+}
+
+/// Marks the flows of an entry, where it has ended at the clock.
+fn mark_end(flows: &mut FlowTable, at: &IfaceEntry, expiry: Expiry, now: u64)
+    requires unique { IsUnique same_flow flows.old }
+    ensures each { (q : Flow) → get same_flow flows.new q ≡ marked (ends now at.now expiry q) (get same_flow flows.old q) }
+    ensures unique { IsUnique same_flow flows.new }
+{
+    if !expiry.is_after(now) {
+        mark(flows, &cause_of(&at.entry));
+    }
+}
+
+/// Marks the flows of the entries that have ended at the clock.
+pub(crate) fn mark_ended(flows: &mut FlowTable, entries: &IndexMap<IfaceEntry, Expiry>, now: u64)
+    requires unique { IsUnique same_flow flows.old }
+    ensures each { (q : Flow) → get same_flow flows.new q
+        ≡ marked (list_any (ended now q) entries.now.entries) (get same_flow flows.old q) }
+    ensures unique { IsUnique same_flow flows.new }
+{
+    for (at, expiry) in entries.iter() {
+        mark_end(flows, at, *expiry, now);
+    }
+}

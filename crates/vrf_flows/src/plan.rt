@@ -1,0 +1,260 @@
+//! Which flows are computed anew, and what changes by it.
+ghost use Rattle.std.specs.Prelude.{◌≡◌, ◌<◌, ℕ, None, IfOk, OnOk, if◌then◌else◌};
+ghost use Rattle.indexmap.specs.IndexMap.{get, IsUnique};
+ghost use Rattle.mv_base.specs.declared.ids.NodeId.{NodeId};
+ghost use Rattle.umh_select.specs.Routes.{AreCosts, AreOfCore};
+ghost use Rattle.tree_defs.specs.declared.flow.Flow.{Flow};
+ghost use Rattle.tree_defs.specs.Keys.{same_flow};
+ghost use Rattle.tree_defs.specs.Flows.{gained, same_upstream, upstream_of};
+ghost use Rattle.vrf_flows.specs.Held.{kept_of};
+ghost use Rattle.vrf_flows.specs.Sight.{seen, needs};
+ghost use Rattle.vrf_flows.specs.Plan.{choice_in, joined_by, replan, put_at, planned, gain, loss, settled, settled_by};
+
+use crate::held::{FlowTable, Held, Kept};
+use crate::sight::{Sight, flow_at, is_needed};
+use indexmap::IndexMap;
+use mv_base::NoMemory;
+use std::alloc::Global;
+use tree_defs::{Flow, Upstream};
+use umh_select::Choice;
+
+/// Flows that are computed anew, each with what it is then.
+pub(crate) type Plan = IndexMap<Flow, Option<Kept>>;
+
+/// Flows, each with the edge that is joined for it, or left.
+pub type Joins = IndexMap<Flow, Upstream>;
+
+/// What a flow that is held is now, where it is stale.
+fn replan(
+    alloc: Global,
+    sight: &Sight<'_>,
+    flow: Flow,
+    held: &Held,
+) -> Result<Option<Option<Kept>>, NoMemory>
+    requires me { sight.now.me.0 < sight.now.core.now.nodes }
+    requires peers { AreOfCore sight.now.core.now.nodes sight.now.routes.now.learned }
+    ensures { (cost : NodeId → ℕ) → AreCosts sight.now.core.now sight.now.me cost →
+        IfOk result (λ next. next ≡ replan held.now (seen sight.now cost flow)) }
+{
+    if held.stale {
+        Ok(Some(flow_at(alloc, sight, flow)?))
+    } else {
+        Ok(None)
+    }
+}
+
+/// Puts a flow into the plan, where there is something to put.
+fn put(plan: &mut Plan, flow: Flow, next: Option<Option<Kept>>) -> Result<(), NoMemory>
+    requires unique { IsUnique same_flow plan.old }
+    ensures each { (q : Flow) → OnOk result (get same_flow plan.new q ≡ put_at (same_flow flow q) next (get same_flow plan.old q)) }
+    ensures unique { IsUnique same_flow plan.new }
+{
+    match next {
+        Some(next) => {
+            plan.insert(flow, next)?;
+            Ok(())
+        }
+        None => Ok(()),
+    }
+}
+
+/// Plans a flow that is held, where it is stale.
+fn plan_flow(
+    alloc: Global,
+    sight: &Sight<'_>,
+    plan: &mut Plan,
+    flow: Flow,
+    held: &Held,
+) -> Result<(), NoMemory>
+    requires me { sight.now.me.0 < sight.now.core.now.nodes }
+    requires peers { AreOfCore sight.now.core.now.nodes sight.now.routes.now.learned }
+    requires unique { IsUnique same_flow plan.old }
+    ensures each { (cost : NodeId → ℕ) → AreCosts sight.now.core.now sight.now.me cost → (q : Flow) →
+        OnOk result (get same_flow plan.new q
+        ≡ put_at (same_flow flow q) (replan held.now (seen sight.now cost flow)) (get same_flow plan.old q)) }
+    ensures unique { IsUnique same_flow plan.new }
+{
+    let next = replan(alloc, sight, flow, held)?;
+    put(plan, flow, next)
+}
+
+/// The flows that are stale, each with what it is now.
+pub(crate) fn plan(alloc: Global, flows: &FlowTable, sight: &Sight<'_>) -> Result<Plan, NoMemory>
+    requires me { sight.now.me.0 < sight.now.core.now.nodes }
+    requires peers { AreOfCore sight.now.core.now.nodes sight.now.routes.now.learned }
+    requires unique { IsUnique same_flow flows.now }
+    ensures each { (cost : NodeId → ℕ) → AreCosts sight.now.core.now sight.now.me cost → (q : Flow) →
+        IfOk result (λ plan. get same_flow plan q ≡ planned (get same_flow flows.now q) (seen sight.now cost q)) }
+    ensures unique { IfOk result (λ plan. IsUnique same_flow plan) }
+{
+    let mut plan = IndexMap::new(alloc);
+    for (flow, held) in flows.iter() {
+        plan_flow(alloc, sight, &mut plan, *flow, held)?;
+    }
+    Ok(plan)
+}
+
+/// The edge of a choice, where it is another one.
+fn upstream_of(choice: Choice) -> Option<Upstream>
+    ensures { result ≡ upstream_of (Some choice) }
+{
+    match choice {
+        Choice::Remote {
+            edge,
+            rd,
+            import,
+            source_as,
+        } => Some(Upstream {
+            edge,
+            rd,
+            import,
+            source_as,
+        }),
+        _ => None,
+    }
+}
+
+/// The edge that is joined for a flow.
+fn joined_by(now: &Option<Kept>) -> Option<Upstream>
+    ensures { result ≡ joined_by now.now }
+{
+    match now {
+        Some(kept) => upstream_of(kept.choice),
+        None => None,
+    }
+}
+
+fn same_upstream(own: Option<Upstream>, other: Option<Upstream>) -> bool
+    ensures { result ≡ same_upstream own other }
+{
+    match (own, other) {
+        (None, None) => true,
+        (Some(own), Some(other)) => own == other,
+        _ => false,
+    }
+}
+
+/// The edge that is joined where the first is left for the second.
+fn gained(before: Option<Upstream>, after: Option<Upstream>) -> Option<Upstream>
+    ensures { result ≡ gained before after }
+{
+    if same_upstream(before, after) {
+        None
+    } else {
+        after
+    }
+}
+
+/// The edge that was joined for a flow that is held.
+fn joined_before(flows: &FlowTable, flow: &Flow) -> Option<Upstream>
+    ensures { result ≡ joined_by (kept_of (get same_flow flows.now flow.now)) }
+{
+    match flows.get(flow) {
+        Some(held) => joined_by(&held.kept),
+        None => None,
+    }
+}
+
+/// Puts an edge, where there is one.
+fn put_join(joins: &mut Joins, flow: Flow, edge: Option<Upstream>) -> Result<(), NoMemory>
+    requires unique { IsUnique same_flow joins.old }
+    ensures each { (q : Flow) → OnOk result (get same_flow joins.new q ≡ put_at (same_flow flow q) edge (get same_flow joins.old q)) }
+    ensures unique { IsUnique same_flow joins.new }
+{
+    match edge {
+        Some(edge) => {
+            joins.insert(flow, edge)?;
+            Ok(())
+        }
+        None => Ok(()),
+    }
+}
+
+/// The edges that are joined.
+pub(crate) fn joins_of(alloc: Global, flows: &FlowTable, plan: &Plan) -> Result<Joins, NoMemory>
+    requires unique { IsUnique same_flow plan.now }
+    ensures each { (q : Flow) → IfOk result (λ joins. get same_flow joins q ≡ gain (get same_flow flows.now q) (get same_flow plan.now q)) }
+    ensures unique { IfOk result (λ joins. IsUnique same_flow joins) }
+{
+    let mut joins = IndexMap::new(alloc);
+    for (flow, now) in plan.iter() {
+        let before = joined_before(flows, flow);
+        put_join(&mut joins, *flow, gained(before, joined_by(now)))?;
+    }
+    Ok(joins)
+}
+
+/// The edges that are left.
+pub(crate) fn leaves_of(alloc: Global, flows: &FlowTable, plan: &Plan) -> Result<Joins, NoMemory>
+    requires unique { IsUnique same_flow plan.now }
+    ensures each { (q : Flow) →
+        IfOk result (λ leaves. get same_flow leaves q ≡ loss (get same_flow flows.now q) (get same_flow plan.now q)) }
+    ensures unique { IfOk result (λ leaves. IsUnique same_flow leaves) }
+{
+    let mut leaves = IndexMap::new(alloc);
+    for (flow, now) in plan.iter() {
+        let before = joined_before(flows, flow);
+        put_join(&mut leaves, *flow, gained(joined_by(now), before))?;
+    }
+    Ok(leaves)
+}
+
+/// Holds what a flow is, or lets it go, where it is none and is not needed.
+fn settle_flow(
+    flows: &mut FlowTable,
+    flow: Flow,
+    kept: Option<Kept>,
+    needed: bool,
+) -> Result<(), NoMemory>
+    requires held { IsUnique same_flow flows.old }
+    ensures each { (q : Flow) →
+        OnOk result (get same_flow flows.new q ≡ (if same_flow flow q then settled_by needed kept else get same_flow flows.old q)) }
+    ensures unique { IsUnique same_flow flows.new }
+{
+    match kept {
+        Some(kept) => {
+            let held = Held {
+                stale: false,
+                kept: Some(kept),
+            };
+            flows.insert(flow, held)?;
+            Ok(())
+        }
+        None => settle_none(flows, flow, needed),
+    }
+}
+
+/// Holds that a flow is none of the VRF, where it is needed.
+fn settle_none(flows: &mut FlowTable, flow: Flow, needed: bool) -> Result<(), NoMemory>
+    requires held { IsUnique same_flow flows.old }
+    ensures each { (q : Flow) →
+        OnOk result (get same_flow flows.new q ≡ (if same_flow flow q then settled_by needed None else get same_flow flows.old q)) }
+    ensures unique { IsUnique same_flow flows.new }
+{
+    if needed {
+        let held = Held {
+            stale: false,
+            kept: None,
+        };
+        flows.insert(flow, held)?;
+        Ok(())
+    } else {
+        flows.swap_remove(&flow);
+        Ok(())
+    }
+}
+
+/// Holds what the plan says.
+pub(crate) fn settle(flows: &mut FlowTable, plan: Plan, sight: &Sight<'_>) -> Result<(), NoMemory>
+    requires unique { IsUnique same_flow plan }
+    requires held { IsUnique same_flow flows.old }
+    ensures each { (q : Flow) →
+        OnOk result (get same_flow flows.new q ≡ settled (needs sight.now q) (get same_flow plan q) (get same_flow flows.old q)) }
+    ensures unique { IsUnique same_flow flows.new }
+{
+    for (flow, kept) in plan {
+        let needed = is_needed(sight, flow);
+        settle_flow(flows, flow, kept, needed)?;
+    }
+    Ok(())
+}

@@ -1,0 +1,119 @@
+//! What flows are recomputed from.
+ghost use Rattle.std.specs.Prelude.{◌≡◌, ◌<◌, ℕ, IfOk};
+ghost use Rattle.mv_base.specs.declared.ids.NodeId.{NodeId};
+ghost use Rattle.umh_select.specs.Routes.{AreCosts, AreOfCore};
+ghost use Rattle.tree_defs.specs.Flows.{chosen_for};
+ghost use Rattle.vrf_flows.specs.Sight.{asking_of, is_joined, is_needed, is_sent, flow_by, seen};
+
+use crate::held::Kept;
+use core_paths::Core;
+use indexmap::IndexSet;
+use mv_base::{NoMemory, NodeId, Seq};
+use pim_state::Downstream;
+use scenario_defs::JoinEntry;
+use std::alloc::Global;
+use tree_defs::{Flow, SiteIface};
+use umh_select::{Choice, Umh};
+
+/// Entries, flows that are known to be sent, and routes, at a clock and in the core as the edge knows it.
+#[derive(Clone, Copy)]
+pub(crate) struct Sight<'a> {
+    pub ifaces: &'a [SiteIface],
+    pub entries: &'a Downstream,
+    pub sent: &'a IndexSet<Flow>,
+    pub routes: &'a Umh,
+    pub clock: u64,
+    pub me: NodeId,
+    pub core: &'a Core,
+}
+
+/// Those of the interfaces that ask for the flow, in their order.
+fn asking(
+    alloc: Global,
+    sight: &Sight<'_>,
+    flow: Flow,
+    active: bool,
+) -> Result<Seq<SiteIface>, NoMemory>
+    ensures { IfOk result (λ found. found ≡ asking_of sight.now.ifaces.now sight.now.entries.now active sight.now.clock flow) }
+{
+    let mut found = Seq::new(alloc);
+    let ifaces = sight.ifaces;
+    for own in ifaces {
+        if sight
+            .entries
+            .asks(own.iface, flow.source, flow.group, active, sight.clock)
+        {
+            found.push(*own)?;
+        }
+    }
+    Ok(found)
+}
+
+/// Whether one of the interfaces has an entry that joins the flow itself.
+fn is_joined(sight: &Sight<'_>, flow: Flow) -> bool
+    ensures { result ≡ is_joined sight.now.ifaces.now sight.now.entries.now flow }
+{
+    let entry = JoinEntry::Source {
+        source: flow.source,
+        group: flow.group,
+    };
+    sight
+        .ifaces
+        .iter()
+        .any(|own| sight.entries.has(own.iface, entry))
+}
+
+/// Whether the VRF may ask for the flow, at this clock or another.
+pub(crate) fn is_needed(sight: &Sight<'_>, flow: Flow) -> bool
+    ensures { result ≡ is_needed sight.now.ifaces.now sight.now.entries.now sight.now.sent.now.keys flow }
+{
+    is_joined(sight, flow) || sight.sent.contains(&flow)
+}
+
+/// The upstream that is chosen for the flow.
+fn choice_of(sight: &Sight<'_>, flow: Flow) -> Choice
+    requires me { sight.now.me.0 < sight.now.core.now.nodes }
+    requires peers { AreOfCore sight.now.core.now.nodes sight.now.routes.now.learned }
+    ensures { (cost : NodeId → ℕ) → AreCosts sight.now.core.now sight.now.me cost → result ≡ chosen_for sight.now.routes.now cost flow }
+{
+    sight
+        .routes
+        .choose(flow.source, flow.group, sight.me, sight.core)
+}
+
+/// A flow that these interfaces ask for.
+fn flow_by(ifaces: Seq<SiteIface>, choice: Choice) -> Option<Kept>
+    ensures { result ≡ flow_by ifaces choice }
+{
+    if ifaces.is_empty() {
+        None
+    } else {
+        Some(Kept { choice, ifaces })
+    }
+}
+
+/// The flow, where it is one of the VRF.
+pub(crate) fn flow_at(
+    alloc: Global,
+    sight: &Sight<'_>,
+    flow: Flow,
+) -> Result<Option<Kept>, NoMemory>
+    requires me { sight.now.me.0 < sight.now.core.now.nodes }
+    requires peers { AreOfCore sight.now.core.now.nodes sight.now.routes.now.learned }
+    ensures { (cost : NodeId → ℕ) → AreCosts sight.now.core.now sight.now.me cost → IfOk result (λ now. now ≡ seen sight.now cost flow) }
+{
+    let ifaces = asking_now(alloc, sight, flow)?;
+    Ok(flow_by(ifaces, choice_of(sight, flow)))
+}
+
+/// Those of the interfaces that ask for the flow, in their order.
+pub(crate) fn asking_now(
+    alloc: Global,
+    sight: &Sight<'_>,
+    flow: Flow,
+) -> Result<Seq<SiteIface>, NoMemory>
+    ensures { IfOk result (λ found. found
+        ≡ asking_of sight.now.ifaces.now sight.now.entries.now (is_sent sight.now.sent.now.keys flow) sight.now.clock flow) }
+{
+    asking(alloc, sight, flow, sight.sent.contains(&flow))
+}

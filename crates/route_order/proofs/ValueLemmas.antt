@@ -1,5 +1,5 @@
 -- Values that are the same part by part are one value.
-use Rattle.std.proofs.Common.{◌≡◌, ◌≢◌, ℕ, ◌-◌, ◌≤◌, Bool, true, false, IsTrue, List, [], ◌∷◌, ◌++◌, length, take, drop, replicate, Option, arith, refl, ap, sym, ◌∙◌, subst, length-append}
+use Rattle.std.proofs.Common.{◌≡◌, ◌≢◌, ◌-◌, ◌≤◌, Bool, true, false, IsTrue, List, [], ◌∷◌, ◌++◌, length, take, drop, replicate, Option, arith, refl, ap, sym, ◌∙◌, subst, length-append}
 use Rattle.std.proofs.lemmas.List.{length-replicate}
 use Rattle.std.specs.Cmp.Lexicographic.{pointwise, pointwise_decides, bytes_decides}
 use Rattle.mv_base.specs.declared.addr.Addr.{Addr}
@@ -8,7 +8,7 @@ use Rattle.route_targets.specs.declared.communities.ExtComm.{ExtComm}
 use Rattle.route_targets.specs.contracts.communities.ExtCommPartialEq.TheImpl as comms
 use Rattle.edge_defs.specs.Keys.{Value, same_value}
 use Rattle.edge_defs.proofs.KeyLemmas.{value_exact}
-use Rattle.route_order.specs.Values.{IsKept, IsWritableValue, as_value, value_of, zeros}
+use Rattle.route_order.specs.Values.{IsKept, IsWritableValue, as_value, zeros}
 use Rattle.route_order.specs.declared.value.TableValue.TheInside.{Inside}
 
 same_comm : (own other : ExtComm) → (comms.eq-value.it own other ≡ true → own ≡ other) × (own ≡ other → comms.eq-value.it own other ≡ true)

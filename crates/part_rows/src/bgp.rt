@@ -4,8 +4,10 @@ ghost use Rattle.bgp_attributes.specs.Spelling.{AreComms};
 ghost use Rattle.bgp_update.specs.Written.{IsWritable, IsWritableKey};
 
 use bgp_update::{Advert, Change, Comms, EncodeFault, Key, Message, Stream, encode};
-use mv_base::{Addr, Rd, Seq};
+use edge_tables::EdgeTables;
+use mv_base::{Addr, NodeId, Rd, Seq};
 use mvpn_nlri::{Afi, Route};
+use route_order::{TableKey, TableValue};
 use route_targets::ExtComm;
 use std::alloc::{AllocError, Global};
 use std::test::*;
@@ -18,6 +20,14 @@ const ADVERT: [u8; 84] = [
     0x00, 0x07, 0x16, 0x00, 0x00, 0xfd, 0xe8, 0x00, 0x00, 0x00, 0x01, 0x00, 0x00, 0xfd, 0xe8, 0x20,
     0x0a, 0x01, 0x00, 0x09, 0x20, 0xe8, 0x01, 0x01, 0x01, 0xc0, 0x10, 0x08, 0x01, 0x02, 0xc0, 0x00,
     0x02, 0x01, 0x00, 0x01,
+];
+
+/// What withdraws the join.
+const WITHDRAWAL: [u8; 53] = [
+    0xff, 0xff, 0xff, 0xff, 0xff, 0xff, 0xff, 0xff, 0xff, 0xff, 0xff, 0xff, 0xff, 0xff, 0xff, 0xff,
+    0x00, 0x35, 0x02, 0x00, 0x00, 0x00, 0x1e, 0x80, 0x0f, 0x1b, 0x00, 0x01, 0x05, 0x07, 0x16, 0x00,
+    0x00, 0xfd, 0xe8, 0x00, 0x00, 0x00, 0x01, 0x00, 0x00, 0xfd, 0xe8, 0x20, 0x0a, 0x01, 0x00, 0x09,
+    0x20, 0xe8, 0x01, 0x01, 0x01,
 ];
 
 const RD: Rd = Rd([0, 0, 0xfd, 0xe8, 0, 0, 0, 1]);
@@ -101,5 +111,23 @@ fn too_long(rt: HostRuntime) -> Result<(), Fail> {
     let change = announcement(many(rt.alloc())?);
     let fault = encode(rt.alloc(), &change).err();
     assert_eq!(rt; fault, Some(EncodeFault::TooLong));
+    Ok(())
+}
+
+/// A peer is told a route once its session is up, and that it ended; a peer that is down is told nothing.
+#[test]
+fn tells_peers(rt: HostRuntime) -> Result<(), Fail> {
+    let mut tables = EdgeTables::of(rt.alloc(), &[NodeId(1), NodeId(2)])?;
+    let key = TableKey::of(join());
+    let value =
+        TableValue::of(Addr::V4([192, 0, 2, 2]), &[COMM], None).ok_or("many communities")?;
+    tables.set(&key, &value)?;
+    tables.raise(NodeId(2))?;
+    tables.put()?;
+    assert!(rt; tables.take_out(NodeId(1)).is_empty());
+    assert_eq!(rt; tables.take_out(NodeId(2)).as_slice(), ADVERT.as_slice());
+    tables.unset(&key)?;
+    tables.put()?;
+    assert_eq!(rt; tables.take_out(NodeId(2)).as_slice(), WITHDRAWAL.as_slice());
     Ok(())
 }

@@ -1,0 +1,4 @@
+pub mod WrittenLemmas
+pub mod WayLemmas
+pub mod SlotLemmas
+pub mod PutLemmas

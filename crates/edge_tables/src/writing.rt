@@ -1,0 +1,78 @@
+//! The UPDATE messages of changes.
+ghost use Rattle.std.specs.Prelude.{◌≡◌, ◌≤◌, ◌++◌, length, take, IfOk, OnOk, OnErr};
+ghost use Rattle.bgp_attributes.specs.declared.update.Change.TheVariants as updates;
+ghost use Rattle.bgp_update.specs.Written.{IsWritable, IsWritableAdvert, written};
+ghost use Rattle.table_defs.specs.declared.change.Change.TheVariants as changes;
+ghost use Rattle.edge_defs.specs.Messages.{as_update};
+ghost use Rattle.edge_tables.specs.Tables.{IsFront, advert_of, texts};
+
+use bgp_attributes::{Advert, Comms};
+use bgp_update::EncodeFault;
+use mv_base::{Bytes, NoMemory};
+use rib_sync::Pending;
+use route_order::{TableKey, TableValue};
+use std::alloc::Global;
+use table_defs::Change;
+
+/// The route that is announced.
+#[tactic(auto, using(crate::proofs::WrittenLemmas::advert_writable))]
+fn advert(alloc: Global, key: &TableKey, value: &TableValue) -> Result<Advert, NoMemory>
+    ensures advert { IfOk result (λ advert. advert ≡ advert_of key.now value.now) }
+    ensures writable { IsWritableAdvert (advert_of key.now value.now) }
+    ensures short { length (written (updates.Reach (advert_of key.now value.now))) ≤ 4096 }
+{
+    let next_hop = value.next_hop();
+    let named = *key.key();
+    let comms = Vec::from_slice(alloc, value.comms())?;
+    Ok(Advert {
+        key: named,
+        next_hop,
+        comms: Comms::from_vec(comms),
+        pmsi: *value.pmsi(),
+    })
+}
+
+/// The change as an UPDATE message makes it, which has a spelling within the octets of a message.
+fn update(
+    alloc: Global,
+    change: &Change<TableKey, TableValue>,
+) -> Result<bgp_attributes::Change, NoMemory>
+    ensures update { IfOk result (λ update. update ≡ as_update change.now) }
+    ensures writable { IfOk result (λ update. IsWritable update) }
+    ensures short { IfOk result (λ update. length (written update) ≤ 4096) }
+{
+    match change {
+        Change::Reach(key, value) => {
+            let advert = advert(alloc, key, value)?;
+            Ok(bgp_attributes::Change::Reach(advert))
+        }
+        Change::Unreach(key) => Ok(bgp_attributes::Change::Unreach(*key.key())),
+    }
+}
+
+/// Appends the UPDATE message of the change.
+fn put_change(out: &mut Bytes, change: &Change<TableKey, TableValue>) -> Result<(), NoMemory>
+    ensures ok { OnOk result (out.new ≡ out.old ++ written (as_update change.now)) }
+    ensures err { OnErr result (out.new ≡ out.old) }
+{
+    let update = update(out.alloc(), change)?;
+    match bgp_update::encode(out.alloc(), &update) {
+        Ok(text) => out.extend(text.as_slice()),
+        Err(EncodeFault::NoMemory) => Err(NoMemory),
+        Err(EncodeFault::TooLong) => unreachable!(),
+    }
+}
+
+/// Appends the UPDATE messages of the changes, one for each. Where memory runs out some first ones of them are there.
+pub(crate) fn put_changes(
+    out: &mut Bytes,
+    mut pending: Pending<TableKey, TableValue>,
+) -> Result<(), NoMemory>
+    ensures ok { OnOk result (out.new ≡ out.old ++ texts pending) }
+    ensures err { OnErr result (IsFront pending out.old out.new) }
+{
+    while let Some(change) = pending.next() {
+        put_change(out, &change)?;
+    }
+    Ok(())
+}

@@ -1,0 +1,8 @@
+//! Keys and values of routes as a table keeps them: in the order in which a peer is told, with no memory of their own.
+#![tactic(auto)]
+
+mod key;
+mod value;
+
+pub use key::TableKey;
+pub use value::{COMM_LIMIT, TableValue};

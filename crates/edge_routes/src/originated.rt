@@ -8,10 +8,10 @@ ghost use Rattle.bgp_attributes.specs.Spelling.{AreComms};
 ghost use Rattle.bgp_update.specs.Written.{IsTunnel};
 ghost use Rattle.edge_defs.specs.Edge.{Remote, Upstream, VrfFlow};
 ghost use Rattle.edge_defs.specs.Held.{join_route};
+ghost use Rattle.bgp_update.specs.Written.{afi_of};
 ghost use Rattle.edge_defs.specs.Originated.{
   active_key,
   afi_by,
-  afi_of,
   import_comm,
   import_target,
   inclusive_key,

@@ -15,11 +15,11 @@ use Rattle.mvpn_nlri.specs.declared.route.Afi.TheVariants.{Ipv4, Ipv6}
 use Rattle.mvpn_nlri.specs.declared.route.Route.{Route}
 use Rattle.mvpn_nlri.specs.Spelling.{Spells, written}
 use Rattle.mvpn_nlri.proofs.CallLemmas.{one}
-use Rattle.selective_defs.specs.Parts.{addr_part}
+use Rattle.selective_defs.specs.Parts.{addr_key}
 use Rattle.bgp_attributes.specs.declared.key.Key.TheVariants.{Mcast, Unicast}
 use Rattle.bgp_attributes.specs.Spelling.{octets_for}
-use Rattle.bgp_update.specs.Written.{IsVpn, vpn_text}
-use Rattle.edge_defs.specs.Keys.{afi_number, key_cmp, parts_cmp, prefix_afi, route_parts}
+use Rattle.bgp_update.specs.Written.{IsVpn, vpn_text, afi_of}
+use Rattle.edge_defs.specs.Keys.{afi_number, key_cmp, parts_cmp, route_parts}
 
 -- ---- orderings
 
@@ -83,15 +83,15 @@ parts_tied Equal Equal Equal Equal Equal = refl
 parts_tied Equal Equal Equal Equal Greater = refl
 
 pub unicast_cmp : (rd other_rd : Rd) (prefix other : Prefix) → IsVpn rd prefix → IsVpn other_rd other
-    → ordering_then (ordering_then (nat_cmp (afi_number (prefix_afi prefix)) (afi_number (prefix_afi other))) (slice_cmp nat_cmp (vpn_text [] rd prefix) (vpn_text [] other_rd other)))
-    (slice_cmp nat_cmp (addr_part prefix.addr) (addr_part other.addr))
+    → ordering_then (ordering_then (nat_cmp (afi_number (afi_of prefix.addr)) (afi_number (afi_of other.addr))) (slice_cmp nat_cmp (vpn_text [] rd prefix) (vpn_text [] other_rd other)))
+    (slice_cmp nat_cmp (addr_key prefix.addr) (addr_key other.addr))
     ≡ key_cmp (Unicast rd prefix) (Unicast other_rd other)
 unicast_cmp rd other_rd prefix other h k =
-    let family : Ordering = nat_cmp (afi_number (prefix_afi prefix)) (afi_number (prefix_afi other)) in
+    let family : Ordering = nat_cmp (afi_number (afi_of prefix.addr)) (afi_number (afi_of other.addr)) in
     let bits : Ordering = nat_cmp prefix.bits other.bits in
     let text : Ordering = slice_cmp nat_cmp (vpn_text [] rd prefix) (vpn_text [] other_rd other) in
     let rds : Ordering = slice_cmp nat_cmp rd.0 other_rd.0 in
-    let addr : Ordering = slice_cmp nat_cmp (addr_part prefix.addr) (addr_part other.addr) in
+    let addr : Ordering = slice_cmp nat_cmp (addr_key prefix.addr) (addr_key other.addr) in
     let own : List ℕ = take (octets_for prefix.bits) (addr_octets prefix.addr) in
     let others : List ℕ = take (octets_for other.bits) (addr_octets other.addr) in
     let e = vpn_cmp rd other_rd prefix other h k in

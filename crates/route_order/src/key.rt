@@ -7,9 +7,10 @@ ghost use Rattle.mvpn_nlri.specs.Spelling as routes;
 ghost use Rattle.mv_base.specs.Address.{addr_octets};
 ghost use Rattle.bgp_attributes.specs.Spelling.{octets_for};
 ghost use Rattle.bgp_attributes.specs.declared.key.Key.TheVariants.{Mcast, Unicast};
-ghost use Rattle.selective_defs.specs.Parts.{addr_part};
+ghost use Rattle.selective_defs.specs.Parts.{addr_key};
 ghost use Rattle.bgp_update.specs.Written.{IsVpn, IsVpnPrefix, IsWritableKey, vpn_text};
-ghost use Rattle.edge_defs.specs.Keys.{afi_number, key_cmp, prefix_afi};
+ghost use Rattle.bgp_update.specs.Written.{afi_of};
+ghost use Rattle.edge_defs.specs.Keys.{afi_number, key_cmp};
 ghost use Rattle.edge_defs.proofs.KeyLemmas.{key_total};
 ghost use Rattle.mvpn_nlri.specs.declared.route.Afi.{Afi};
 
@@ -60,7 +61,7 @@ impl TableKey {
 
 /// The AFI of the addresses that a prefix is of, as a number.
 fn prefix_number(prefix: &Prefix) -> u8
-    ensures { result ≡ afi_number (prefix_afi prefix.now) }
+    ensures { result ≡ afi_number (afi_of prefix.now.addr) }
 {
     match prefix.addr {
         Addr::V4(_) => 1,
@@ -79,7 +80,7 @@ fn number(afi: Afi) -> u8
 
 /// The order of addresses: those of IPv4 first, and then by their octets.
 fn compare_addrs(own: Addr, other: Addr) -> Ordering
-    ensures { result ≡ slice_cmp nat_cmp (addr_part own) (addr_part other) }
+    ensures { result ≡ slice_cmp nat_cmp (addr_key own) (addr_key other) }
 {
     match (own, other) {
         (Addr::V4(octets), Addr::V4(others)) => octets.as_slice().cmp(others.as_slice()),

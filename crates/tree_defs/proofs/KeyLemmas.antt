@@ -9,7 +9,7 @@ use Rattle.std.proofs.lemmas.Bool.Decides.{nat_tests}
 use Rattle.std.specs.FinMap.{IsAntisymmetric, nat_cmp-IsAntisymmetric, slice_cmp-IsAntisymmetric}
 use Rattle.std.proofs.lemmas.Cmp.{on_total, lists_total}
 use Rattle.mv_base.specs.Address.{same_addr, same_addr_equal, same_addr_equiv}
-use Rattle.selective_defs.specs.Parts.{addr_part}
+use Rattle.selective_defs.specs.Parts.{addr_key}
 use Rattle.selective_defs.proofs.PartLemmas.{one_addr}
 use Rattle.tree_defs.specs.declared.flow.Flow.{Flow}
 use Rattle.tree_defs.specs.declared.flow.Note.{Note}
@@ -38,7 +38,7 @@ note_total = on_total note_parts parts_total
 pub active_total : IsTotalOrder active_cmp
 active_total = on_total active_parts parts_total
 
-one_flow : (a b : Flow) → addr_part a.source ≡ addr_part b.source → addr_part a.group ≡ addr_part b.group → a ≡ b
+one_flow : (a b : Flow) → addr_key a.source ≡ addr_key b.source → addr_key a.group ≡ addr_key b.group → a ≡ b
 one_flow a b from to =
     let source = one_addr a.source b.source from in
     let group = one_addr a.group b.group to in
@@ -49,8 +49,8 @@ flow_exact a b e = by (parts_exact (flow_parts a) (flow_parts b) e)
   where
     by : flow_parts a ≡ flow_parts b → a ≡ b
     by e =
-        let from : addr_part a.source ≡ addr_part b.source = cc in
-        let to : addr_part a.group ≡ addr_part b.group = cc in
+        let from : addr_key a.source ≡ addr_key b.source = cc in
+        let to : addr_key a.group ≡ addr_key b.group = cc in
         one_flow a b from to
 
 pub note_exact : IsAntisymmetric note_cmp
@@ -59,8 +59,8 @@ note_exact a b e = by (parts_exact (note_parts a) (note_parts b) e)
     by : note_parts a ≡ note_parts b → a ≡ b
     by e =
         let iface : a.iface.0 ≡ b.iface.0 = cc in
-        let from : addr_part a.flow.source ≡ addr_part b.flow.source = cc in
-        let to : addr_part a.flow.group ≡ addr_part b.flow.group = cc in
+        let from : addr_key a.flow.source ≡ addr_key b.flow.source = cc in
+        let to : addr_key a.flow.group ≡ addr_key b.flow.group = cc in
         let flow = one_flow a.flow b.flow from to in
         λ i. record { iface = record { 0 = iface i }; flow = flow i }
 
@@ -71,8 +71,8 @@ active_exact a b e = by (parts_exact (active_parts a) (active_parts b) e)
     by e =
         let peer : a.peer.0 ≡ b.peer.0 = cc in
         let rd : a.rd ≡ b.rd = cc in
-        let from : addr_part a.flow.source ≡ addr_part b.flow.source = cc in
-        let to : addr_part a.flow.group ≡ addr_part b.flow.group = cc in
+        let from : addr_key a.flow.source ≡ addr_key b.flow.source = cc in
+        let to : addr_key a.flow.group ≡ addr_key b.flow.group = cc in
         let flow = one_flow a.flow b.flow from to in
         λ i. record { peer = record { 0 = peer i }; rd = rd i; flow = flow i }
 

@@ -4,7 +4,7 @@ use Rattle.std.specs.Ordering.{nat_cmp}
 use Rattle.std.specs.declared.cmp.Ordering.{Ordering}
 use Rattle.std.specs.Cmp.Lexicographic.{slice_cmp}
 use Rattle.mv_base.specs.Address.{same_addr}
-use Rattle.selective_defs.specs.Parts.{addr_part}
+use Rattle.selective_defs.specs.Parts.{addr_key}
 use Rattle.tree_defs.specs.declared.flow.Flow.{Flow}
 use Rattle.tree_defs.specs.declared.flow.Note.{Note}
 use Rattle.tree_defs.specs.declared.flow.ActiveRoute.{ActiveRoute}
@@ -18,7 +18,7 @@ abbrev pub parts_cmp : List (List ℕ) → List (List ℕ) → Ordering
 parts_cmp a b = slice_cmp (slice_cmp nat_cmp) a b
 
 abbrev pub flow_parts : Flow → List (List ℕ)
-flow_parts flow = addr_part flow.source ∷ addr_part flow.group ∷ []
+flow_parts flow = addr_key flow.source ∷ addr_key flow.group ∷ []
 
 abbrev pub flow_cmp : Flow → Flow → Ordering
 flow_cmp a b = parts_cmp (flow_parts a) (flow_parts b)

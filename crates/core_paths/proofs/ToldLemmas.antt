@@ -36,19 +36,22 @@ none_at true o e = e
 none_at false o e = refl
 
 pub core_told : (nodes : ℕ) (links : List Link) (costs nexts : List ℕ) → IsCore nodes links costs nexts → (own : Core) × IsCoreOf nodes links own
-core_told nodes links costs nexts h = (told nodes costs nexts, record {
-  least = λ from to l m. subst (λ (t : Bool). IsLeast links from.0 to.0 (cond t (slice_index costs (to.0 * nodes + from.0)) 0)) (sym (both nodes from to l m)) (h.least.least from.0 to.0 l m);
-  itself = λ node. none_at (within nodes node node) (next_of nodes nexts node node)
-      (ap (λ (b : Bool). cond b None (Some (record { 0 = slice_index nexts (node.0 * nodes + node.0) }))) (eq-eqb node.0 node.0 refl));
-  first = λ from to l m ne.
-      let apart : from.0 ≢ to.0 = λ e. ne (λ i. record { 0 = e i }) in (
-        record { 0 = slice_index nexts (to.0 * nodes + from.0) },
-        ap (λ (t : Bool). cond t (next_of nodes nexts from to) None) (both nodes from to l m)
-        ∙ ap (λ (b : Bool). cond b None (Some (record { 0 = slice_index nexts (to.0 * nodes + from.0) }))) (ne_eqb from.0 to.0 apart),
-        h.toward.toward from.0 to.0 l m apart,
-      );
-  outside = λ from to far. (
-    ap (λ (t : Bool). cond t (slice_index costs (to.0 * nodes + from.0)) 0) (not_both nodes from to far),
-    ap (λ (t : Bool). cond t (next_of nodes nexts from to) None) (not_both nodes from to far),
-  );
-})
+core_told nodes links costs nexts h = (
+  told nodes costs nexts,
+  record {
+    least = λ from to l m. subst (λ (t : Bool). IsLeast links from.0 to.0 (cond t (slice_index costs (to.0 * nodes + from.0)) 0)) (sym (both nodes from to l m)) (h.least.least from.0 to.0 l m);
+    itself = λ node. none_at (within nodes node node) (next_of nodes nexts node node)
+        (ap (λ (b : Bool). cond b None (Some (record { 0 = slice_index nexts (node.0 * nodes + node.0) }))) (eq-eqb node.0 node.0 refl));
+    first = λ from to l m ne.
+        let apart : from.0 ≢ to.0 = λ e. ne (λ i. record { 0 = e i }) in (
+          record { 0 = slice_index nexts (to.0 * nodes + from.0) },
+          ap (λ (t : Bool). cond t (next_of nodes nexts from to) None) (both nodes from to l m)
+              ∙ ap (λ (b : Bool). cond b None (Some (record { 0 = slice_index nexts (to.0 * nodes + from.0) }))) (ne_eqb from.0 to.0 apart),
+          h.toward.toward from.0 to.0 l m apart,
+        );
+    outside = λ from to far. (
+      ap (λ (t : Bool). cond t (slice_index costs (to.0 * nodes + from.0)) 0) (not_both nodes from to far),
+      ap (λ (t : Bool). cond t (next_of nodes nexts from to) None) (not_both nodes from to far),
+    );
+  },
+)

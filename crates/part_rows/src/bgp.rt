@@ -119,8 +119,7 @@ fn too_long(rt: HostRuntime) -> Result<(), Fail> {
 fn tells_peers(rt: HostRuntime) -> Result<(), Fail> {
     let mut tables = EdgeTables::of(rt.alloc(), &[NodeId(1), NodeId(2)])?;
     let key = TableKey::of(join());
-    let value =
-        TableValue::of(Addr::V4([192, 0, 2, 2]), &[COMM], None).ok_or("many communities")?;
+    let value = TableValue::of(Addr::V4([192, 0, 2, 2]), &[COMM], None).ok_or("many communities")?;
     tables.set(&key, &value)?;
     tables.raise(NodeId(2))?;
     tables.put()?;
@@ -128,6 +127,9 @@ fn tells_peers(rt: HostRuntime) -> Result<(), Fail> {
     assert_eq!(rt; tables.take_out(NodeId(2)).as_slice(), ADVERT.as_slice());
     tables.unset(&key)?;
     tables.put()?;
-    assert_eq!(rt; tables.take_out(NodeId(2)).as_slice(), WITHDRAWAL.as_slice());
+    assert_eq!(rt;
+        tables.take_out(NodeId(2)).as_slice(),
+        WITHDRAWAL.as_slice()
+    );
     Ok(())
 }

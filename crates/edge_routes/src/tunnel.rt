@@ -1,7 +1,8 @@
 //! The tunnels of edges: mLDP P2MP LSPs whose opaque value is one Generic LSP Identifier (RFC 6388 section 2.3.1).
 ghost use Rattle.std.specs.Prelude.{◌≡◌};
 ghost use Rattle.edge_defs.specs.Imported.{lsp_of, tunnel_by};
-ghost use Rattle.edge_defs.specs.Place.{is_lsp_opaque, is_p2mp, lsp, lsp_opaque, tunnel_number};
+ghost use Rattle.label_defs.specs.Node.{is_p2mp};
+ghost use Rattle.edge_defs.specs.Place.{is_lsp_opaque, lsp, lsp_opaque, tunnel_number};
 ghost use Rattle.edge_routes.specs.Judged.{value_of};
 
 use crate::TakenValue;

@@ -17,7 +17,8 @@ use Rattle.pim_joinprune.specs.declared.message.JoinPrune.{JoinPrune}
 use Rattle.pim_defs.specs.declared.expiry.Expiry.{Expiry}
 use Rattle.pim_defs.specs.declared.mention.Mention.{Mention}
 use Rattle.pim_defs.specs.Expiry.{is_after, counts, remaining}
-use Rattle.pim_defs.specs.Mention.{entry_of, same_entry, lists, joins, prunes, group_of, mention_of, expiry_after}
+use Rattle.scenario_defs.specs.Rules.{group_of}
+use Rattle.pim_defs.specs.Mention.{entry_of, same_entry, lists, joins, prunes, mention_of, expiry_after}
 use Rattle.pim_defs.specs.Entries.{Entries, expiry_at, asks, applied, kept_at}
 use Rattle.pim_defs.proofs.EntriesLemmas.{get-applied, get-kept}
 use Rattle.pim_defs.proofs.KeyLemmas.{same_entry_equal}

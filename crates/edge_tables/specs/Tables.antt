@@ -1,5 +1,6 @@
 -- What an edge has told each of its peers and is to tell it (RFC 4271 sections 3.2 and 9.1.3).
-use Rattle.std.specs.Prelude.{◌≡◌, ◌≢◌, ◌++◌, ◌⊎◌, ⊤, ℕ, Bool, true, false, List, [], take, is_some, Option, None, Some, if◌then◌else◌, refl}
+use Rattle.std.specs.Prelude.{◌≡◌, ◌≢◌, ◌++◌, ◌⊎◌, ⊤, ℕ, Bool, true, false, List, [], take, is_some, refl}
+use Rattle.std.specs.Prelude.{Option, None, Some, if◌then◌else◌}
 use Rattle.std.specs.List.{flat_map}
 use Rattle.std.specs.Coded.{Coded, code_by, coded×, coded_bool, coded_list, coded_option, coded_ℕ}
 use Rattle.std.specs.FinMap as maps
@@ -137,7 +138,8 @@ value_code =
 abbrev table_code : Coded PeerTable
 table_code =
     code_by (Bool × (Table × (Table × List ℕ)))
-    (coded× coded_bool (coded× (maps.code keys.the_row.coded value_code) (coded× (maps.code keys.the_row.coded value_code) (coded_list coded_ℕ))))
+    (coded× coded_bool (coded× (maps.code keys.the_row.coded value_code)
+    (coded× (maps.code keys.the_row.coded value_code) (coded_list coded_ℕ))))
     (λ t. (t.up, (t.set, (t.told, t.waiting)))) (λ p. record { up = p.0; set = p.1.0; told = p.1.1.0; waiting = p.1.1.1 }) (λ _. refl)
 
 abbrev pub tables_code : Coded Tables

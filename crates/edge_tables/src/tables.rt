@@ -2,7 +2,8 @@
 ghost use Rattle.std.specs.Prelude.{◌≡◌, ◌<◌, ◌⊎◌, [], length, map, position, IfOk, IfSome, OnOk, OnErr};
 ghost use Rattle.std.specs.List.{AllZip};
 ghost use Rattle.std.specs.FinMap.{from_entries};
-ghost use Rattle.edge_tables.specs.Tables.{AtPeer, EachPeer, IsPutPart, downed, fresh, is_up_at, put_behind, raised, waiting_at, with_route, without_route};
+ghost use Rattle.edge_tables.specs.Tables.{AtPeer, EachPeer, IsPutPart, downed, fresh, is_up_at, put_behind, raised, waiting_at};
+ghost use Rattle.edge_tables.specs.Tables.{with_route, without_route};
 ghost use Rattle.edge_tables.specs.Slots.{Becomes, is_of, peer_table};
 
 use crate::slot::Slot;

@@ -25,6 +25,13 @@ pub struct ActiveRoute {
     pub flow: Flow,
 }
 
+/// A Source Tree Join of another edge, for a flow of the VRF (RFC 6514 section 11.1.3).
+#[derive(Clone, Copy, PartialEq, Eq, Hash)]
+pub struct TakenJoin {
+    pub peer: NodeId,
+    pub flow: Flow,
+}
+
 /// An interface of the VRF, with its site.
 #[derive(Clone, Copy, PartialEq, Eq)]
 pub struct SiteIface {

@@ -4,4 +4,4 @@
 
 mod flow;
 
-pub use flow::{ActiveRoute, Flow, Note, Origin, SiteIface, Upstream};
+pub use flow::{ActiveRoute, Flow, Note, Origin, SiteIface, TakenJoin, Upstream};

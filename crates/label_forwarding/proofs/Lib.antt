@@ -7,6 +7,7 @@ pub mod WrittenLemmas
 pub mod HopLemmas
 pub mod SlotLemmas
 pub mod FibLemmas
+pub mod KnownLemmas
 pub mod NoteLemmas
 pub mod StepLemmas
 pub mod OpLemmas

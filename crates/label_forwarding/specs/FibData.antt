@@ -52,6 +52,10 @@ with_leaf leaves fec leaf = if leaf then sets.insert leaves fec else sets.remove
 abbrev pub is_on : FibData → Fec → Bool
 is_on fib fec = list_any (λ branch. same_fec branch.fec fec) (in_order fib.branches) || sets.contains fib.leaves fec
 
+-- whether the node is on the tree, or a noted label names it
+abbrev pub is_known : FibData → Fec → Bool
+is_known fib fec = is_on fib fec || list_any (λ (entry : Branch × Fec). same_fec entry.1 fec) (maps.entries fib.pairs)
+
 -- These are the branches of the tree, in order and each once.
 pub record AreHops (fib : FibData) (fec : Fec) (hops : List Branch) : Type 0 where
   pub ordered : IsStrictlySortedBy hop_cmp hops

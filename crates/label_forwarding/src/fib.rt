@@ -1,13 +1,16 @@
 //! The forwarding table of a node.
-ghost use Rattle.std.specs.Prelude.{◌≡◌, None, Some, OnOk, OnErr, IfSome, IfNone};
+ghost use Rattle.std.specs.Prelude.{◌≡◌, None, Some, OnOk, OnErr, IfOk, IfSome, IfNone};
+ghost use Rattle.std.specs.List.{list_any};
 ghost use Rattle.std.specs.FinMap as maps;
 ghost use Rattle.std.specs.FinSet as sets;
-ghost use Rattle.label_forwarding.specs.FibData.{FibData, IsEntry, AreHops, nothing, with_leaf, is_on, branch_in, hop};
+ghost use Rattle.mldp_fec.specs.declared.fec.Fec.{Fec};
+ghost use Rattle.label_defs.specs.LabelData.{same_fec};
+ghost use Rattle.label_forwarding.specs.FibData.{FibData, IsEntry, AreHops, nothing, with_leaf, is_known, is_on, branch_in, hop};
 
 use crate::branch::Branch;
 use crate::entry::Entry;
 use crate::pairs::{Pairs, forget, note};
-use crate::slots::{Slots, give_back, take};
+use crate::slots::{Slots, fecs_of, give_back, take};
 use indexmap::IndexMap;
 use mldp_fec::Fec;
 use mv_base::{NoMemory, NodeId};
@@ -142,5 +145,12 @@ impl Fib {
             Some(slot) => slot.is_on(),
             None => false,
         }
+    }
+
+    /// The FECs of all entries, each once, in no order.
+    pub fn trees(&self, alloc: Global) -> Result<Vec<Fec>, NoMemory>
+        ensures { IfOk result (λ fecs. (fec : Fec) → list_any (λ own. same_fec own fec) fecs.items ≡ is_known self.now fec) }
+    {
+        fecs_of(alloc, &self.slots)
     }
 }

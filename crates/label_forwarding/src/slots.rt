@@ -1,8 +1,8 @@
 //! The entries of a forwarding table, each with the number of labels that name its FEC.
-ghost use Rattle.std.specs.Prelude.{◌≡◌, ◌<◌, ◌==◌, ◌||◌, true, false, not, length, None, is_some, if◌then◌else◌};
+ghost use Rattle.std.specs.Prelude.{◌≡◌, ◌<◌, ◌==◌, ◌||◌, true, false, not, length, None, IfOk, is_some, if◌then◌else◌};
 ghost use Rattle.std.specs.FinMap as maps;
 ghost use Rattle.std.specs.Option.{unwrap_or};
-ghost use Rattle.indexmap.specs.IndexMap.{get, spare, IsUnique};
+ghost use Rattle.indexmap.specs.IndexMap.{get, keys, spare, IsUnique};
 ghost use Rattle.mldp_fec.specs.declared.fec.Fec.{Fec};
 ghost use Rattle.label_forwarding.specs.Slots.{is_fec, fresh, is_idle, kept};
 
@@ -10,6 +10,7 @@ use crate::branches::Branches;
 use crate::entry::Entry;
 use indexmap::IndexMap;
 use mldp_fec::Fec;
+use mv_base::NoMemory;
 use std::alloc::Global;
 
 /// An entry, and how many noted labels name its FEC.
@@ -76,4 +77,11 @@ pub(crate) fn give_back(slots: &mut Slots, fec: &Fec, slot: Slot)
     } else {
         slots.insert(*fec, slot).unwrap();
     }
+}
+
+/// The FECs that have a slot.
+pub(crate) fn fecs_of(alloc: Global, slots: &Slots) -> Result<Vec<Fec>, NoMemory>
+    ensures { IfOk result (λ fecs. fecs.items ≡ keys slots.now) }
+{
+    Ok(Vec::from_slice(alloc, slots.keys().as_slice())?)
 }

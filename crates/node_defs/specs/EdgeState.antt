@@ -3,37 +3,19 @@
 use Rattle.std.specs.Prelude.{ℕ, List, [], ◌∷◌, ◌++◌, Option, None, Some}
 use Rattle.std.specs.FinMap as maps
 use Rattle.std.specs.FinMap.{FinMap}
-use Rattle.std.specs.Cmp.Lexicographic.{slice_cmp}
-use Rattle.std.specs.Ordering.{nat_cmp}
-use Rattle.std.specs.declared.cmp.Ordering.{Ordering}
 use Rattle.std.specs.List.{flat_map}
 use Rattle.mv_base.specs.declared.ids.NodeId.{NodeId}
 use Rattle.framing.specs.Feed.{fed, unfed}
 use Rattle.label_defs.specs.Node.{Spent, LacksLabel}
-use Rattle.scenario_defs.specs.declared.event.Kind.{Kind}
-use Rattle.scenario_defs.specs.declared.event.Kind.TheVariants as kinds
 use Rattle.session_defs.specs.Message.{SessionMessage, Bgp, Label, SessionFault, front_of}
 use Rattle.session_defs.specs.Octets.{Stream}
+pub use Rattle.session_defs.specs.PeerSession.{PeerSession, peer_cmp, stream_at, fault_at}
 use Rattle.session_defs.specs.System.{Put}
 use Rattle.edge_defs.specs.Edge.{EdgeData, fresh}
 use Rattle.edge_defs.specs.Place.{EdgePlace, addr_of, label_place}
 use Rattle.edge_defs.specs.Steps as steps
 use Rattle.edge_defs.specs.Steps.{EdgeStepped, edge_step}
 use Rattle.node_defs.specs.Puts.{bgp_puts, label_puts}
-
--- ---- sessions of a node
-
--- A session of a node: its protocol, and the node at its other end.
-pub record PeerSession : Type 0 where
-  pub kind : Kind
-  pub peer : NodeId
-
-abbrev pub kind_number : Kind → ℕ
-kind_number kinds.Bgp = 0
-kind_number kinds.Ldp = 1
-
-abbrev pub peer_cmp : PeerSession → PeerSession → Ordering
-peer_cmp a b = slice_cmp nat_cmp (kind_number a.kind ∷ a.peer.0 ∷ []) (kind_number b.kind ∷ b.peer.0 ∷ [])
 
 -- ---- what is seen
 
@@ -50,14 +32,6 @@ fresh_state count = record { edge = fresh count; waiting = maps.empty; streams =
 -- the octets that wait for a session
 abbrev pub waiting_at : FinMap peer_cmp (List ℕ) → PeerSession → List ℕ
 waiting_at waiting session = elim (maps.get waiting session) [ None ↦ [] | Some octets ↦ octets ]
-
--- the stream of a session; a fresh one where the session has none
-abbrev pub stream_at : EdgeState → PeerSession → Stream
-stream_at state session = elim (maps.get state.streams session) [ None ↦ unfed | Some stream ↦ stream ]
-
--- the first fault of a session's stream, with its place
-abbrev pub fault_at : EdgeState → PeerSession → Option (ℕ × SessionFault)
-fault_at state session = (stream_at state session).fault
 
 -- ---- what is put
 
@@ -128,7 +102,7 @@ all_taken place now from (message ∷ more) old = all_taken place now from more 
 -- The octets go to the session's stream, and the messages that are whole then are taken, those before its first fault too.
 abbrev pub fed_octets : EdgePlace → ℕ → PeerSession → List ℕ → EdgeState → EdgeState
 fed_octets place now session octets old =
-    let new = fed (front_of session.kind) (stream_at old session) octets in
+    let new = fed (front_of session.kind) (stream_at old.streams session) octets in
     all_taken place now session.peer new.waiting (record old { streams = maps.insert old.streams session (record new { waiting = [] }) })
 
 -- The edge behind octets that it takes. A stream that has had its first fault takes no more, and a node that is spent takes nothing.
@@ -138,7 +112,7 @@ took_unless None (Some fault) place now session octets old = old
 took_unless (Some spent) fault place now session octets old = old
 
 abbrev pub took : EdgePlace → ℕ → PeerSession → List ℕ → EdgeState → EdgeState
-took place now session octets old = took_unless old.spent (fault_at old session) place now session octets old
+took place now session octets old = took_unless old.spent (fault_at old.streams session) place now session octets old
 
 -- ---- octets that are handed out
 

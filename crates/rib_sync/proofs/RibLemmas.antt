@@ -1,13 +1,14 @@
 -- What the maps of an outbox and of an inbox say, key by key, and as tables.
-use Rattle.std.proofs.Common.{◌≡◌, Bool, true, false, cond, List, [], ◌∷◌, Option, Some, None, refl, sym, ap, ◌∙◌}
+use Rattle.std.proofs.Common.{◌≡◌, Bool, true, false, cond, List, [], ◌∷◌, Option, Some, None, refl, sym, ap, subst, ◌∙◌}
 use Rattle.std.specs.declared.cmp.Ordering.{Ordering}
 use Rattle.std.specs.Ordering.{eq_by_cmp}
 use Rattle.std.specs.Cmp.{IsTotalOrder}
 use Rattle.std.specs.Map.{lookup}
+use Rattle.std.specs.Map.Calls.{RetainsPairs}
 use Rattle.std.specs.BTreeMap.{BTreeMap, IsOrdered, is_at}
 use Rattle.std.specs.BTreeMap as tree
 use Rattle.std.proofs.lemmas.Cmp.{eq_by_cmp_equiv}
-use Rattle.std.specs.FinMap.{FinMap, IsAntisymmetric, get, get-insert, get-remove, get-empty, empty, from_entries, from_sorted, same_map}
+use Rattle.std.specs.FinMap.{FinMap, IsAntisymmetric, get, get-insert, get-remove, get-empty, empty, entries, entries-from_sorted, from_entries, from_sorted, same_map}
 use Rattle.table_defs.specs.declared.change.Change.{Change}
 use Rattle.table_defs.specs.Changes.{applied, key_of, value_of}
 use Rattle.table_laws.proofs.TableLemmas.{get-applied}
@@ -15,7 +16,7 @@ use Rattle.rib_sync.specs.Ribs.{RibOut, Rows, rows_of, rib_out, rib_in, flushed}
 use Rattle.rib_sync.specs.declared.kept.Kept.{Kept}
 use Rattle.rib_sync.specs.Kept.{set_at, told_by, told_if, told_at, change_to, overlaid, told_table, kept_rib}
 use Rattle.rib_sync.specs.declared.kept.News.{News}
-use Rattle.rib_sync.proofs.ListLemmas.{get-tree, get-ordered, from_sorted-entries}
+use Rattle.rib_sync.proofs.ListLemmas.{get-tree, get-ordered, from_sorted-entries, sorted}
 
 -- what the entry says, and where there is none what stood there
 abbrev says_or : {V E : Type 0} → (E → Option V) → Option E → Option V → Option V
@@ -150,3 +151,15 @@ module _ {K V : Type 0} (cmp : K → K → Ordering) (total : IsTotalOrder cmp) 
       same_map total exact (from_sorted to.entries) (applied (from_sorted from.entries) change)
       (λ q. get-ordered cmp to now q ∙ get-change from to (from_sorted from.entries) change set (get-ordered cmp from was) q)
       ∙ ap (λ rows. applied (rib_in cmp rows) change) is
+
+-- what a closure made of the entries of a map is what it made of those of the table
+module _ {K V F : Type 0} (cmp : K → K → Ordering) (T : F → K → V → Bool → V → F → Type 0) (f : F) where
+  listed : (m : BTreeMap K V) → IsOrdered cmp m → entries (rib_in cmp m.entries) ≡ m.entries
+  listed m ordered = entries-from_sorted cmp m.entries (sorted cmp m.entries ordered)
+
+  pub retained : (rows : List (K × V)) (from to : BTreeMap K V) → from.entries ≡ rows → IsOrdered cmp from → IsOrdered cmp to
+      → RetainsPairs T f from.entries to.entries → RetainsPairs T f (entries (rib_in cmp rows)) (entries (rib_in cmp to.entries))
+  retained rows from to is was now h =
+      let old : from.entries ≡ entries (rib_in cmp rows) = sym (listed from was) ∙ ap (λ (list : List (K × V)). entries (rib_in cmp list)) is in
+      subst (λ (list : List (K × V)). RetainsPairs T f (entries (rib_in cmp rows)) list) (sym (listed to now))
+      (subst (λ (list : List (K × V)). RetainsPairs T f list to.entries) old h)

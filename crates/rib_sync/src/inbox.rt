@@ -6,6 +6,7 @@ ghost use Rattle.std.specs.BTreeMap as tree;
 ghost use Rattle.std.specs.BTreeMap.{IsOrdered, IsUnchanged};
 ghost use Rattle.std.specs.FinMap as map;
 ghost use Rattle.std.specs.FinMap.{IsAntisymmetric};
+ghost use Rattle.std.specs.Map.Calls.{CallableOnEachPair, CalledAtPair, RetainsPairs, TakesPair};
 ghost use Rattle.table_defs.specs.Changes.{applied, key_of, value_of};
 ghost use Rattle.rib_sync.specs.Ribs.{rib_in};
 
@@ -73,6 +74,23 @@ impl<K: Copy + Ord, V: Drop> Inbox<K, V> {
         ensures unchanged { OnErr result (self.new ≡ self.old) }
     {
         make(&mut self.map, change)
+    }
+
+    /// Takes out the entry at the key. It takes no memory.
+    pub fn remove(&mut self, key: &K)
+        requires { IsAntisymmetric K.cmp }
+        ensures { rib_in K.cmp self.new ≡ map.remove (rib_in K.cmp self.old) key.now }
+    {
+        self.map.remove(key);
+    }
+
+    /// Calls the closure at each entry, in the keys' order. Those stay of which it answers `true`, each with the value that it
+    /// leaves there. It takes no memory.
+    pub fn retain<F: FnMut(&K, &mut V) -> bool>(&mut self, keep: F)
+        requires { CallableOnEachPair (CalledAtPair F.FnMut) (TakesPair F.FnMut) keep self.old }
+        ensures { RetainsPairs (CalledAtPair F.FnMut) keep (map.entries (rib_in K.cmp self.old)) (map.entries (rib_in K.cmp self.new)) }
+    {
+        self.map.retain(keep);
     }
 
     /// Takes out all entries.

@@ -5,4 +5,4 @@ mod key;
 mod value;
 
 pub use key::TableKey;
-pub use value::{COMM_LIMIT, TableValue};
+pub use value::{COMM_LIMIT, TableValue, same_attribute, same_comms, same_hop};

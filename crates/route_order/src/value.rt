@@ -81,14 +81,14 @@ impl TableValue {
 }
 
 /// Whether these are the same next hop.
-fn same_hop(own: Addr, other: Addr) -> bool
+pub fn same_hop(own: Addr, other: Addr) -> bool
     ensures { IsTrue result ↔ (own ≡ other) }
 {
     own == other
 }
 
 /// Whether these are the same communities.
-fn same_comms(own: &[ExtComm], other: &[ExtComm]) -> bool
+pub fn same_comms(own: &[ExtComm], other: &[ExtComm]) -> bool
     ensures { IsTrue result ↔ (own.now ≡ other.now) }
 {
     own == other
@@ -126,8 +126,8 @@ fn same_pmsi(own: &Pmsi, other: &Pmsi) -> bool
     same_tunnel(&own.tunnel, &other.tunnel)
 }
 
-/// Whether both are there and the same, or neither is.
-fn same_option(own: &Option<Pmsi>, other: &Option<Pmsi>) -> bool
+/// Whether both attributes are there and the same, or neither is.
+pub fn same_attribute(own: &Option<Pmsi>, other: &Option<Pmsi>) -> bool
     ensures { IsTrue result ↔ (own.now ≡ other.now) }
 {
     match (own, other) {
@@ -164,7 +164,7 @@ impl PartialEq for TableValue {
         if !same_comms(self.comms(), other.comms()) {
             return false;
         }
-        same_option(self.pmsi(), other.pmsi())
+        same_attribute(self.pmsi(), other.pmsi())
     }
 }
 

@@ -19,6 +19,6 @@ pub returns : goal.returns
 returns c =
     let hop = sym c.next_hop.ensures.next_hop ∙ c.same_hop.ensures.0 c.if-not-same_hop.false ∙ c.next_hop-2.ensures.next_hop in
     let comms = sym c.comms.ensures.comms ∙ c.same_comms.ensures.0 c.if-not-same_comms.false ∙ c.comms-2.ensures.comms in
-    let same = c.same_option.ensures in
-    by_tunnel c.args.self.now c.args.other.now c.same_option.result hop comms
+    let same = c.same_attribute.ensures in
+    by_tunnel c.args.self.now c.args.other.now c.same_attribute.result hop comms
     (λ h. sym c.pmsi.ensures ∙ same.0 h ∙ c.pmsi-2.ensures, λ e. same.1 (c.pmsi.ensures ∙ e ∙ sym c.pmsi-2.ensures))

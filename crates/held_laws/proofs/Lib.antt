@@ -1,0 +1,3 @@
+pub mod Originated
+pub mod Changed
+pub mod Calls

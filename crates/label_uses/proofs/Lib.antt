@@ -4,3 +4,4 @@ pub mod ListLemmas
 pub mod StepLemmas
 pub mod SeenLemmas
 pub mod LossLemmas
+pub mod TowardLemmas

@@ -1,5 +1,5 @@
 -- What the labels of a node are used for, and which raise of each session is the present one.
-use Rattle.std.specs.Prelude.{◌≡◌, ◌⊎◌, ℕ, ◌+◌, ◌-◌, nat_lt, List, [], ◌∷◌, map, replicate, slice_get}
+use Rattle.std.specs.Prelude.{◌≡◌, ◌⊎◌, ℕ, ◌+◌, ◌-◌, ◌==◌, Bool, false, nat_lt, List, [], ◌∷◌, map, replicate, slice_get}
 use Rattle.std.specs.Prelude.{slice_set, position, option_map, Option, None, Some, refl, if◌then◌else◌}
 use Rattle.std.specs.Coded.{Coded, code_by, coded×, coded_list, coded_ℕ}
 use Rattle.std.specs.FinMap as maps
@@ -77,6 +77,10 @@ with_released labels from fec label until = elim (use_in labels label) [
   | None ↦ labels
   | Some usage ↦ set_use labels label (released from fec until usage)
 ]
+
+-- whether the use is towards the neighbour: mapped, or leaving
+abbrev pub is_toward : NodeId → Option LabelUse → Bool
+is_toward peer usage = elim (upstream_of usage) [ None ↦ false | Some upstream ↦ upstream.0 == peer.0 ]
 
 -- the labels and sessions behind the loss of the session with the neighbour
 abbrev pub without : NodeId → Uses → Uses

@@ -1,6 +1,6 @@
 //! Labels that are mapped or leaving.
 ghost use Rattle.std.specs.Prelude.{◌≡◌, ◌<◌, ◌&&◌, ℕ, nat_eq, None, Some, IfOk, if◌then◌else◌};
-ghost use Rattle.indexmap.specs.IndexMap.{get, spare};
+ghost use Rattle.indexmap.specs.IndexMap.{get, spare, IsUnique};
 ghost use Rattle.label_uses.specs.Held.{is_fec, is_node, labels_toward};
 
 use indexmap::IndexMap;
@@ -49,7 +49,8 @@ pub(crate) fn labels_toward(
     held: &HeldLabels,
     peer: NodeId,
 ) -> Result<Vec<u32>, NoMemory>
-    ensures { IfOk result (λ labels. labels.items ≡ labels_toward peer held.now.entries) }
+    ensures listed { IfOk result (λ labels. labels.items ≡ labels_toward peer held.now.entries) }
+    ensures unique { IsUnique nat_eq held.now }
 {
     let mut labels = Vec::new(alloc);
     'held: for (label, own) in held.iter() {

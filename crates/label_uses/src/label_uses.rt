@@ -1,12 +1,15 @@
 //! The labels of a node.
-ghost use Rattle.std.specs.Prelude.{◌≡◌, ◌≤◌, ◌<◌, ◌^◌, ◌+◌, true, is_some, None, Some, map, count_by, IfOk, OnOk, OnErr, IfSome};
+ghost use Rattle.std.specs.Prelude.{◌≡◌, ◌≤◌, ◌<◌, ◌^◌, ◌+◌, ℕ, nat_eq, true, is_some, None, Some, map, count_by, IfOk, OnOk, OnErr, IfSome};
+ghost use Rattle.std.specs.List.{list_any};
 ghost use Rattle.std.specs.FinMap as maps;
+ghost use Rattle.std.specs.FinSet as sets;
 ghost use Rattle.label_defs.specs.declared.label_use.LabelUse.TheVariants as uses;
+ghost use Rattle.label_defs.specs.Keys.{fec_cmp};
 ghost use Rattle.label_defs.specs.LabelData.{is_rested};
 ghost use Rattle.label_defs.specs.Steps.{woken};
 ghost use Rattle.label_defs.specs.Settling.{upstream_of};
 ghost use Rattle.label_uses.specs.Uses.{Uses, unused, use_in, set_use, free_in, mapped_in, with_mapped};
-ghost use Rattle.label_uses.specs.Uses.{with_released, without, lost_at, lost_all, AreBindings};
+ghost use Rattle.label_uses.specs.Uses.{with_released, is_toward, without, lost_at, lost_all, AreBindings};
 ghost use Rattle.label_uses.specs.Held.{left, rested};
 ghost use Rattle.tunnel_bindings.specs.Labels.{IsOwned};
 ghost use Rattle.tunnel_bindings.specs.States.{label_of};
@@ -275,6 +278,21 @@ impl LabelUses {
             None => None,
             Some(own) => Some(own.upstream),
         }
+    }
+
+    /// The labels that are mapped or leaving towards the neighbour, in no order.
+    pub fn labels_toward(&self, peer: NodeId) -> Result<Vec<u32>, NoMemory>
+        ensures { IfOk result (λ labels. (label : ℕ) →
+            list_any (λ own. nat_eq own label) labels.items ≡ is_toward peer (use_in self.now.labels label)) }
+    {
+        labels_toward(self.alloc, &self.held, peer)
+    }
+
+    /// The trees that wait, each once, in no order.
+    pub fn waiting_trees(&self) -> Result<Vec<Fec>, NoMemory>
+        ensures { IfOk result (λ fecs. sets.from_list {R = fec_cmp} fecs.items ≡ sets.from_list (maps.keys self.now.waiting)) }
+    {
+        table::waiting_trees(self.alloc, &self.waiting)
     }
 
     /// Whether the session with the neighbour is up.

@@ -1,6 +1,6 @@
 //! The trees to which a label is mapped, those that wait for one, and the raises of sessions.
-ghost use Rattle.std.specs.Prelude.{◌≡◌, ◌<◌, ◌&&◌, ℕ, not, None, Some, if◌then◌else◌};
-ghost use Rattle.indexmap.specs.IndexMap.{get, spare};
+ghost use Rattle.std.specs.Prelude.{◌≡◌, ◌<◌, ◌&&◌, ℕ, not, None, Some, IfOk, if◌then◌else◌};
+ghost use Rattle.indexmap.specs.IndexMap.{get, keys, spare};
 ghost use Rattle.mldp_fec.specs.declared.fec.Fec.{Fec};
 ghost use Rattle.label_uses.specs.declared.table.Waiting.{Waiting};
 ghost use Rattle.label_uses.specs.Held.{is_fec};
@@ -8,7 +8,8 @@ ghost use Rattle.label_uses.specs.Held.{is_fec};
 use crate::held::Held;
 use indexmap::IndexMap;
 use mldp_fec::Fec;
-use mv_base::NodeId;
+use mv_base::{NoMemory, NodeId};
+use std::alloc::Global;
 use tunnel_bindings::{BindingName, Incarnation};
 
 /// The label that is mapped to a tree, by FEC.
@@ -69,4 +70,11 @@ pub(crate) fn forget_waiting(waiting: &mut WaitingTrees, fec: &Fec)
         get is_fec waiting.new other ≡ (if is_fec fec.now other then None else get is_fec waiting.old other) }
 {
     waiting.swap_remove(fec);
+}
+
+/// The trees that wait.
+pub(crate) fn waiting_trees(alloc: Global, waiting: &WaitingTrees) -> Result<Vec<Fec>, NoMemory>
+    ensures { IfOk result (λ fecs. fecs.items ≡ keys waiting.now) }
+{
+    Ok(Vec::from_slice(alloc, waiting.keys().as_slice())?)
 }

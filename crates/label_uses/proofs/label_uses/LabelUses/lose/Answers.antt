@@ -14,7 +14,7 @@ use Rattle.label_uses.proofs.label_uses.LabelUses.lose.Goals as goal
 
 pub invariant_of-self : goal.invariant_of-self
 invariant_of-self c =
-    let listed = c.deref.ensures.value ∙ c.in_ok-labels.ensures in
+    let listed = c.deref.ensures.value ∙ c.in_ok-labels.ensures.listed in
     let labels = ap (λ (u : Uses). u.labels) (c.self-2.view_is ∙ c.lose_all.ensures)
     ∙ (ap (λ (ls : List ℕ). lost_all c.args.peer c.args.self.now.labels ls) listed
     ∙ (ap (λ (u : Uses). lost_all c.args.peer u.labels (labels_toward c.args.peer c.self.inside.held.entries)) (sym c.self.view_is)
@@ -28,7 +28,7 @@ invariant_of-self c =
 
 pub returns-clause-lost : goal.returns-clause-lost
 returns-clause-lost c =
-    let listed = c.deref.ensures.value ∙ c.in_ok-labels.ensures in
+    let listed = c.deref.ensures.value ∙ c.in_ok-labels.ensures.listed in
     let behind = c.self-2.view_is ∙ c.lose_all.ensures in
     let life = ap (λ (u : Uses). u.life) behind in
     let labels = ap (λ (u : Uses). u.labels) behind

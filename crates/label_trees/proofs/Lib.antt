@@ -1,1 +1,4 @@
 pub mod MapLemmas
+pub mod OrderLemmas
+pub mod TreeLemmas
+pub mod LossLemmas

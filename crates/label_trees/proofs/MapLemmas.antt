@@ -1,9 +1,8 @@
 -- The notes of a forwarding table behind a change of one label.
 use Rattle.std.proofs.Common.{◌≡◌, ◌≢◌, ℕ, ◌==◌, ◌&&◌, Bool, true, false, cond, List, Option, Some, None, Result, Ok, Err, OnOk, OnErr, subst, option_map, map, inl, inr, refl, sym, ap, ◌∙◌}
-use Rattle.std.specs.Prelude.{replicate, slice_get, nat_le}
+use Rattle.std.specs.Prelude.{replicate, nat_le}
 use Rattle.std.specs.FinMap as maps
 use Rattle.std.specs.FinMap.{FinMap}
-use Rattle.std.specs.Ordering.{eq_by_cmp}
 use Rattle.std.proofs.lemmas.Bool.{cases_eq}
 use Rattle.mv_base.specs.declared.ids.NodeId.{NodeId}
 use Rattle.mldp_fec.specs.declared.fec.Fec.{Fec}
@@ -51,7 +50,7 @@ apart_label from upstream label one ne e = ne (ap (λ (b : Branch). b.label) e)
 apart_node : (from upstream : NodeId) (label : ℕ) → (from ≡ upstream → ⊥) → hop from label ≡ hop upstream label → ⊥
 apart_node from upstream label ne e = ne (ap (λ (b : Branch). b.node) e)
 
-mapped_under : (fec : Fec) (upstream : NodeId) → fec_under (Some (uses.Mapped fec upstream)) upstream ≡ Some fec
+pub mapped_under : (fec : Fec) (upstream : NodeId) → fec_under (Some (uses.Mapped fec upstream)) upstream ≡ Some fec
 mapped_under fec upstream = ap (λ (b : Bool). cond b (Some fec) None) (node_itself upstream upstream refl)
 
 other_under : (fec : Fec) (upstream from : NodeId) → (from ≡ upstream → ⊥) → fec_under (Some (uses.Mapped fec upstream)) from ≡ None

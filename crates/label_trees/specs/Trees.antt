@@ -12,6 +12,7 @@ use Rattle.label_defs.specs.declared.label_use.LabelUse.{LabelUse}
 use Rattle.label_defs.specs.declared.label_use.LabelUse.TheVariants as uses
 use Rattle.label_defs.specs.contracts.branch.Branch as tree_branches
 use Rattle.label_defs.specs.Keys.{fec_cmp, branch_cmp}
+use Rattle.label_defs.specs.LabelData.{trees}
 use Rattle.label_forwarding.specs.Hops.{hop_cmp}
 use Rattle.label_forwarding.specs.FibData.{FibData, hop}
 use Rattle.label_uses.specs.Uses.{Uses, uses_code, unused, use_in}
@@ -30,6 +31,11 @@ trees_code = code_by (Uses × (FinSet fec_cmp × FinSet branch_cmp))
 -- nothing has happened yet
 abbrev pub untouched : ℕ → ℕ → Trees
 untouched life count = record { uses = unused life count; leaves = sets.empty; branches = sets.empty }
+
+-- the trees of the node, in their order: those with a branch, a leaf or a mapped label
+abbrev pub trees_in : Trees → List Fec
+trees_in own =
+    trees (record { labels = own.uses.labels; branches = own.branches; leaves = own.leaves; waiting = sets.empty; ends = maps.empty })
 
 -- the forwarding table with these notes, and with the leaves and branches of the trees
 abbrev pub fib_with : FinMap hop_cmp Fec → Trees → FibData

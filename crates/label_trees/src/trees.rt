@@ -1,16 +1,20 @@
 //! The labels of a node, and its forwarding table.
-ghost use Rattle.std.specs.Prelude.{◌≡◌, ◌≤◌, ◌<◌, ◌^◌, ◌+◌, true, is_some, None, Some, map, count_by, IfOk, OnOk};
+ghost use Rattle.std.specs.Prelude.{◌≡◌, ◌≤◌, ◌<◌, ◌^◌, ◌+◌, ◌==◌, true, not, is_some, None, Some, map, count_by, IfOk, OnOk};
 ghost use Rattle.std.specs.FinMap as maps;
 ghost use Rattle.std.specs.FinSet as sets;
 ghost use Rattle.label_defs.specs.declared.label_use.LabelUse.TheVariants as uses;
+ghost use Rattle.label_defs.specs.Keys.{fec_cmp};
 ghost use Rattle.label_defs.specs.LabelData.{is_rested};
+ghost use Rattle.label_defs.specs.Members.{in_order};
 ghost use Rattle.label_defs.specs.Settling.{upstream_of};
 ghost use Rattle.label_defs.specs.Steps.{branch_to, woken};
 ghost use Rattle.label_forwarding.specs.FibData.{with_leaf, is_on};
-ghost use Rattle.label_uses.specs.Uses.{use_in, set_use, free_in, mapped_in, with_mapped, with_released, AreBindings};
-ghost use Rattle.label_trees.specs.Trees.{Trees, untouched, fib_with, IsFibOf};
+ghost use Rattle.label_uses.specs.Uses.{use_in, set_use, free_in, mapped_in, with_mapped, with_released, without, AreBindings};
+ghost use Rattle.label_trees.specs.Trees.{Trees, untouched, trees_in, fib_with, IsFibOf};
 
+use crate::loss::{branches_toward, unbranch_all, unmap_all};
 use crate::mapped::note;
+use crate::order::in_order;
 use label_forwarding::{Branch, Fib};
 use label_uses::LabelUses;
 use mldp_fec::Fec;
@@ -23,6 +27,7 @@ use tunnel_bindings::{Bindings, Incarnation};
 ///
 /// After want of memory nothing is said of what it has, but for what ties its parts to each other.
 pub struct LabelTrees {
+    alloc: Global,
     uses: LabelUses,
     fib: Fib,
 }
@@ -47,6 +52,7 @@ impl LabelTrees {
         ensures { IfOk result (λ fresh. fresh ≡ untouched life count) }
     {
         Ok(LabelTrees {
+            alloc,
             uses: LabelUses::of(alloc, count, life)?,
             fib: Fib::of(alloc),
         })
@@ -137,6 +143,23 @@ impl LabelTrees {
         self.uses.release(from, fec, label, now);
     }
 
+    /// The session with the neighbour is lost: its labels are free at once, and its branches are dropped.
+    pub fn lose(&mut self, peer: NodeId) -> Result<(), NoMemory>
+        ensures { OnOk result (self.new ≡ record {
+          uses = without peer self.old.uses;
+          leaves = self.old.leaves;
+          branches = sets.retain self.old.branches (λ branch. not (branch.node.0 == peer.0));
+        }) }
+    {
+        let labels = self.uses.labels_toward(peer)?;
+        let fecs = self.fib.trees(self.alloc)?;
+        let branches = branches_toward(self.alloc, &self.fib, &fecs, peer)?;
+        self.uses.lose(peer)?;
+        unmap_all(&mut self.fib, peer, &labels);
+        unbranch_all(&mut self.fib, &branches);
+        Ok(())
+    }
+
     /// Each label whose rest is over is free.
     pub fn wake(&mut self, now: u64)
         ensures { self.new ≡ record self.old { uses = record self.old.uses { labels = map (woken now) self.old.uses.labels } } }
@@ -165,6 +188,20 @@ impl LabelTrees {
         self.uses.upstream(label)
     }
 
+    /// The trees that wait, in their order.
+    pub fn waiting(&self) -> Result<Vec<Fec>, NoMemory>
+        ensures { IfOk result (λ fecs. fecs.items ≡ in_order (sets.from_list {R = fec_cmp} (maps.keys self.now.uses.waiting))) }
+    {
+        in_order(self.uses.waiting_trees()?)
+    }
+
+    /// The trees of the node, in their order: those with a branch, a leaf or a mapped label.
+    pub fn trees(&self) -> Result<Vec<Fec>, NoMemory>
+        ensures { IfOk result (λ fecs. fecs.items ≡ trees_in self.now) }
+    {
+        in_order(self.fib.trees(self.alloc)?)
+    }
+
     /// Whether the node is on the tree: it is a leaf of it, or has a branch.
     pub fn is_on(&self, fec: &Fec) -> bool
         ensures { result ≡ is_on (fib_with maps.empty self.now) fec.now }
@@ -188,7 +225,11 @@ impl LabelTrees {
 
     /// Frees each label that is mapped or leaving.
     pub fn close(self) {
-        let LabelTrees { uses, fib: _ } = self;
+        let LabelTrees {
+            alloc: _,
+            uses,
+            fib: _,
+        } = self;
         uses.close();
     }
 }

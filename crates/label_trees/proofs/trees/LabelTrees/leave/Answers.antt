@@ -1,5 +1,4 @@
-use Rattle.std.proofs.Common.{Some, ◌≡◌, sym, ap, ◌∙◌}
-use Rattle.label_defs.specs.declared.label_use.LabelUse.TheVariants as uses
+use Rattle.std.proofs.Common.{ap, ◌∙◌}
 use Rattle.label_uses.specs.Uses.{use_in}
 use Rattle.label_trees.specs.Trees.{Trees}
 use Rattle.label_trees.proofs.MapLemmas.{withdrawn}

@@ -114,7 +114,7 @@ module _ (place : EdgePlace) (now : ℕ) (control : Control) (own : OwnVrf) (sou
       among_filter (is_asking place now control own source group) iface (ifaces_of place own) (is_asks place now control own source group iface is.asks) (ifaces_to place.scenario own.id iface is.of_vrf)
 
   -- another edge has joined
-  joined_from : is_joined_in place control own source group ≡ true → IsJoined place control own source group
+  pub joined_from : is_joined_in place control own source group ≡ true → IsJoined place control own source group
   joined_from h =
       let peer = any_among (is_joined_by place own source group) (maps.entries control.peers) h in
       let flow = any_among (same_flow source group) (found_in (imported_join place own.vrf) (maps.entries peer.0.1)) peer.2 in
@@ -127,7 +127,7 @@ module _ (place : EdgePlace) (now : ℕ) (control : Control) (own : OwnVrf) (sou
         joins = found.2 ∙ ap (λ (f : FlowRoute). Some f) (one_flow source group flow.0 flow.2);
       }
 
-  joined_to : IsJoined place control own source group → is_joined_in place control own source group ≡ true
+  pub joined_to : IsJoined place control own source group → is_joined_in place control own source group ≡ true
   joined_to is =
       let t = table_of control is.peer is.key is.route is.taken in
       let flow : FlowRoute = record { source = source; group = group } in
@@ -217,7 +217,7 @@ true_second true c h = refl
 true_second false c h = h
 
 module _ (place : EdgePlace) (control : Control) (own : OwnVrf) (fec : Fec) where
-  imported_from : (peer : NodeId) (table : Taken) → Among (peer, table) (maps.entries control.peers) → is_imported_from place own fec (peer, table) ≡ true → IsImported place control own peer fec
+  pub imported_from : (peer : NodeId) (table : Taken) → Among (peer, table) (maps.entries control.peers) → is_imported_from place own fec (peer, table) ≡ true → IsImported place control own peer fec
   imported_from peer table a h =
       let entry = any_among (is_route_of place own peer fec) (maps.entries table) h in
       let inclusive = imported_inclusive own.vrf (addr_of place.scenario peer) entry.0 in
@@ -232,7 +232,7 @@ module _ (place : EdgePlace) (control : Control) (own : OwnVrf) (fec : Fec) wher
         ];
       }
 
-  imported_to : (peer : NodeId) (table : Taken) (key : Key) (route : TakenRoute) → Among (key, route) (maps.entries table)
+  pub imported_to : (peer : NodeId) (table : Taken) (key : Key) (route : TakenRoute) → Among (key, route) (maps.entries table)
       → (imported_inclusive own.vrf (addr_of place.scenario peer) (key, route) ≡ Some fec)
       ⊎ ((imported : ImportedSelective) × (imported_selective own.vrf (addr_of place.scenario peer) (key, route) ≡ Some imported) × (imported.fec ≡ fec))
       → is_imported_from place own fec (peer, table) ≡ true

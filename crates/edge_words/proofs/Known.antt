@@ -41,7 +41,7 @@ use Rattle.edge_words.proofs.Members.{taken_of}
 
 -- ---- addresses of nodes
 
-addr_at : (scenario : Scenario) (n : NodeId) (node : Node) → slice_get scenario.nodes n.0 ≡ Some node → addr_of scenario n ≡ node.addr
+pub addr_at : (scenario : Scenario) (n : NodeId) (node : Node) → slice_get scenario.nodes n.0 ≡ Some node → addr_of scenario n ≡ node.addr
 addr_at scenario n node e = ap (λ (o : Option Node). elim o [ None ↦ V4 [] | Some found ↦ found.addr ]) e
 
 some_node : (nodes : List Node) (k : ℕ) → k < length nodes → (node : Node) × (slice_get nodes k ≡ Some node)
@@ -55,7 +55,7 @@ apart_from : (x y : Addr) → x ≡ y → same_addr x y ≡ false → ⊥
 apart_from x y same apart = opposite (same_addr x y) (ap (λ (z : Addr). same_addr z y) same ∙ same_addr_equiv.refl y) apart
 
 -- nodes of one address are one
-one_node : (scenario : Scenario) → Rules scenario → (a b : NodeId) → a.0 < length scenario.nodes → b.0 < length scenario.nodes → addr_of scenario a ≡ addr_of scenario b → a ≡ b
+pub one_node : (scenario : Scenario) → Rules scenario → (a b : NodeId) → a.0 < length scenario.nodes → b.0 < length scenario.nodes → addr_of scenario a ≡ addr_of scenario b → a ≡ b
 one_node scenario rules a b low high same =
     let here = some_node scenario.nodes a.0 low in
     let there = some_node scenario.nodes b.0 high in

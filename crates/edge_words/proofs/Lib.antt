@@ -5,3 +5,4 @@ pub mod Goes
 pub mod Quiet
 pub mod Numbers
 pub mod Known
+pub mod Prefixes

@@ -1,0 +1,15 @@
+pub mod Entries
+pub mod Ifaces
+pub mod Asking
+pub mod Choices
+pub mod Whole
+pub mod Flows
+pub mod Wanting
+pub mod Entering
+pub mod Leaving
+pub mod Joins
+pub mod Start
+pub mod Changes
+pub mod Refreshed
+pub mod Customers
+pub mod Peers

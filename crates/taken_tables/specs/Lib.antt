@@ -1,0 +1,4 @@
+pub mod Tables
+pub mod Running
+pub mod Routes
+pub mod Slots

@@ -1,5 +1,5 @@
--- The orders of flows, notes and Source Active routes are total, and what ties in them is equal.
-use Rattle.std.proofs.Common.{◌≡◌, ℕ, ◌==◌, ◌&&◌, Bool, true, nat_eq, arith, Option, None, Some, refl, ap, subst}
+-- The orders of flows, notes, Source Active routes and joins of other edges are total, and what ties in them is equal.
+use Rattle.std.proofs.Common.{◌≡◌, ℕ, ◌==◌, ◌&&◌, Bool, true, nat_eq, arith, List, [], ◌∷◌, Option, None, Some, refl, ap, subst}
 use Rattle.std.specs.declared.cmp.Ordering.{Ordering}
 use Rattle.std.proofs.lemmas.Bool.{and_parts, and_from}
 use Rattle.std.specs.Ordering.{is_eq, eq_by_cmp}
@@ -14,10 +14,13 @@ use Rattle.selective_defs.proofs.PartLemmas.{one_addr}
 use Rattle.tree_defs.specs.declared.flow.Flow.{Flow}
 use Rattle.tree_defs.specs.declared.flow.Note.{Note}
 use Rattle.tree_defs.specs.declared.flow.ActiveRoute.{ActiveRoute}
+use Rattle.tree_defs.specs.declared.flow.TakenJoin.{TakenJoin}
 use Rattle.tree_defs.specs.contracts.flow.NotePartialEq.TheImpl as notes_equal
 use Rattle.tree_defs.specs.contracts.flow.ActiveRoutePartialEq.TheImpl as actives_equal
+use Rattle.tree_defs.specs.contracts.flow.TakenJoinPartialEq.TheImpl as joins_equal
 use Rattle.tree_defs.specs.declared.flow.Upstream.{Upstream}
 use Rattle.tree_defs.specs.Flows.{same_upstream}
+use Rattle.tree_defs.specs.Trees.{join_cmp}
 use Rattle.tree_defs.specs.Keys.{same_flow, parts_cmp, flow_parts, flow_cmp, note_parts, note_cmp, active_parts, active_cmp}
 
 parts_total : IsTotalOrder parts_cmp
@@ -37,6 +40,12 @@ note_total = on_total note_parts parts_total
 
 pub active_total : IsTotalOrder active_cmp
 active_total = on_total active_parts parts_total
+
+abbrev join_parts : TakenJoin → List (List ℕ)
+join_parts join = (join.peer.0 ∷ []) ∷ flow_parts join.flow
+
+pub join_total : IsTotalOrder join_cmp
+join_total = on_total join_parts parts_total
 
 one_flow : (a b : Flow) → addr_key a.source ≡ addr_key b.source → addr_key a.group ≡ addr_key b.group → a ≡ b
 one_flow a b from to =
@@ -76,6 +85,17 @@ active_exact a b e = by (parts_exact (active_parts a) (active_parts b) e)
         let flow = one_flow a.flow b.flow from to in
         λ i. record { peer = record { 0 = peer i }; rd = rd i; flow = flow i }
 
+pub join_exact : IsAntisymmetric join_cmp
+join_exact a b e = by (parts_exact (join_parts a) (join_parts b) e)
+  where
+    by : join_parts a ≡ join_parts b → a ≡ b
+    by e =
+        let peer : a.peer.0 ≡ b.peer.0 = cc in
+        let from : addr_key a.flow.source ≡ addr_key b.flow.source = cc in
+        let to : addr_key a.flow.group ≡ addr_key b.flow.group = cc in
+        let flow = one_flow a.flow b.flow from to in
+        λ i. record { peer = record { 0 = peer i }; flow = flow i }
+
 -- ---- what `==` tells is what ties
 
 pub same_flow_equal : (a b : Flow) → same_flow a b ≡ true → a ≡ b
@@ -101,12 +121,15 @@ tied {K} cmp same total exact equal itself a b = both_ways (same a b) (eq_by_cmp
 pub flow_ties : (a b : Flow) → same_flow a b ≡ eq_by_cmp flow_cmp a b
 flow_ties = tied flow_cmp same_flow flow_total flow_exact same_flow_equal same_flow_itself
 
--- whether both are one note, and one route, as `==` tells it
+-- whether both are one note, one route, and one join, as `==` tells it
 abbrev pub same_note : Note → Note → Bool
 same_note = notes_equal.ghosts.eq
 
 abbrev pub same_active : ActiveRoute → ActiveRoute → Bool
 same_active = actives_equal.ghosts.eq
+
+abbrev pub same_join : TakenJoin → TakenJoin → Bool
+same_join = joins_equal.ghosts.eq
 
 note_equal : (a b : Note) → same_note a b ≡ true → a ≡ b
 note_equal a b h =
@@ -140,6 +163,21 @@ active_itself a =
 pub active_ties : (a b : ActiveRoute) → same_active a b ≡ eq_by_cmp active_cmp a b
 active_ties = tied active_cmp same_active active_total active_exact active_equal active_itself
 
+join_equal : (a b : TakenJoin) → same_join a b ≡ true → a ≡ b
+join_equal a b h =
+    let both = and_parts (a.peer.0 == b.peer.0) (same_flow a.flow b.flow) h in
+    let peer = numbers_equal a.peer.0 b.peer.0 both.0 in
+    let flow = same_flow_equal a.flow b.flow both.1 in
+    λ i. record { peer = record { 0 = peer i }; flow = flow i }
+
+join_itself : (a : TakenJoin) → same_join a a ≡ true
+join_itself a =
+    let peer : (a.peer.0 == a.peer.0) ≡ true = grind (arith, nat_tests) in
+    and_from _ _ peer (same_flow_itself a.flow)
+
+pub join_ties : (a b : TakenJoin) → same_join a b ≡ eq_by_cmp join_cmp a b
+join_ties = tied join_cmp same_join join_total join_exact join_equal join_itself
+
 -- ---- upstreams
 
 pub same_upstream_itself : (o : Option Upstream) → same_upstream o o ≡ true
@@ -149,3 +187,16 @@ same_upstream_itself (Some own) =
     let number : (own.import.1 == own.import.1) ≡ true = grind (arith, nat_tests) in
     let source_as : (own.source_as == own.source_as) ≡ true = grind (arith, nat_tests) in
     and_from _ _ edge (and_from _ _ ((bytes_decides own.rd.0 own.rd.0).1 refl) (and_from _ _ (and_from _ _ (same_addr_equiv.refl own.import.0) number) source_as))
+
+pub same_upstream_equal : (own other : Upstream) → same_upstream (Some own) (Some other) ≡ true → own ≡ other
+same_upstream_equal own other h =
+    let one = and_parts (own.edge.0 == other.edge.0) _ h in
+    let two = and_parts (pointwise nat_eq own.rd.0 other.rd.0) _ one.1 in
+    let three = and_parts (same_addr own.import.0 other.import.0 && (own.import.1 == other.import.1)) (own.source_as == other.source_as) two.1 in
+    let four = and_parts (same_addr own.import.0 other.import.0) (own.import.1 == other.import.1) three.0 in
+    let edge = numbers_equal own.edge.0 other.edge.0 one.0 in
+    let rd = (bytes_decides own.rd.0 other.rd.0).0 two.0 in
+    let addr = same_addr_equal own.import.0 other.import.0 four.0 in
+    let number = numbers_equal own.import.1 other.import.1 four.1 in
+    let source_as = numbers_equal own.source_as other.source_as three.1 in
+    λ i. record { edge = record { 0 = edge i }; rd = record { 0 = rd i }; import = (addr i, number i); source_as = source_as i }

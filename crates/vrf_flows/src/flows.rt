@@ -2,7 +2,7 @@
 ghost use Rattle.std.specs.Prelude.{◌≡◌, ◌<◌, ◌≤◌, ◌^◌, ◌++◌, [], ◌∷◌, ℕ, min, true, false, Err, IfOk, OnOk, OnErr};
 ghost use Rattle.std.specs.FinMap as maps;
 ghost use Rattle.std.specs.FinSet as sets;
-ghost use Rattle.indexmap.specs.IndexMap.{get};
+ghost use Rattle.indexmap.specs.IndexMap.{get, IsUnique};
 ghost use Rattle.mv_base.specs.declared.ids.NodeId.{NodeId};
 ghost use Rattle.pim_defs.specs.Entries.{applied, are_too_many, due, kept_at};
 ghost use Rattle.umh_select.specs.Routes.{AreCosts, AreOfCore, held_of, key_from, key_here, without_peer};
@@ -254,6 +254,7 @@ impl VrfFlows {
         ensures leaves { (cost : NodeId → ℕ) → AreCosts core.now me cost → (q : Flow) →
             IfOk result (λ changes. get same_flow changes.leaves q
             ≡ lost (upstream_of (maps.get self.old.flows q)) (upstream_of (flow_of self.old cost now q))) }
+        ensures once { IfOk result (λ changes. (IsUnique same_flow changes.joins) × (IsUnique same_flow changes.leaves)) }
     {
         self.state.refresh(now, me, core)
     }

@@ -362,6 +362,7 @@ impl State {
         ensures leaves { (cost : NodeId → ℕ) → AreCosts core.now me cost → (q : Flow) →
             IfOk result (λ changes. get same_flow changes.leaves q
             ≡ lost (upstream_of (maps.get (vrf_of self.old).flows q)) (upstream_of (flow_of (vrf_of self.old) cost now q))) }
+        ensures once { IfOk result (λ changes. (IsUnique same_flow changes.joins) × (IsUnique same_flow changes.leaves)) }
     {
         match self.refreshed(now, me, core) {
             Ok(changes) => Ok(changes),
@@ -386,6 +387,7 @@ impl State {
         ensures leaves { (cost : NodeId → ℕ) → AreCosts core.now me cost → (q : Flow) →
             IfOk result (λ changes. get same_flow changes.leaves q
             ≡ lost (upstream_of (maps.get (vrf_of self.old).flows q)) (upstream_of (flow_of (vrf_of self.old) cost now q))) }
+        ensures once { IfOk result (λ changes. (IsUnique same_flow changes.joins) × (IsUnique same_flow changes.leaves)) }
     {
         // The core is asked, so that it is known here that each node is reached.
         let _ = core.nodes();

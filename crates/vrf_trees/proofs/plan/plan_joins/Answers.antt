@@ -1,0 +1,13 @@
+use Rattle.std.proofs.Common.{rules, ◌≡◌, ◌∙◌}
+use Rattle.indexmap.specs.IndexMap.{get}
+use Rattle.tree_defs.specs.Keys.{same_flow}
+use Rattle.vrf_flows.specs.Plan.{puts}
+use Rattle.vrf_flows.proofs.FlowLemmas.{puts-lookup}
+use Rattle.vrf_trees.specs.Plan.{joins_for}
+use Rattle.vrf_trees.proofs.PlanLemmas.{joins-end}
+use Rattle.vrf_trees.proofs.plan.plan_joins.Goals as goal
+
+pub returns-clause-each : goal.returns-clause-each
+returns-clause-each c = λ q.
+    let all : get same_flow c.loop-flow.plan q ≡ puts (joins_for c.args.leaf.now) c.args.joins.now.entries (get same_flow c.args.plan.now q) q = search rules in
+    all ∙ (puts-lookup (joins_for c.args.leaf.now) c.args.joins.now.entries (get same_flow c.args.plan.now q) q c.requires.joins ∙ joins-end c.args.leaf.now q (get same_flow c.args.joins.now q) (get same_flow c.args.plan.now q))

@@ -1,0 +1,13 @@
+use Rattle.std.proofs.Common.{◌≡◌}
+use Rattle.indexmap.specs.IndexMap.{get, IsUnique}
+use Rattle.tree_defs.specs.declared.flow.Flow.{Flow}
+use Rattle.tree_defs.specs.Keys.{same_flow}
+use Rattle.vrf_flows.specs.Plan.{puts}
+use Rattle.vrf_trees.specs.Plan.{joins_for}
+use Rattle.vrf_trees.proofs.plan.plan_joins.Given as goal
+
+abbrev pub invariant-loop-flow : goal.invariant-loop-flow
+invariant-loop-flow l = record {
+  each : (q : Flow) → puts (joins_for l.leaf) l.flow-iterator (get same_flow l.plan q) q ≡ puts (joins_for l.leaf) l.joins.entries (get same_flow l.initial.plan q) q;
+  unique : IsUnique same_flow l.plan;
+}

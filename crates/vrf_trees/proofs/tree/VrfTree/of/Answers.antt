@@ -1,0 +1,7 @@
+use Rattle.std.proofs.Common.{rules, ap}
+use Rattle.tree_defs.specs.Flows.{VrfData}
+use Rattle.vrf_trees.proofs.RefreshLemmas.{none-sound}
+use Rattle.vrf_trees.proofs.tree.VrfTree.of.Goals as goal
+
+pub invariant_of-result : goal.invariant_of-result
+invariant_of-result c = none-sound c.of-3.result c.of.result.flows c.new.result c.new.ensures.unique (λ q. search rules) (ap (λ (v : VrfData). v.flows) c.of.ensures)

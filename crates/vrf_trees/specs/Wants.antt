@@ -1,0 +1,98 @@
+-- The selective tunnels that flows want of other edges, kept flow by flow.
+use Rattle.std.specs.Prelude.{◌≡◌, ◌==◌, ◌&&◌, ◌||◌, Bool, true, false, List, map, Option, None, Some}
+use Rattle.std.specs.List.{list_any, flat_map}
+use Rattle.std.specs.FinMap as maps
+use Rattle.std.specs.FinMap.{FinMap}
+use Rattle.std.specs.declared.hash.FoldHasher.{FoldHasher}
+use Rattle.std.specs.declared.hash.BuildHasherDefault.{BuildHasherDefault}
+use Rattle.indexmap.specs.IndexMap.{IndexMap, get, IsUnique}
+use Rattle.mv_base.specs.declared.ids.NodeId.{NodeId}
+use Rattle.mldp_fec.specs.declared.fec.Fec.{Fec}
+use Rattle.mldp_fec.specs.contracts.fec.FecPartialEq.TheImpl as fecs_equal
+use Rattle.selective_defs.specs.Selective.{matches, wanted}
+use Rattle.selective.specs.Leaves.{Leaf, peer_routes}
+use Rattle.umh_select.specs.declared.route.Choice.{Choice}
+use Rattle.tree_defs.specs.declared.flow.Flow.{Flow}
+use Rattle.tree_defs.specs.declared.flow.Upstream.{Upstream}
+use Rattle.tree_defs.specs.Keys.{flow_cmp, same_flow}
+use Rattle.tree_defs.specs.Flows.{upstream_of}
+use Rattle.vrf_trees.specs.declared.wants.Wants.{Wants}
+use Rattle.vrf_trees.specs.declared.wants.Cause.{Cause}
+use Rattle.vrf_trees.specs.declared.wants.Cause.TheVariants as causes
+
+-- a table of what flows want
+abbrev pub WantTable : Type 0
+WantTable = IndexMap Flow Wants (BuildHasherDefault FoldHasher)
+
+-- whether both are one tunnel, as `==` tells it
+abbrev pub is_fec : Fec → Fec → Bool
+is_fec = fecs_equal.ghosts.eq
+
+-- whether the tunnel is one of these
+abbrev pub is_in : Fec → List Fec → Bool
+is_in fec fecs = list_any (is_fec fec) fecs
+
+-- whether a flow wants the tunnel
+abbrev pub has_fec : Fec → Wants → Bool
+has_fec fec own = is_in fec own.fecs
+
+-- the tunnels of all flows
+abbrev pub tunnels_in : List (Flow × Wants) → List Fec
+tunnels_in entries = flat_map (λ (e : Flow × Wants). e.1.fecs) entries
+
+-- ---- what is wanted of an edge
+
+-- the tunnels of the edge that a flow wants, by the routes that were learned
+abbrev pub tunnels_of : Leaf → NodeId → Flow → List Fec
+tunnels_of leaf edge flow = map (λ route. route.fec) (wanted (peer_routes edge leaf.routes) flow.source flow.group)
+
+abbrev pub wants_of : Leaf → NodeId → Flow → Wants
+wants_of leaf edge flow = record { edge = edge; stale = false; fecs = tunnels_of leaf edge flow }
+
+-- what a flow wants by its upstream
+abbrev pub wants_by : Leaf → Flow → Option Upstream → Option Wants
+wants_by leaf flow None = None
+wants_by leaf flow (Some up) = Some (wants_of leaf up.edge flow)
+
+-- ---- marks
+
+-- whether the cause touches the flow, where its upstream is that edge
+abbrev pub touches : Cause → Flow → NodeId → Bool
+touches (causes.Routes peer pattern) flow edge = edge.0 == peer.0 && matches pattern flow.source flow.group
+touches (causes.Peer peer) flow edge = edge.0 == peer.0
+touches causes.All flow edge = true
+
+abbrev pub mark : Cause → Flow → Wants → Wants
+mark cause flow own = record { edge = own.edge; stale = own.stale || touches cause flow own.edge; fecs = own.fecs }
+
+abbrev pub marked : Cause → Flow → Option Wants → Option Wants
+marked cause flow None = None
+marked cause flow (Some own) = Some (mark cause flow own)
+
+-- ---- the invariant
+
+abbrev pub edge_in : Option Wants → Option NodeId
+edge_in None = None
+edge_in (Some own) = Some own.edge
+
+abbrev pub edge_to : Option Upstream → Option NodeId
+edge_to None = None
+edge_to (Some up) = Some up.edge
+
+abbrev pub is_stale : Option Wants → Bool
+is_stale None = false
+is_stale (Some own) = own.stale
+
+-- A flow is there exactly where its upstream is another edge, with that edge; and where it is not stale, it is what is wanted.
+pub record Holds (leaf : Leaf) (ups : Flow → Option Upstream) (held : Flow → Option Wants) : Type 0 where
+  pub edges : (q : Flow) → edge_in (held q) ≡ edge_to (ups q)
+  pub fresh : (q : Flow) → is_stale (held q) ≡ false → held q ≡ wants_by leaf q (ups q)
+
+-- the upstream of each flow
+abbrev pub ups_in : FinMap flow_cmp Choice → Flow → Option Upstream
+ups_in flows q = upstream_of (maps.get flows q)
+
+-- The table is in step with the flows and with the routes that were learned.
+pub record IsSound (leaf : Leaf) (flows : FinMap flow_cmp Choice) (wants : WantTable) : Type 0 where
+  pub unique : IsUnique same_flow wants
+  pub holds : Holds leaf (ups_in flows) (get same_flow wants)

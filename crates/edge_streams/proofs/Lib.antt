@@ -1,0 +1,6 @@
+pub mod FedAs
+pub mod SessionMaps
+pub mod Calls
+pub mod SpelledLemmas
+pub mod Prefixes
+pub mod Writable

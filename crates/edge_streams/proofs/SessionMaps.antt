@@ -1,0 +1,164 @@
+-- Maps by session, and the maps by node that they are made of.
+use Rattle.std.proofs.Common.{◌≡◌, ℕ, Bool, true, false, cond, List, [], ◌∷◌, ◌++◌, Option, Some, None, option_map, inl, inr, refl, sym, ap, ◌∙◌, arith, ◌&&◌}
+use Rattle.std.specs.FinMap as maps
+use Rattle.std.specs.FinMap.{FinMap, IsAntisymmetric, nat_cmp-IsAntisymmetric, slice_cmp-IsAntisymmetric, find, same_map}
+use Rattle.std.specs.Cmp.{IsTotalOrder}
+use Rattle.std.specs.Cmp.Lexicographic.{nat_list_cmp_total}
+use Rattle.std.specs.Ordering.{eq_by_cmp}
+use Rattle.std.specs.Map.{lookup}
+use Rattle.std.proofs.lemmas.Cmp.{on_total}
+use Rattle.std.proofs.lemmas.List.{append-nil}
+use Rattle.indexmap.specs.IndexMap.{get}
+use Rattle.mv_base.specs.declared.ids.NodeId.{NodeId}
+use Rattle.framing.specs.Feed.{Fed}
+use Rattle.label_defs.proofs.KeyLemmas.{node_cases, node_itself, node_apart, ties, apart}
+use Rattle.scenario_defs.specs.declared.event.Kind.{Kind}
+use Rattle.scenario_defs.specs.declared.event.Kind.TheVariants as kinds
+use Rattle.scenario_defs.specs.Kinds.{same_kind}
+use Rattle.bgp_attributes.specs.declared.update.Message.{Message}
+use Rattle.bgp_attributes.specs.declared.fault.StreamFault.{StreamFault}
+use Rattle.mldp_msgs.specs.declared.message.LabelMessage.{LabelMessage}
+use Rattle.mldp_msgs.specs.declared.fault.LdpFault.{LdpFault}
+use Rattle.session_defs.specs.Octets.{Stream}
+use Rattle.session_defs.specs.PeerSession.{PeerSession, kind_number, peer_cmp}
+use Rattle.edge_streams.specs.Kept.{NodeMap, is_node, session, entries_as, bgp_stream, ldp_stream, streams_of}
+
+-- ---- the order of sessions
+
+abbrev numbers : PeerSession → List ℕ
+numbers s = kind_number s.kind ∷ s.peer.0 ∷ []
+
+pub peer_cmp_total : IsTotalOrder peer_cmp
+peer_cmp_total = on_total numbers nat_list_cmp_total
+
+one_kind : (a b : Kind) → kind_number a ≡ kind_number b → a ≡ b
+one_kind kinds.Bgp kinds.Bgp e = refl
+one_kind kinds.Ldp kinds.Ldp e = refl
+one_kind kinds.Bgp kinds.Ldp e = absurd (omega (arith, e))
+one_kind kinds.Ldp kinds.Bgp e = absurd (omega (arith, e))
+
+one_session : (a b : PeerSession) → numbers a ≡ numbers b → a ≡ b
+one_session a b e =
+    let number : kind_number a.kind ≡ kind_number b.kind = cc in
+    let peer : a.peer.0 ≡ b.peer.0 = cc in
+    let kind = one_kind a.kind b.kind number in
+    λ i. record { kind = kind i; peer = record { 0 = peer i } }
+
+pub peer_cmp_exact : IsAntisymmetric peer_cmp
+peer_cmp_exact a b h = one_session a b (slice_cmp-IsAntisymmetric nat_cmp-IsAntisymmetric (numbers a) (numbers b) h)
+
+-- how the order tells sessions of one kind apart
+tied_own : (kind : Kind) (q a : NodeId) → eq_by_cmp peer_cmp (session kind q) (session kind a) ≡ is_node q a
+tied_own kind q a = elim (node_cases q a) [
+  | inl e ↦ ties peer_cmp peer_cmp_total (session kind q) (session kind a) (ap (session kind) e) ∙ sym (node_itself q a e)
+  | inr ne ↦ apart peer_cmp peer_cmp_exact (session kind q) (session kind a) (λ e. ne (ap (λ (s : PeerSession). s.peer) e)) ∙ sym (node_apart q a ne)
+]
+
+turned : (kind : Kind) (q a : NodeId) → eq_by_cmp peer_cmp (session kind q) (session kind a) ≡ is_node a q
+turned kind q a = elim (node_cases a q) [
+  | inl e ↦ ties peer_cmp peer_cmp_total (session kind q) (session kind a) (ap (session kind) (sym e)) ∙ sym (node_itself a q e)
+  | inr ne ↦ apart peer_cmp peer_cmp_exact (session kind q) (session kind a) (λ e. ne (ap (λ (s : PeerSession). s.peer) (sym e))) ∙ sym (node_apart a q ne)
+]
+
+tied : (own other : Kind) (a q : NodeId) → eq_by_cmp peer_cmp (session other q) (session own a) ≡ (same_kind own other && is_node a q)
+tied kinds.Bgp kinds.Bgp a q = turned kinds.Bgp q a
+tied kinds.Ldp kinds.Ldp a q = turned kinds.Ldp q a
+tied kinds.Bgp kinds.Ldp a q = refl
+tied kinds.Ldp kinds.Bgp a q = refl
+
+-- ---- what stands at a session
+
+pull : {X Y : Type 0} (f : X → Y) (b : Bool) (x : X) (o : Option X) → cond b (Some (f x)) (option_map f o) ≡ option_map f (cond b (Some x) o)
+pull f true x o = refl
+pull f false x o = refl
+
+-- behind entries of the other protocol
+past : {X : Type 0} (kind other : Kind) (stream : X → Stream) → ((q a : NodeId) → eq_by_cmp peer_cmp (session kind q) (session other a) ≡ false) → (es : List (NodeId × X)) (behind : List (PeerSession × Stream)) (q : NodeId)
+    → find peer_cmp (session kind q) (entries_as other stream es ++ behind) ≡ find peer_cmp (session kind q) behind
+past kind other stream differ [] behind q = refl
+past kind other stream differ (e ∷ es) behind q = λ i. cond (differ q e.0 i) (Some (stream e.1)) (past kind other stream differ es behind q i)
+
+-- in front of entries of which none is the session's
+own : {X : Type 0} (kind : Kind) (stream : X → Stream) (es : List (NodeId × X)) (behind : List (PeerSession × Stream)) (q : NodeId) → find peer_cmp (session kind q) behind ≡ None
+    → find peer_cmp (session kind q) (entries_as kind stream es ++ behind) ≡ option_map stream (lookup (is_node q) es)
+own kind stream [] behind q none = none
+own kind stream (e ∷ es) behind q none =
+    (λ i. cond (tied_own kind q e.0 i) (Some (stream e.1)) (own kind stream es behind q none i)) ∙ pull stream (is_node q e.0) e.1 (lookup (is_node q) es)
+
+pub bgp_seen : (bgp : NodeMap (Fed Message StreamFault)) (ldp : NodeMap (Fed LabelMessage LdpFault)) (q : NodeId)
+    → maps.get (streams_of bgp ldp) (session kinds.Bgp q) ≡ option_map bgp_stream (get is_node bgp q)
+bgp_seen bgp ldp q =
+    let others = entries_as kinds.Ldp ldp_stream ldp.entries in
+    let none = ap (find peer_cmp (session kinds.Bgp q)) (sym (append-nil others)) ∙ past kinds.Bgp kinds.Ldp ldp_stream (λ q a. refl) ldp.entries [] q in
+    maps.get-from_entries peer_cmp_total (entries_as kinds.Bgp bgp_stream bgp.entries ++ others) (session kinds.Bgp q) ∙ own kinds.Bgp bgp_stream bgp.entries others q none
+
+pub ldp_seen : (bgp : NodeMap (Fed Message StreamFault)) (ldp : NodeMap (Fed LabelMessage LdpFault)) (q : NodeId)
+    → maps.get (streams_of bgp ldp) (session kinds.Ldp q) ≡ option_map ldp_stream (get is_node ldp q)
+ldp_seen bgp ldp q =
+    let entries = entries_as kinds.Ldp ldp_stream ldp.entries in
+    maps.get-from_entries peer_cmp_total (entries_as kinds.Bgp bgp_stream bgp.entries ++ entries) (session kinds.Ldp q)
+    ∙ past kinds.Ldp kinds.Bgp bgp_stream (λ q a. refl) bgp.entries entries q
+    ∙ ap (find peer_cmp (session kinds.Ldp q)) (sym (append-nil entries)) ∙ own kinds.Ldp ldp_stream ldp.entries [] q refl
+
+-- ---- a change at one session
+
+-- at the session this stands now, and every other session has what it had
+abbrev pub Sets : Kind → NodeId → Option Stream → FinMap peer_cmp Stream → FinMap peer_cmp Stream → Type 0
+Sets kind peer now old new = (other : Kind) (q : NodeId) → maps.get new (session other q) ≡ cond (same_kind kind other && is_node peer q) now (maps.get old (session other q))
+
+pub inserted : (kind : Kind) (peer : NodeId) (stream : Stream) (old new : FinMap peer_cmp Stream) → Sets kind peer (Some stream) old new → new ≡ maps.insert old (session kind peer) stream
+inserted kind peer stream old new sets = same_map peer_cmp_total peer_cmp_exact _ _ (λ s.
+    sets s.kind s.peer ∙ ap (λ (b : Bool). cond b (Some stream) (maps.get old s)) (sym (tied kind s.kind peer s.peer)) ∙ sym (maps.get-insert peer_cmp_total old (session kind peer) stream s))
+
+pub removed : (kind : Kind) (peer : NodeId) (old new : FinMap peer_cmp Stream) → Sets kind peer None old new → new ≡ maps.remove old (session kind peer)
+removed kind peer old new sets = same_map peer_cmp_total peer_cmp_exact _ _ (λ s.
+    sets s.kind s.peer ∙ ap (λ (b : Bool). cond b None (maps.get old s)) (sym (tied kind s.kind peer s.peer)) ∙ sym (maps.get-remove peer_cmp_total old (session kind peer) s))
+
+pub stays : (kind : Kind) (peer : NodeId) (now : Option Stream) (old new : FinMap peer_cmp Stream) → maps.get old (session kind peer) ≡ now → Sets kind peer now old new → new ≡ old
+stays kind peer now old new same sets = same_map peer_cmp_total peer_cmp_exact _ _ (λ s. sets s.kind s.peer ∙ here kind s.kind s.peer same)
+  where
+    at : (kind : Kind) (q : NodeId) → maps.get old (session kind peer) ≡ now → cond (is_node peer q) now (maps.get old (session kind q)) ≡ maps.get old (session kind q)
+    at kind q same = elim (node_cases peer q) [
+      | inl e ↦ ap (λ (b : Bool). cond b now (maps.get old (session kind q))) (node_itself peer q e) ∙ (sym same ∙ ap (λ (x : NodeId). maps.get old (session kind x)) e)
+      | inr ne ↦ ap (λ (b : Bool). cond b now (maps.get old (session kind q))) (node_apart peer q ne)
+    ]
+
+    here : (own other : Kind) (q : NodeId) → maps.get old (session own peer) ≡ now → cond (same_kind own other && is_node peer q) now (maps.get old (session other q)) ≡ maps.get old (session other q)
+    here kinds.Bgp kinds.Bgp q same = at kinds.Bgp q same
+    here kinds.Ldp kinds.Ldp q same = at kinds.Ldp q same
+    here kinds.Bgp kinds.Ldp q same = refl
+    here kinds.Ldp kinds.Bgp q same = refl
+
+-- ---- a change of one map by node
+
+push : {X Y : Type 0} (f : X → Y) (b : Bool) (now o : Option X) → option_map f (cond b now o) ≡ cond b (option_map f now) (option_map f o)
+push f true now o = refl
+push f false now o = refl
+
+pub bgp_sets : (old new : NodeMap (Fed Message StreamFault)) (ldp : NodeMap (Fed LabelMessage LdpFault)) (peer : NodeId) (now : Option (Fed Message StreamFault)) → ((q : NodeId) → get is_node new q ≡ cond (is_node peer q) now (get is_node old q))
+    → Sets kinds.Bgp peer (option_map bgp_stream now) (streams_of old ldp) (streams_of new ldp)
+bgp_sets old new ldp peer now each kinds.Bgp q =
+    bgp_seen new ldp q ∙ ap (option_map bgp_stream) (each q) ∙ push bgp_stream (is_node peer q) now (get is_node old q)
+    ∙ ap (λ (o : Option Stream). cond (is_node peer q) (option_map bgp_stream now) o) (sym (bgp_seen old ldp q))
+bgp_sets old new ldp peer now each kinds.Ldp q = ldp_seen new ldp q ∙ sym (ldp_seen old ldp q)
+
+pub ldp_sets : (bgp : NodeMap (Fed Message StreamFault)) (old new : NodeMap (Fed LabelMessage LdpFault)) (peer : NodeId) (now : Option (Fed LabelMessage LdpFault)) → ((q : NodeId) → get is_node new q ≡ cond (is_node peer q) now (get is_node old q))
+    → Sets kinds.Ldp peer (option_map ldp_stream now) (streams_of bgp old) (streams_of bgp new)
+ldp_sets bgp old new peer now each kinds.Ldp q =
+    ldp_seen bgp new q ∙ ap (option_map ldp_stream) (each q) ∙ push ldp_stream (is_node peer q) now (get is_node old q)
+    ∙ ap (λ (o : Option Stream). cond (is_node peer q) (option_map ldp_stream now) o) (sym (ldp_seen bgp old q))
+ldp_sets bgp old new peer now each kinds.Bgp q = bgp_seen bgp new q ∙ sym (bgp_seen bgp old q)
+
+pub bgp_same : (old new : NodeMap (Fed Message StreamFault)) (ldp : NodeMap (Fed LabelMessage LdpFault)) → ((q : NodeId) → get is_node new q ≡ get is_node old q) → streams_of new ldp ≡ streams_of old ldp
+bgp_same old new ldp each = same_map peer_cmp_total peer_cmp_exact _ _ (λ s. at s.kind s.peer)
+  where
+    at : (kind : Kind) (q : NodeId) → maps.get (streams_of new ldp) (session kind q) ≡ maps.get (streams_of old ldp) (session kind q)
+    at kinds.Bgp q = bgp_seen new ldp q ∙ ap (option_map bgp_stream) (each q) ∙ sym (bgp_seen old ldp q)
+    at kinds.Ldp q = ldp_seen new ldp q ∙ sym (ldp_seen old ldp q)
+
+pub ldp_same : (bgp : NodeMap (Fed Message StreamFault)) (old new : NodeMap (Fed LabelMessage LdpFault)) → ((q : NodeId) → get is_node new q ≡ get is_node old q) → streams_of bgp new ≡ streams_of bgp old
+ldp_same bgp old new each = same_map peer_cmp_total peer_cmp_exact _ _ (λ s. at s.kind s.peer)
+  where
+    at : (kind : Kind) (q : NodeId) → maps.get (streams_of bgp new) (session kind q) ≡ maps.get (streams_of bgp old) (session kind q)
+    at kinds.Bgp q = bgp_seen bgp new q ∙ sym (bgp_seen bgp old q)
+    at kinds.Ldp q = ldp_seen bgp new q ∙ ap (option_map ldp_stream) (each q) ∙ sym (ldp_seen bgp old q)

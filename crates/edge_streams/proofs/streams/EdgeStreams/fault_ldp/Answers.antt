@@ -1,0 +1,24 @@
+use Rattle.std.proofs.Common.{ℕ, Option, Some, None, sym, ap, ◌∙◌}
+use Rattle.std.specs.FinMap.{FinMap}
+use Rattle.mldp_msgs.specs.declared.fault.LdpFault.{LdpFault}
+use Rattle.scenario_defs.specs.declared.event.Kind.TheVariants as kinds
+use Rattle.session_defs.specs.Message.{LabelFault}
+use Rattle.session_defs.specs.Octets.{Stream}
+use Rattle.session_defs.specs.PeerSession.{peer_cmp, fault_at}
+use Rattle.edge_streams.specs.Kept.{session, fault_as}
+use Rattle.edge_streams.specs.Streams.{told_fault}
+use Rattle.edge_streams.proofs.Calls.{ldp_fault}
+use Rattle.edge_streams.proofs.streams.EdgeStreams.fault_ldp.Goals as goal
+
+pub returns-in_err-get : goal.returns-in_err-get
+returns-in_err-get c =
+    c.from_residual.ensures
+    ∙ sym (ap told_fault (ldp_fault c.self.inside.bgp c.self.inside.ldp c.args.peer None (sym c.in_err-get.ensures.value)))
+    ∙ ap (λ (m : FinMap peer_cmp Stream). told_fault (fault_at m (session kinds.Ldp c.args.peer))) c.self.view_is
+
+pub returns : goal.returns
+returns c =
+    c.ldp_reason.ensures
+    ∙ ap (λ (o : Option (ℕ × LdpFault)). told_fault (fault_as (λ f. LabelFault f) o)) c.fault.ensures
+    ∙ sym (ap told_fault (ldp_fault c.self.inside.bgp c.self.inside.ldp c.args.peer (Some c.in_ok-get.field-0.now) (sym c.in_ok-get.ensures.value)))
+    ∙ ap (λ (m : FinMap peer_cmp Stream). told_fault (fault_at m (session kinds.Ldp c.args.peer))) c.self.view_is

@@ -1,0 +1,20 @@
+use Rattle.std.proofs.Common.{Some, ap, ◌∙◌}
+use Rattle.std.specs.FinMap as maps
+use Rattle.std.specs.FinMap.{FinMap}
+use Rattle.framing.specs.Feed.{Fed, unfed}
+use Rattle.mldp_msgs.specs.declared.message.LabelMessage.{LabelMessage}
+use Rattle.mldp_msgs.specs.declared.fault.LdpFault.{LdpFault}
+use Rattle.scenario_defs.specs.declared.event.Kind.TheVariants as kinds
+use Rattle.session_defs.specs.Octets.{Stream}
+use Rattle.session_defs.specs.PeerSession.{peer_cmp}
+use Rattle.edge_streams.specs.Kept.{session, ldp_stream, streams_of}
+use Rattle.edge_streams.proofs.SessionMaps.{inserted, ldp_sets}
+use Rattle.edge_streams.proofs.streams.EdgeStreams.raise_ldp.Goals as goal
+
+pub returns-clause-raised : goal.returns-clause-raised
+returns-clause-raised c =
+    let old = streams_of c.self.inside.bgp c.self.inside.ldp in
+    let sets = ldp_sets c.self.inside.bgp c.self.inside.ldp c.insert.new.self c.args.peer (Some c.of.result) c.in_ok-insert.ensures.updates.0 in
+    inserted kinds.Ldp c.args.peer (ldp_stream c.of.result) old _ sets
+    ∙ ap (λ (d : Fed LabelMessage LdpFault). maps.insert old (session kinds.Ldp c.args.peer) (ldp_stream d)) c.of.ensures
+    ∙ ap (λ (m : FinMap peer_cmp Stream). maps.insert m (session kinds.Ldp c.args.peer) unfed) c.self.view_is

@@ -1,19 +1,16 @@
 -- What the calls of a node answer.
-use Rattle.std.proofs.Common.{◌≡◌, ℕ, ◌≤◌, Bool, true, false, cond, replicate, length, List, Option, Some, None, is_some, option_map, Result, Ok, Err, refl, sym, ap, subst, ◌∙◌}
+use Rattle.std.proofs.Common.{◌≡◌, ℕ, ◌≤◌, true, false, cond, replicate, Option, Some, None, is_some, Result, Ok, Err, refl, sym, ap, subst, ◌∙◌}
 use Rattle.std.specs.FinMap as maps
-use Rattle.std.specs.FinMap.{FinMap}
 use Rattle.std.specs.FinSet as sets
 use Rattle.std.proofs.lemmas.Option.{none-some}
 use Rattle.std.proofs.lemmas.List.{length-replicate}
 use Rattle.mv_base.specs.declared.ids.NodeId.{NodeId}
-use Rattle.core_walks.specs.Core.{Core, IsCoreOf}
 use Rattle.core_walks.specs.Topology.{Topology}
 use Rattle.mldp_fec.specs.declared.fec.Fec.{Fec}
-use Rattle.label_defs.specs.declared.label_use.LabelUse.{LabelUse}
 use Rattle.label_defs.specs.declared.label_use.LabelUse.TheVariants as uses
 use Rattle.label_defs.specs.Keys.{fec_cmp, branch_cmp, node_cmp}
 use Rattle.label_defs.specs.LabelData.{fresh}
-use Rattle.label_defs.specs.Node.{NodePlace, LacksLabel, raises_of, addr_in, place_in, prepared, behind, called}
+use Rattle.label_defs.specs.Node.{NodePlace, raises_of, addr_in, place_in, prepared, behind}
 use Rattle.label_defs.specs.Settling.{Stepped}
 use Rattle.label_defs.specs.Steps.{Call}
 use Rattle.label_defs.proofs.KeyLemmas.{fec_cmp_total, fec_cmp_exact}
@@ -23,7 +20,7 @@ use Rattle.label_trees.specs.Trees.{Trees, untouched}
 use Rattle.label_ends.specs.Ends.{Ends, all_down}
 use Rattle.mldp_node.specs.declared.fault.NodeFault.{NodeFault}
 use Rattle.mldp_node.specs.declared.fault.NodeFault.TheVariants as faults
-use Rattle.mldp_node.specs.Parts.{awaited, part_of, node_of, AreTied, Made, LacksLabels}
+use Rattle.mldp_node.specs.Parts.{awaited, part_of, node_of, AreTied, WaitOnTrees, Made, LacksLabels}
 use Rattle.mldp_node.specs.NodeData.{NodeData, seen, cause, Answers}
 use Rattle.mldp_node.proofs.PartLemmas.{awaited_is}
 
@@ -31,8 +28,8 @@ fault_is : (a b : NodeFault) → ◌≡◌ {A = Result (Unit {0}) NodeFault} (Er
 fault_is a b e = cc
 
 pub answers_ok : (core : Topology) (now : ℕ) (call : Call) (place : NodePlace) (trees : Trees) (ends : Ends) (new_trees : Trees) (new_ends : Ends) (old : NodeData) (spent : Option NodeFault)
-    → spent ≡ None → seen place trees ends spent ≡ old → Made core place now call trees ends new_trees new_ends → Answers core now call old (seen place new_trees new_ends spent) (Ok tt)
-answers_ok core now call place trees ends new_trees new_ends old spent none is h =
+    → spent ≡ None → seen place trees ends spent ≡ old → WaitOnTrees trees → Made core place now call trees ends new_trees new_ends → Answers core now call old (seen place new_trees new_ends spent) (Ok tt)
+answers_ok core now call place trees ends new_trees new_ends old spent none is on h =
     subst (λ (n : NodeData). Answers core now call n (seen place new_trees new_ends spent) (Ok tt)) is
     (subst (λ (s : Option NodeFault). Answers core now call (seen place trees ends s) (seen place new_trees new_ends s) (Ok tt)) (sym none) (record {
       place = refl;
@@ -40,6 +37,7 @@ answers_ok core now call place trees ends new_trees new_ends old spent none is h
       unspent = refl;
       made = λ own core_is. sym (h.made own core_is);
       goes_on = refl;
+      toward = λ own core_is. h.toward own core_is on;
       lacks = λ e. absurd cc;
       faults = λ fault e. absurd cc;
     }))
@@ -55,6 +53,7 @@ answers_err core now call place trees ends new_trees new_ends old spent fault no
       unspent = tt;
       made = tt;
       goes_on = tt;
+      toward = tt;
       lacks = λ e n own core_is. ap (λ (o : Option Stepped). (behind (addr_in place) (place_in place own) now (prepared call (node_of trees ends)) call o).spent) (lacks e own core_is);
       faults = λ other e. ap (λ (f : NodeFault). Some (cause f)) (fault_is fault other e);
     }))
@@ -82,4 +81,8 @@ fresh_tied life count few = record {
     mapped = λ f l u e. absurd (not_mapped f u (all_free count _ (uses.Mapped f u) (used_some (replicate count uses.Free) l (uses.Mapped f u) e).1));
     few = subst (λ n. n ≤ 65536) (sym (length-replicate count uses.Free)) few;
   };
+  apart = λ f l u e. maps.get-empty fec_cmp f;
 }
+
+pub none_waits : (life count : ℕ) → WaitOnTrees (untouched life count)
+none_waits life count f x g = absurd (none-some x (sym (maps.get-empty fec_cmp f) ∙ g))

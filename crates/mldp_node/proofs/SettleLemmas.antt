@@ -1,5 +1,5 @@
 -- Trees that settle one after another.
-use Rattle.std.proofs.Common.{◌≡◌, ℕ, ◌+◌, Bool, true, false, cond, List, [], ◌∷◌, ◌++◌, All, take, drop, get_or, length, ◌<◌, Option, Some, None, is_some, Result, Ok, Err, OnOk, refl, sym, ap, subst, ◌∙◌}
+use Rattle.std.proofs.Common.{◌≡◌, ℕ, ◌+◌, Bool, true, false, cond, List, [], ◌∷◌, ◌++◌, All, take, drop, get_or, length, ◌<◌, Option, Some, None, is_some, Result, Ok, Err, OnOk, inl, inr, refl, sym, ap, subst, ◌∙◌}
 use Rattle.std.specs.FinMap as maps
 use Rattle.std.proofs.lemmas.List.{take_more, drop_more, take-append-drop}
 use Rattle.std.specs.FinMap.{FinMap}
@@ -17,8 +17,9 @@ use Rattle.label_defs.specs.Node.{NodePlace, place_in, raises_of}
 use Rattle.label_defs.specs.Settling.{Stepped, settle_all, changed, change_of, put_by}
 use Rattle.label_ends.specs.Ends.{Ends}
 use Rattle.label_trees.specs.Trees.{Trees}
-use Rattle.mldp_node.specs.Parts.{part_of, stepped_of, settled_toward, AreSessions, AreTied, AreSpelled, IsPut, SettledSo, LacksOne, AllSettledSo, LacksAny}
+use Rattle.mldp_node.specs.Parts.{is_on_tree, stepped_of, settled_toward, AreSessions, AreTied, IsPut, SettledSo, LacksOne, AllSettledSo, LacksAny}
 use Rattle.mldp_node.proofs.SpelledLemmas.{settled_spelled}
+use Rattle.mldp_node.proofs.WaitLemmas.{settled_same, settled_apart, settled_on, settled_toward_root, behind_both}
 
 pub on_ok : {X E : Type 0} {P Q : Type 0} (r : Result X E) → (P → Q) → OnOk r P → OnOk r Q
 on_ok (Ok x) f p = f p
@@ -40,9 +41,16 @@ one_settled core place upstream fec ends old puts new told toward tied written h
     let good = settled_spelled upstream fec (stepped_of old ends.up puts) (stepped_of new ends.up told) h.made tied.spelled written in
     record {
       made = λ own is. subst (λ (o : Option NodeId). settled_toward o fec (stepped_of old ends.up puts) ≡ Some (stepped_of new ends.up told)) (toward own is) h.made;
-      tied = record { sessions = subst (λ (s : FinMap node_cmp Incarnation). AreSessions s ends.up ends.raises) (sym h.sessions) tied.sessions; spelled = good.0 };
+      tied = record {
+        sessions = subst (λ (s : FinMap node_cmp Incarnation). AreSessions s ends.up ends.raises) (sym h.sessions) tied.sessions;
+        spelled = good.0;
+        apart = settled_apart upstream fec ends.up old new puts told h tied.apart;
+      };
       life = h.life;
       written = good.1;
+      same = settled_same upstream fec ends.up old new puts told h;
+      on = settled_on upstream fec ends.up old new puts told h tied.apart;
+      toward = λ own is. settled_toward_root upstream fec ends.up old new puts told h (place_in place own).upstream (toward own is) tied.apart;
     }
 
 pub one_lacks : (core : Topology) (place : NodePlace) (upstream : Option NodeId) (fec : Fec) (ends : Ends) (old : Trees) (puts : List Put)
@@ -87,6 +95,9 @@ then_settled core place fecs fec ends first puts mid said new told h k = record 
   tied = k.tied;
   life = k.life ∙ h.life;
   written = k.written;
+  same = λ f. k.same f ∙ h.same f;
+  on = λ f x g. behind_both (is_on_tree new f ≡ true) fecs (fec ∷ []) first mid f x (k.on f x g) (λ was. elim (h.on f x was) [ inl a ↦ inl (k.same f ∙ a) | inr b ↦ inr b ]);
+  toward = λ own is f x g. behind_both ((place_in place own).upstream f ≡ Some x) fecs (fec ∷ []) first mid f x (k.toward own is f x g) (h.toward own is f x);
 }
 
 pub then_lacks : (core : Topology) (place : NodePlace) (fecs : List Fec) (fec : Fec) (more : List Fec) (ends : Ends) (first : Trees) (puts : List Put) (mid : Trees) (said : List Put)
@@ -97,7 +108,15 @@ then_lacks core place fecs fec more ends first puts mid said h k own is =
     (first_of (place_in place own) fec more (stepped_of mid ends.up said) ∙ ap (λ (o : Option Stepped). o >>? settle_all (place_in place own) more) (k own is))
 
 pub none_settled : (core : Topology) (place : NodePlace) (ends : Ends) (old : Trees) (puts : List Put) → AreTied old ends → All IsPut puts → AllSettledSo core place [] ends old puts old puts
-none_settled core place ends old puts tied written = record { made = λ own is. refl; tied = tied; life = refl; written = written }
+none_settled core place ends old puts tied written = record {
+  made = λ own is. refl;
+  tied = tied;
+  life = refl;
+  written = written;
+  same = λ f. refl;
+  on = λ f x g. inr (g, refl);
+  toward = λ own is f x g. inr (g, refl);
+}
 
 -- ---- along a list
 

@@ -1,5 +1,5 @@
 -- A label node as its callers see it, and what its calls answer.
-use Rattle.std.specs.Prelude.{◌≡◌, ◌≢◌, ℕ, ◌&&◌, Bool, true, false, not, List, Option, None, Some, Result, Ok, Err, OnOk, option_map, refl}
+use Rattle.std.specs.Prelude.{◌≡◌, ◌≢◌, ℕ, Bool, true, false, List, Option, None, Some, Result, Err, OnOk, option_map, refl}
 use Rattle.std.specs.Coded.{Coded, code_by, coded×, coded_list, coded_ℕ, coded_bool, coded_option}
 use Rattle.std.specs.FinMap as maps
 use Rattle.std.specs.FinMap.{FinMap}
@@ -12,7 +12,6 @@ use Rattle.core_walks.specs.Topology.{Topology}
 use Rattle.mldp_fec.specs.declared.fec.Fec.{Fec}
 use Rattle.mldp_fec.specs.contracts.fec.Fec as fecs
 use Rattle.mldp_msgs.specs.Spelling.{IsElement}
-use Rattle.tunnel_bindings.specs.declared.binding.Incarnation.{Incarnation}
 use Rattle.tunnel_bindings.specs.Bindings.{Named}
 use Rattle.label_defs.specs.contracts.branch.Branch as branches
 use Rattle.label_defs.specs.declared.end.End.{End}
@@ -29,7 +28,7 @@ use Rattle.label_trees.specs.Trees.{Trees, fec_under}
 use Rattle.label_ends.specs.Ends.{Ends}
 use Rattle.mldp_node.specs.declared.fault.NodeFault.{NodeFault}
 use Rattle.mldp_node.specs.declared.fault.NodeFault.TheVariants as faults
-use Rattle.mldp_node.specs.Parts.{part_of, AreSessions, AreTied}
+use Rattle.mldp_node.specs.Parts.{part_of, AreSessions, AreTied, WaitOnTrees, WaitTowardRoots, WaitedTowardRoots}
 use Rattle.mldp_node.specs.Standing.{place_code}
 
 -- Where it stands, the node, and the neighbour towards which each tree waits.
@@ -92,18 +91,22 @@ seen place trees ends spent = record {
 -- what holds of a node that is not spent
 pub record IsNode (place : NodePlace) (trees : Trees) (ends : Ends) : Type 0 where
   pub tied : AreTied trees ends
+  pub on : WaitOnTrees trees
   pub life : trees.uses.life ≡ place.life
 
 -- ---- calls
 
 -- What a call answers and leaves. A spent node answers the same as before, and stays. Otherwise the call is a label step, whichever
 -- way the core is told; `NoLabel` comes where there is none. Of want of memory nothing more is said than that the node is spent.
+-- Each tree that waits does so towards its root still; where next hops changed, it does so by the new ones.
 pub record Answers (core : Topology) (now : ℕ) (call : Call) (old new : NodeData) (result : Result (Unit {0}) NodeFault) : Type 0 where
   pub place : new.place ≡ old.place
   pub before : (fault : NodeFault) → old.node.spent ≡ Some (cause fault) → (result ≡ Err fault) × (new ≡ old)
   pub unspent : OnOk result (old.node.spent ≡ None)
   pub made : OnOk result ((own : Core) → IsCoreOf core.nodes core.links own → new.node ≡ called old.place own now old.node call)
   pub goes_on : OnOk result (new.node.spent ≡ None)
+  pub toward : OnOk result ((own : Core) → IsCoreOf core.nodes core.links own →
+      WaitedTowardRoots call old.place own old.awaited → WaitTowardRoots old.place own new.awaited)
   pub lacks : result ≡ Err faults.NoLabel → old.node.spent ≡ None →
       (own : Core) → IsCoreOf core.nodes core.links own → (called old.place own now old.node call).spent ≡ Some LacksLabel
   pub faults : (fault : NodeFault) → result ≡ Err fault → new.node.spent ≡ Some (cause fault)

@@ -4,7 +4,7 @@ ghost use Rattle.std.specs.FinMap as maps;
 ghost use Rattle.core_walks.specs.Core.{Core as Walks};
 ghost use Rattle.label_defs.specs.LabelData.{due};
 ghost use Rattle.label_defs.specs.Node.{fresh_node, place_in, handed, handed_out};
-ghost use Rattle.label_defs.specs.Steps.{Taken, Want, Unwant, Raised};
+ghost use Rattle.label_defs.specs.Steps.{Taken, Want, Unwant, Raised, Noticed, Timers, Rerouted};
 ghost use Rattle.mldp_node.specs.NodeData.{Answers, AreOwnBindings, IsFibOfPart, MayWant};
 ghost use Rattle.mldp_node.specs.Parts.{IsSpelled};
 ghost use Rattle.mldp_node.specs.Standing.{IsPlace};
@@ -166,6 +166,57 @@ impl LdpNode {
             peer,
             now,
         ) {
+            Ok(()) => Ok(()),
+            Err(fault) => {
+                self.spent = Some(fault);
+                Err(fault)
+            }
+        }
+    }
+
+    /// The end of the session with the neighbour notices its loss: its labels are free at once, and its branches are dropped.
+    pub fn noticed(&mut self, peer: NodeId, now: u64, core: &Core) -> Result<(), NodeFault>
+        requires nodes { core.now.nodes ≡ length self.old.place.addrs }
+        ensures { Answers core.now now (Noticed peer) self.old self.new result }
+    {
+        if let Some(fault) = self.spent {
+            return Err(fault);
+        }
+        match steps::noticed(&self.place, core, &mut self.trees, &mut self.ends, peer) {
+            Ok(()) => Ok(()),
+            Err(fault) => {
+                self.spent = Some(fault);
+                Err(fault)
+            }
+        }
+    }
+
+    /// The timers run: labels whose rest is over are free, and holds that are due are over.
+    pub fn timers(&mut self, now: u64, core: &Core) -> Result<(), NodeFault>
+        requires nodes { core.now.nodes ≡ length self.old.place.addrs }
+        ensures { Answers core.now now Timers self.old self.new result }
+    {
+        if let Some(fault) = self.spent {
+            return Err(fault);
+        }
+        match steps::timers(&self.place, core, &mut self.trees, &mut self.ends, now) {
+            Ok(()) => Ok(()),
+            Err(fault) => {
+                self.spent = Some(fault);
+                Err(fault)
+            }
+        }
+    }
+
+    /// Costs of links changed, and with them the next hops towards roots: a tree whose next hop is another one moves to it.
+    pub fn rerouted(&mut self, now: u64, core: &Core) -> Result<(), NodeFault>
+        requires nodes { core.now.nodes ≡ length self.old.place.addrs }
+        ensures { Answers core.now now Rerouted self.old self.new result }
+    {
+        if let Some(fault) = self.spent {
+            return Err(fault);
+        }
+        match steps::rerouted(&self.place, core, &mut self.trees, &mut self.ends) {
             Ok(()) => Ok(()),
             Err(fault) => {
                 self.spent = Some(fault);

@@ -1,5 +1,5 @@
 //! A tree that settles (RFC 6388 sections 2.4.1.1 and 2.4.2.1).
-ghost use Rattle.std.specs.Prelude.{◌≡◌, ◌++◌, ◌∷◌, [], true, length, is_some, None, Some, All, OnOk};
+ghost use Rattle.std.specs.Prelude.{◌≡◌, ◌++◌, ◌∷◌, [], true, length, is_some, Option, None, Some, All, OnOk};
 ghost use Rattle.std.specs.FinMap as maps;
 ghost use Rattle.std.specs.FinMap.{FinMap};
 ghost use Rattle.mv_base.specs.declared.ids.NodeId.{NodeId};
@@ -57,7 +57,8 @@ fn withdraw(
     puts: &mut Vec<Put>,
 ) -> Result<(), NoMemory>
     requires { mapped_in trees.old.uses.labels fec.now ≡ Some label }
-    ensures { OnOk result (Turned fec.now (withdrawn label (upstream_of (use_in trees.old.uses.labels label)))
+    ensures { OnOk result ((toward : Option NodeId) →
+        Turned toward fec.now (withdrawn label (upstream_of (use_in trees.old.uses.labels label)))
         trees.old puts.old.items trees.new puts.new.items) }
 {
     match trees.upstream(label) {
@@ -78,7 +79,8 @@ fn map(
 ) -> Result<(), NodeFault>
     requires up { is_some (maps.get trees.old.uses.sessions upstream) ≡ true }
     requires unmapped { mapped_in trees.old.uses.labels fec.now ≡ None }
-    ensures ok { OnOk result (Turned fec.now (change_by true None None (Some upstream) true (free_in trees.old.uses.labels))
+    ensures ok { OnOk result (
+        Turned (Some upstream) fec.now (change_by true None None (Some upstream) true (free_in trees.old.uses.labels))
         trees.old puts.old.items trees.new puts.new.items) }
     ensures lacks { result ≡ Err NodeFault.NoLabel → free_in trees.old.uses.labels ≡ None }
 {
@@ -98,14 +100,14 @@ fn wait(
     upstream: NodeId,
     puts: &Vec<Put>,
 ) -> Result<(), NoMemory>
-    ensures { OnOk result (Turned fec.now changes.Wait trees.old puts.now.items trees.new puts.now.items) }
+    ensures { OnOk result (Turned (Some upstream) fec.now changes.Wait trees.old puts.now.items trees.new puts.now.items) }
 {
     trees.wait(fec, upstream)
 }
 
 /// The tree waits no longer.
 fn cancel(trees: &mut LabelTrees, fec: &Fec, puts: &Vec<Put>)
-    ensures { Turned fec.now changes.Cancel trees.old puts.now.items trees.new puts.now.items }
+    ensures { (toward : Option NodeId) → Turned toward fec.now changes.Cancel trees.old puts.now.items trees.new puts.now.items }
 {
     trees.unwait(fec);
 }
@@ -120,7 +122,7 @@ fn reach(
 ) -> Result<(), NodeFault>
     requires up { is_some (maps.get trees.old.uses.sessions upstream) ≡ is_some (maps.get ends.now.up upstream) }
     requires unmapped { mapped_in trees.old.uses.labels fec.now ≡ None }
-    ensures ok { OnOk result (Turned fec.now
+    ensures ok { OnOk result (Turned (Some upstream) fec.now
         (change_by true None None (Some upstream) (held_at ends.now.up upstream) (free_in trees.old.uses.labels))
         trees.old puts.old.items trees.new puts.new.items) }
     ensures lacks { result ≡ Err NodeFault.NoLabel →

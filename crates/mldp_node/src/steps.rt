@@ -1,10 +1,10 @@
 //! The label steps of a node: what each call does itself, and the trees that settle then.
-ghost use Rattle.std.specs.Prelude.{◌≡◌, ◌<◌, ◌^◌, ◌∷◌, [], ℕ, length, None, All, OnOk};
+ghost use Rattle.std.specs.Prelude.{◌≡◌, ◌<◌, ◌^◌, ◌∷◌, [], ℕ, length, None, All, IfOk, OnOk};
 ghost use Rattle.std.specs.FinMap as maps;
 ghost use Rattle.mv_base.specs.declared.ids.NodeId.{NodeId};
 ghost use Rattle.mldp_msgs.specs.Spelling.{IsElement, IsLabel};
 ghost use Rattle.mldp_msgs.specs.declared.message.LabelMessage.TheVariants as messages;
-ghost use Rattle.label_defs.specs.Steps.{Taken, Want, Unwant, Raised};
+ghost use Rattle.label_defs.specs.Steps.{Taken, Want, Unwant, Raised, Noticed, Timers, Rerouted, twice};
 ghost use Rattle.mldp_node.specs.Parts.{AreTied, Finished, IsPut, IsSpelled, LacksAny, LacksLabels, Made};
 
 use crate::fault::NodeFault;
@@ -17,7 +17,8 @@ use label_ends::Ends;
 use label_trees::LabelTrees;
 use mldp_fec::Fec;
 use mldp_msgs::LabelMessage;
-use mv_base::NodeId;
+use mv_base::{NoMemory, NodeId};
+use std::alloc::Global;
 use tunnel_bindings::Incarnation;
 
 /// The trees settle one after another, and all that was put is told.
@@ -222,4 +223,72 @@ pub(crate) fn raised(
     let count = ends.raise(peer, now)?;
     trees.raise(peer, Incarnation(count))?;
     finish(place, core, trees, ends, &[], Vec::new(place.alloc()))
+}
+
+/// The end of the session with the neighbour notices its loss.
+pub(crate) fn noticed(
+    place: &Standing,
+    core: &Core,
+    trees: &mut LabelTrees,
+    ends: &mut Ends,
+    peer: NodeId,
+) -> Result<(), NodeFault>
+    requires nodes { core.now.nodes ≡ length place.now.addrs }
+    requires tied { AreTied trees.old ends.old }
+    ensures ok { OnOk result ((now : ℕ) → Made core.now place.now now (Noticed peer) trees.old ends.old trees.new ends.new) }
+    ensures lacks { result ≡ Err NodeFault.NoLabel → (now : ℕ) → LacksLabels core.now place.now now (Noticed peer) trees.old ends.old }
+{
+    let fecs = trees.trees()?;
+    trees.lose(peer)?;
+    ends.lose(peer);
+    finish(place, core, trees, ends, &fecs, Vec::new(place.alloc()))
+}
+
+/// Labels whose rest is over are free, holds that are due are run, and the trees that wait settle.
+pub(crate) fn timers(
+    place: &Standing,
+    core: &Core,
+    trees: &mut LabelTrees,
+    ends: &mut Ends,
+    now: u64,
+) -> Result<(), NodeFault>
+    requires nodes { core.now.nodes ≡ length place.now.addrs }
+    requires tied { AreTied trees.old ends.old }
+    ensures ok { OnOk result (Made core.now place.now now Timers trees.old ends.old trees.new ends.new) }
+    ensures lacks { result ≡ Err NodeFault.NoLabel → LacksLabels core.now place.now now Timers trees.old ends.old }
+{
+    let fecs = trees.waiting()?;
+    trees.wake(now);
+    ends.run_holds(place.life(), now);
+    finish(place, core, trees, ends, &fecs, Vec::new(place.alloc()))
+}
+
+/// Each of the trees two times in a row.
+fn twice(alloc: Global, fecs: &[Fec]) -> Result<Vec<Fec>, NoMemory>
+    ensures { IfOk result (λ both. both.items ≡ twice fecs.now) }
+{
+    let mut both = Vec::new(alloc);
+    for fec in fecs {
+        both.push(*fec)?;
+        both.push(*fec)?;
+    }
+    Ok(both)
+}
+
+/// Next hops towards roots changed: each tree settles twice in a row, so that its label leaves the old neighbour before one is
+/// mapped to the new one.
+pub(crate) fn rerouted(
+    place: &Standing,
+    core: &Core,
+    trees: &mut LabelTrees,
+    ends: &mut Ends,
+) -> Result<(), NodeFault>
+    requires nodes { core.now.nodes ≡ length place.now.addrs }
+    requires tied { AreTied trees.old ends.old }
+    ensures ok { OnOk result ((now : ℕ) → Made core.now place.now now Rerouted trees.old ends.old trees.new ends.new) }
+    ensures lacks { result ≡ Err NodeFault.NoLabel → (now : ℕ) → LacksLabels core.now place.now now Rerouted trees.old ends.old }
+{
+    let fecs = trees.trees()?;
+    let both = twice(place.alloc(), &fecs)?;
+    finish(place, core, trees, ends, &both, Vec::new(place.alloc()))
 }

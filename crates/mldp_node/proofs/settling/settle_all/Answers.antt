@@ -1,4 +1,3 @@
-use Rattle.std.proofs.Common.{sym, ◌∙◌}
 use Rattle.mldp_node.proofs.SettleLemmas.{settled_to, lacks_at}
 use Rattle.mldp_node.proofs.settling.settle_all.Goals as goal
 

@@ -1,4 +1,4 @@
-use Rattle.std.proofs.Common.{◌≡◌, Err, subst, sym}
+use Rattle.std.proofs.Common.{subst, sym}
 use Rattle.mldp_msgs.specs.declared.message.LabelMessage.{LabelMessage}
 use Rattle.label_defs.specs.Steps.{Taken}
 use Rattle.mldp_node.specs.Parts.{Made, LacksLabels}

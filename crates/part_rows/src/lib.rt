@@ -18,6 +18,8 @@ mod forwarding;
 #[cfg(test)]
 mod join_prune;
 #[cfg(test)]
+mod label_nodes;
+#[cfg(test)]
 mod labels;
 #[cfg(test)]
 mod ldp;
@@ -26,7 +28,13 @@ mod paths;
 #[cfg(test)]
 mod sessions;
 #[cfg(test)]
+mod streams;
+#[cfg(test)]
 mod tables;
+#[cfg(test)]
+mod taken;
+#[cfg(test)]
+mod trees;
 #[cfg(test)]
 mod tunnels;
 #[cfg(test)]

@@ -30,7 +30,14 @@ fn takes(rt: HostRuntime) -> Result<(), Fail> {
     inbox.apply(Change::Reach(7, 70)).ok().ok_or("memory")?;
     inbox.apply(Change::Reach(3, 30)).ok().ok_or("memory")?;
     inbox.apply(Change::Unreach(7)).ok().ok_or("memory")?;
+    inbox.apply(Change::Reach(4, 40)).ok().ok_or("memory")?;
+    inbox.remove(&4);
     assert_eq!(rt; inbox.get(&3), Some(&30));
+    inbox.retain(|_key: &u32, value: &mut u32| -> bool {
+        *value = 31;
+        true
+    });
+    assert_eq!(rt; inbox.get(&3), Some(&31));
     assert_eq!(rt; inbox.iter().count(), 1);
     inbox.clear();
     assert_eq!(rt; inbox.get(&3), None);

@@ -1,0 +1,68 @@
+//! Routes that are taken from a peer: each call that takes memory.
+ghost use Rattle.std.specs.Prelude.{◌≡◌};
+ghost use Rattle.bgp_update.specs.Written.{IsWritableKey};
+
+use bgp_attributes::Key;
+use mv_base::{Addr, NoMemory, NodeId, Rd, Seq};
+use mvpn_nlri::{Afi, Route};
+use route_order::TableKey;
+use route_targets::ExtComm;
+use std::alloc::Global;
+use std::test::*;
+use taken_tables::{RouteValue, TakenTables};
+
+const ACTIVE: Route = Route::Active {
+    rd: Rd([0, 0, 0xfd, 0xe8, 0, 0, 0, 1]),
+    source: Addr::V4([10, 1, 0, 9]),
+    group: Addr::V4([232, 1, 1, 1]),
+};
+
+fn active() -> Key
+    ensures { IsWritableKey result }
+{
+    Key::Mcast(Afi::Ipv4, ACTIVE)
+}
+
+fn key() -> TableKey {
+    TableKey::of(active())
+}
+
+/// A value with one community.
+fn value(alloc: Global, hop: u8) -> Result<RouteValue, NoMemory> {
+    let mut comms = Seq::new(alloc);
+    comms.push(ExtComm([1, 2, 0xc0, 0, 2, 1, 0, 1]))?;
+    Ok(RouteValue {
+        next_hop: Addr::V4([192, 0, 2, hop]),
+        comms,
+        pmsi: None,
+    })
+}
+
+/// The clock at which the route was learned.
+fn since(tables: &TakenTables) -> Option<u64> {
+    match tables.get(NodeId(1), &key()) {
+        None => None,
+        Some(entry) => Some(entry.since()),
+    }
+}
+
+/// An equal route keeps its time, another one is learned anew, and where the session is down nothing is taken.
+#[test]
+fn takes(rt: HostRuntime) -> Result<(), Fail> {
+    let mut tables = TakenTables::of(rt.alloc());
+    let peer = NodeId(1);
+    assert!(rt; !tables.learn(peer, key(), value(rt.alloc(), 2)?, 4)?);
+    tables.raise(peer)?;
+    assert!(rt; tables.learn(peer, key(), value(rt.alloc(), 2)?, 5)?);
+    assert!(rt; !tables.learn(peer, key(), value(rt.alloc(), 2)?, 6)?);
+    assert_eq!(rt; since(&tables), Some(5));
+    assert!(rt; tables.learn(peer, key(), value(rt.alloc(), 3)?, 7)?);
+    assert_eq!(rt; since(&tables), Some(7));
+    assert!(rt; tables.entries(peer).is_some());
+    tables.run_delays(&[], &[], 1000, 2000);
+    tables.forget(peer, &key());
+    assert_eq!(rt; since(&tables), None);
+    tables.lose(peer);
+    assert!(rt; !tables.is_up(peer));
+    Ok(())
+}

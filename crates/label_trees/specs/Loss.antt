@@ -15,7 +15,8 @@ use Rattle.label_forwarding.specs.FibData.{branch_in, hop}
 -- the branches of the tree that go to the neighbour
 abbrev pub branches_to : NodeId → Fec → List Branch → List TreeBranch
 branches_to peer fec [] = []
-branches_to peer fec (own ∷ more) = if own.node.0 == peer.0 then branch_in fec own ∷ branches_to peer fec more else branches_to peer fec more
+branches_to peer fec (own ∷ more) =
+    if own.node.0 == peer.0 then branch_in fec own ∷ branches_to peer fec more else branches_to peer fec more
 
 -- whether it is a branch of the node that goes to the neighbour
 abbrev pub is_lost : NodeId → FinSet branch_cmp → TreeBranch → Bool

@@ -163,7 +163,8 @@ pub record AllSettledSo (core : Topology) (place : NodePlace) (fecs : List Fec) 
   pub on : (fec : Fec) (upstream : NodeId) → maps.get new.uses.waiting fec ≡ Some upstream →
       (is_on_tree new fec ≡ true) ⊎ WaitedBeside fecs old fec upstream
   pub toward : (own : Core) → IsCoreOf core.nodes core.links own → (fec : Fec) (upstream : NodeId) →
-      maps.get new.uses.waiting fec ≡ Some upstream → ((place_in place own).upstream fec ≡ Some upstream) ⊎ WaitedBeside fecs old fec upstream
+      maps.get new.uses.waiting fec ≡ Some upstream →
+      ((place_in place own).upstream fec ≡ Some upstream) ⊎ WaitedBeside fecs old fec upstream
 
 -- one of the trees needs a label and none is free
 abbrev pub LacksAny : Topology → NodePlace → List Fec → Ends → Trees → List Put → Type 0

@@ -9,7 +9,4 @@ pub mod Entering
 pub mod Leaving
 pub mod Joins
 pub mod Start
-pub mod Changes
 pub mod Refreshed
-pub mod Customers
-pub mod Peers

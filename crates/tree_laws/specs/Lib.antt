@@ -5,5 +5,3 @@ pub mod Joined
 pub mod Imports
 pub mod Joins
 pub mod Refreshed
-pub mod Customers
-pub mod Peers

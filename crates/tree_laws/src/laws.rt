@@ -7,16 +7,11 @@ ghost use Rattle.std.specs.FinSet as sets;
 ghost use Rattle.mv_base.specs.Lists.{Among};
 ghost use Rattle.mldp_fec.specs.declared.fec.Fec.{Fec};
 ghost use Rattle.label_defs.specs.LabelData.{branches_of};
-ghost use Rattle.mv_base.specs.declared.addr.Addr.{Addr};
-ghost use Rattle.mv_base.specs.declared.ids.IfaceId.{IfaceId};
 ghost use Rattle.mv_base.specs.declared.ids.NodeId.{NodeId};
 ghost use Rattle.mv_base.specs.declared.ids.SiteId.{SiteId};
 ghost use Rattle.mv_base.specs.declared.rd.Rd.{Rd};
 ghost use Rattle.mvpn_nlri.specs.declared.route.Afi.{Afi};
 ghost use Rattle.bgp_update.specs.Written.{afi_of};
-ghost use Rattle.pim_joinprune.specs.declared.message.JoinPrune.{JoinPrune};
-ghost use Rattle.pim_defs.specs.Entries.{applied};
-ghost use Rattle.scenario_defs.specs.declared.event.Kind.TheVariants as kinds;
 ghost use Rattle.scenario_defs.specs.Rules.{Rules};
 ghost use Rattle.umh_select.specs.Order.{key_cmp};
 ghost use Rattle.umh_select.specs.declared.key.RouteKey.{RouteKey};
@@ -31,23 +26,21 @@ ghost use Rattle.edge_defs.specs.Edge.{Control, EdgeData, no_control};
 ghost use Rattle.edge_defs.specs.Flows.{asking_ifaces, flows_at};
 ghost use Rattle.edge_defs.specs.Held.{held_for};
 ghost use Rattle.edge_defs.specs.Place.{EdgePlace, OwnVrf, addr_of, own_vrfs};
-ghost use Rattle.edge_defs.specs.Steps.{Active, Idle, Noticed, Pim, Raised, effect, refreshed};
+ghost use Rattle.edge_defs.specs.Steps.{refreshed};
 ghost use Rattle.edge_defs.specs.Tunnels.{is_joined_in, leaves, transmit_tunnel};
 ghost use Rattle.edge_defs.specs.Upstream.{known_routes, upstream_for};
 ghost use Rattle.edge_words.specs.Known.{AreNodes};
 ghost use Rattle.edge_words.specs.Leaf.{IsInclusive};
-ghost use Rattle.tree_laws.specs.Customers.{note_at, where_of, with_entries, with_notes};
 ghost use Rattle.tree_laws.specs.Imports.{has_learned, imports, imports_inclusive};
 ghost use Rattle.tree_laws.specs.Joined.{has_join, tunnel_for};
 ghost use Rattle.tree_laws.specs.Joins.{AreOfVrfs, first_told, join_key, join_of};
-ghost use Rattle.tree_laws.specs.Peers.{AreWithout, PeerRoutes, with_routes};
 ghost use Rattle.tree_laws.specs.Refreshed.{with_flows};
 ghost use Rattle.tree_laws.specs.TreeOf.{IsAttachedAt, IsTreeOf, choice_of, flow_in, iface_id, start_tree};
 ghost use Rattle.tree_laws.specs.Wanting.{AreTreesOf, IsWantedIn};
 ghost use Rattle.tree_laws.specs.Whole.{AreWhole, HasPrefixes, HaveSpellings};
 
-/// Where nothing has happened yet, a tree is one of its VRF that keeps its interfaces and the prefixes of the sites that are attached at it,
-/// and nothing else.
+/// Where nothing has happened yet, a tree is one of its VRF that keeps its interfaces and the prefixes of the sites that are attached at
+/// it, and nothing else.
 pub fn trees_start()
     ensures { (place : EdgePlace) (own : OwnVrf) (attached : FinMap key_cmp SiteId) → ((key : RouteKey) (site : SiteId) →
         (maps.get attached key ≡ Some site) ↔ IsAttachedAt place.scenario own key.prefix key.place site) →
@@ -79,34 +72,6 @@ pub fn flow_looked_up()
         AreWhole (known_routes place control own) →
         flow_of tree.vrf (place.core.cost place.me) now flow
         ≡ option_map choice_of (maps.get (flows_at place now control) (flow_in own.id flow)) }
-{}
-
-/// A Join/Prune message at an interface, and a source that is noted there or no longer is, are told to the tree of the interface's VRF
-/// alone: it is one of its VRF again with that change, and each other one as it is.
-pub fn customers_are_told()
-    ensures message { (place : EdgePlace) (now : ℕ) (control : Control) (own : OwnVrf) (tree : TreeData) (iface : IfaceId)
-        (message : JoinPrune) → IsTreeOf place control own tree →
-        IsTreeOf place (effect place now control (Pim iface message)) own
-        (where_of place own iface tree (with_entries tree (applied tree.vrf.entries iface message now))) }
-    ensures noted { (place : EdgePlace) (now : ℕ) (control : Control) (own : OwnVrf) (tree : TreeData) (iface : IfaceId)
-        (source group : Addr) → IsTreeOf place control own tree →
-        IsTreeOf place (effect place now control (Active iface source group)) own
-        (where_of place own iface tree (with_notes tree (sets.insert tree.vrf.notes (note_at iface source group)))) }
-    ensures idle { (place : EdgePlace) (now : ℕ) (control : Control) (own : OwnVrf) (tree : TreeData) (iface : IfaceId)
-        (source group : Addr) → IsTreeOf place control own tree →
-        IsTreeOf place (effect place now control (Idle iface source group)) own
-        (where_of place own iface tree (with_notes tree (sets.remove tree.vrf.notes (note_at iface source group)))) }
-{}
-
-/// Where the session of a peer is lost, and where it comes up, a tree without that peer's routes is one of its VRF again, with what its
-/// flows want then.
-pub fn peers_are_told()
-    ensures lost { (place : EdgePlace) (now : ℕ) (control : Control) (own : OwnVrf) (tree : TreeData) (peer : NodeId)
-        (routes : PeerRoutes) → IsTreeOf place control own tree → AreWithout peer tree routes →
-        IsTreeOf place (effect place now control (Noticed kinds.Bgp peer)) own (with_routes tree routes) }
-    ensures raised { (place : EdgePlace) (now : ℕ) (control : Control) (own : OwnVrf) (tree : TreeData) (peer : NodeId)
-        (routes : PeerRoutes) → IsTreeOf place control own tree → AreWithout peer tree routes →
-        IsTreeOf place (effect place now control (Raised kinds.Bgp peer)) own (with_routes tree routes) }
 {}
 
 /// Behind a refresh of the edge's flows, the tree is one of the VRF again with the flows that it has at that clock, and what they want; and

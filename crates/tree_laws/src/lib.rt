@@ -5,7 +5,6 @@
 mod laws;
 
 pub use laws::{
-    asking_is_told, customers_are_told, entering_is_told, flow_looked_up, imports_are_told,
-    joins_are_told, leaves_are_wanted, leaving_is_told, peers_are_told, prefixes_are_whole,
-    transmitted_is_told, trees_start,
+    asking_is_told, entering_is_told, flow_looked_up, imports_are_told, joins_are_told,
+    leaves_are_wanted, leaving_is_told, prefixes_are_whole, transmitted_is_told, trees_start,
 };

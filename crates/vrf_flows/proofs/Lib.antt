@@ -3,3 +3,5 @@ pub mod TreeLemmas
 pub mod SetLemmas
 pub mod StateLemmas
 pub mod CostLemmas
+pub mod EntryLemmas
+pub mod CoverLemmas

@@ -301,8 +301,9 @@ impl State {
         }) }
         ensures unchanged { OnErr result (vrf_of self.new ≡ vrf_of self.old) }
     {
+        let prefix = route.prefix;
         self.routes.learn(peer, route)?;
-        mark(&mut self.flows, &Cause::All);
+        mark(&mut self.flows, &Cause::Prefix(prefix));
         Ok(())
     }
 
@@ -315,7 +316,7 @@ impl State {
         } }
     {
         self.routes.forget(peer, rd, prefix);
-        mark(&mut self.flows, &Cause::All);
+        mark(&mut self.flows, &Cause::Prefix(prefix));
     }
 
     pub(crate) fn umh_forget_peer(&mut self, peer: NodeId)

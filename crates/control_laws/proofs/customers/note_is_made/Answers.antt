@@ -1,0 +1,5 @@
+use Rattle.control_laws.proofs.CustomersStep.{noted_makes}
+use Rattle.control_laws.proofs.customers.note_is_made.Goals as goal
+
+pub returns : goal.returns
+returns c = λ kept number it iface source group now core trees at own. noted_makes kept trees number it at iface own source group core now

@@ -1,0 +1,5 @@
+pub mod Control
+pub mod Customers
+pub mod Peers
+pub mod Between
+pub mod Start

@@ -443,13 +443,19 @@ fn new_site(rt: &impl Abort, alloc: Global, number: u16, links: &[Link]) -> Site
     }
 }
 
+fn in_row(rt: &impl Abort, alloc: Global, number: u16) -> Site
+    requires { number < 3 }
+{
+    new_site(rt, alloc, number, ROW.as_slice())
+}
+
 #[test]
 fn three_nodes(rt: HostRuntime) -> Result<(), Fail> {
     let alloc = rt.alloc();
     let mut net = Net {
-        root: new_site(&rt, alloc, 0, ROW.as_slice()),
-        leaf: new_site(&rt, alloc, 1, ROW.as_slice()),
-        middle: new_site(&rt, alloc, 2, ROW.as_slice()),
+        root: in_row(&rt, alloc, 0),
+        leaf: in_row(&rt, alloc, 1),
+        middle: in_row(&rt, alloc, 2),
     };
     let count = so_far(&mut net, alloc).ok();
     let Net { root, leaf, middle } = net;

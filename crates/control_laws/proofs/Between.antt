@@ -2,6 +2,7 @@
 use Rattle.std.proofs.Common.{◌≡◌, ◌⊎◌, ℕ, ◌==◌, ◌&&◌, ◌||◌, Bool, true, false, cond, inl, inr, List, find, Option, Some, None, option_map, refl, sym, ap, subst, ◌∙◌}
 use Rattle.std.specs.List.{AllZip}
 use Rattle.std.specs.FinMap as maps
+use Rattle.std.specs.Option.{option_or}
 use Rattle.std.specs.FinMap.{FinMap}
 use Rattle.std.specs.FinSet as sets
 use Rattle.std.specs.FinSet.{FinSet}
@@ -35,7 +36,7 @@ use Rattle.control_laws.specs.Control.{Kept, OwnTree, trees_of, upstream_by, con
 use Rattle.control_laws.specs.Customers.{Makes}
 use Rattle.control_laws.specs.Peers.{as_wanted, IsTreeBetween}
 use Rattle.control_laws.specs.Between.{AreTreesBetween, HasRoutes, IsRefreshed, KeepsCustomers, MakesBetween}
-use Rattle.control_laws.proofs.Gathered.{or_else, options}
+use Rattle.control_laws.proofs.Gathered.{options}
 use Rattle.control_laws.proofs.Owned.{of_each, each_of, of_number, or_not, with}
 use Rattle.control_laws.proofs.Together.{tree_note, flow_of, selected_of, entry_in, note_in, choice_in, selected_in, entries_gathered, notes_gathered, flows_gathered, selections_gathered}
 use Rattle.control_laws.proofs.Parts.{IsPart, AreParts, AreFull, AreWanting, Wants, no_core, derived_of, selections_distinct, is_tree_with, parts_of, full_of, trees_together, flow_at, flow_nowhere}
@@ -96,7 +97,7 @@ module _ (kept : Kept) (peers : FinMap node_cmp Taken) (others : List TreeData) 
   routes_are = same_control _ _
       (same_entries _ _ (λ at.
       entries_gathered changed at
-      ∙ gathered_zip None or_else (Stands R) (entry_in at) (entry_in at) (λ it new s. ap (λ (m : Entries). maps.get m at) (customers it new.tree s.is).entries) (trees_of kept) (trees_of changed) pairs
+      ∙ gathered_zip None option_or (Stands R) (entry_in at) (entry_in at) (λ it new s. ap (λ (m : Entries). maps.get m at) (customers it new.tree s.is).entries) (trees_of kept) (trees_of changed) pairs
       ∙ sym (entries_gathered kept at)))
       (same_notes _ _ (λ note.
       notes_gathered changed note
@@ -105,12 +106,12 @@ module _ (kept : Kept) (peers : FinMap node_cmp Taken) (others : List TreeData) 
       ∙ sym (notes_gathered kept note)))
       (same_selections _ _ (λ key.
       selections_gathered changed key
-      ∙ gathered_zip None or_else (Stands R) (selected_in key) (selected_in key)
+      ∙ gathered_zip None option_or (Stands R) (selected_in key) (selected_in key)
       (λ it new s i. cond (((s.own i).id.0) == key.vrf.0) (option_map selected_of (find (is_of key.pattern) ((customers it new.tree s.is).selections i))) None) (trees_of kept) (trees_of changed) pairs
       ∙ sym (selections_gathered kept key)))
       (same_flows _ _ (λ key.
       flows_gathered changed key
-      ∙ gathered_zip None or_else (Stands R) (choice_in key) (choice_in key)
+      ∙ gathered_zip None option_or (Stands R) (choice_in key) (choice_in key)
       (λ it new s i. cond (((s.own i).id.0) == key.vrf.0) (option_map upstream_by (maps.get ((customers it new.tree s.is).flows i) (flow_of key))) None) (trees_of kept) (trees_of changed) pairs
       ∙ sym (flows_gathered kept key)))
       refl
@@ -208,7 +209,7 @@ module _ (kept : Kept) (core : Core) (now : ℕ) (others : List TreeData) (zip :
       is = same_control _ _
           (same_entries _ _ (λ at.
           entries_gathered behind at
-          ∙ gathered_zip None or_else (Stands Refreshed) (entry_in at) (entry_in at) (λ it new s i. maps.get ((s.is.rest i).vrf.entries) at) (trees_of kept) (trees_of behind) refreshed_pairs
+          ∙ gathered_zip None option_or (Stands Refreshed) (entry_in at) (entry_in at) (λ it new s i. maps.get ((s.is.rest i).vrf.entries) at) (trees_of kept) (trees_of behind) refreshed_pairs
           ∙ sym (entries_gathered kept at)))
           (same_notes _ _ (λ note.
           notes_gathered behind note
@@ -217,7 +218,7 @@ module _ (kept : Kept) (core : Core) (now : ℕ) (others : List TreeData) (zip :
           ∙ sym (notes_gathered kept note)))
           (same_selections _ _ (λ key.
           selections_gathered behind key
-          ∙ gathered_zip None or_else (Stands Refreshed) (selected_in key) (selected_in key)
+          ∙ gathered_zip None option_or (Stands Refreshed) (selected_in key) (selected_in key)
           (λ it new s i. cond (((s.own i).id.0) == key.vrf.0) (option_map selected_of (find (is_of key.pattern) ((s.is.rest i).root.selections))) None) (trees_of kept) (trees_of behind) refreshed_pairs
           ∙ sym (selections_gathered kept key)))
           (same_flows _ _ flows_are)

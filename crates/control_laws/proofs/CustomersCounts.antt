@@ -4,10 +4,12 @@ use Rattle.std.proofs.Common.{◌≡◌, ℕ, zero, suc, ◌+◌, ◌==◌, ◌|
 use Rattle.std.specs.List.{AllByRecursion, list_any}
 use Rattle.std.specs.Ordering.{eq_by_cmp}
 use Rattle.std.specs.FinMap as maps
+use Rattle.std.specs.Option.{option_or}
 use Rattle.std.specs.FinSet as sets
 use Rattle.std.specs.FinSet.{FinSet}
 use Rattle.std.proofs.lemmas.Bool.{eq-eqb}
 use Rattle.std.proofs.lemmas.List.{length-map}
+use Rattle.std.proofs.lemmas.List.Folds.{find-append}
 use Rattle.std.proofs.lemmas.List.Sums.{sum_by-cons}
 use Rattle.mv_base.specs.Lists.{Among}
 use Rattle.mv_base.specs.declared.ids.IfaceId.{IfaceId}
@@ -39,7 +41,7 @@ use Rattle.edge_words.proofs.Members.{contained}
 use Rattle.tree_laws.specs.TreeOf.{edge_note}
 use Rattle.control_laws.specs.Control.{own_trees, Kept, OwnTree, trees_of, control_of, selected_by, AreTrees, with_tree}
 use Rattle.control_laws.specs.Customers.{AreSingle, pim_taken}
-use Rattle.control_laws.proofs.Gathered.{or_else, gathered_alike, contains-gathered}
+use Rattle.control_laws.proofs.Gathered.{gathered_alike, contains-gathered}
 use Rattle.control_laws.proofs.Owned.{of_number, of_each}
 use Rattle.control_laws.proofs.Together.{tree_note, selected_of, note_in, notes_gathered, any_noted, find-selections}
 use Rattle.control_laws.proofs.Parts.{AreParts, AreFull, apart, of_iface, no_core, find_is, parts_of, full_of}
@@ -47,7 +49,6 @@ use Rattle.control_laws.proofs.Replaced.{same_notes}
 use Rattle.control_laws.proofs.Sums.{sum-map, sum-alike, sum-one, StandOnce, map_once, sum-owned, len-sum, count-sum, AreListedOnce, members_once, len-members, len-owned}
 use Rattle.control_laws.proofs.CustomersStep.{pim_makes}
 use Rattle.control_laws.proofs.CustomersTimers.{find-run}
-use Rattle.control_laws.proofs.CustomersSelect.{find-append}
 
 -- ---- along the trees
 
@@ -243,7 +244,7 @@ single_more : (selections : List Selection) (one : Selection) → AreSingle sele
 single_more [] one single new = (refl, tt)
 single_more (first ∷ more) one single new = (
   find-append (is_of first.pattern) more (one ∷ [])
-      ∙ ap (λ (o : Option Selection). or_else o (cond (is_of first.pattern one) (Some one) None)) single.0
+      ∙ ap (λ (o : Option Selection). option_or o (cond (is_of first.pattern one) (Some one) None)) single.0
       ∙ ap (λ (b : Bool). cond b (Some one) None) (not_new one.pattern first one refl (λ e. new (first, inl refl, e)) (is_of first.pattern one) refl),
   single_more more one single.1 (λ s. new (s.0, inr s.1, s.2)),
 )

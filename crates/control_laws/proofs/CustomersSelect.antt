@@ -2,7 +2,9 @@
 use Rattle.std.proofs.Common.{◌≡◌, ◌⊎◌, ℕ, ◌<◌, ◌==◌, ◌&&◌, not, Bool, true, false, cond, inl, inr, List, [], ◌∷◌, ◌++◌, find, filter, slice_get, Option, Some, None, option_map, refl, sym, ap, ◌∙◌, arith}
 use Rattle.std.specs.List.{list_any}
 use Rattle.std.specs.FinMap as maps
+use Rattle.std.specs.Option.{option_or}
 use Rattle.std.proofs.lemmas.Bool.{cases_lt, eqb-true}
+use Rattle.std.proofs.lemmas.List.Folds.{find-append}
 use Rattle.mv_base.specs.Lists.{Among}
 use Rattle.mv_base.specs.declared.ids.VrfId.{VrfId}
 use Rattle.mv_base.specs.declared.pattern.Pattern.{Pattern}
@@ -24,7 +26,6 @@ use Rattle.edge_words.specs.Known.{IsLeastFree}
 use Rattle.edge_words.proofs.Numbers.{numbered}
 use Rattle.control_laws.specs.Control.{Kept, OwnTree, trees_of, control_of, AreTrees, with_tree}
 use Rattle.control_laws.specs.Customers.{Makes, selected, unselected}
-use Rattle.control_laws.proofs.Gathered.{or_else}
 use Rattle.control_laws.proofs.Owned.{with}
 use Rattle.control_laws.proofs.Together.{selected_of, pattern_of, pattern_ties}
 use Rattle.control_laws.proofs.Parts.{IsPart, AreParts, find_is, is_found, parts_of, wants_of, selection_at}
@@ -81,14 +82,6 @@ module _ (control : Control) (vrf : VrfId) (selections : List Selection) (distin
 
 -- ---- what is found
 
-pub find-append : {X : Type 0} (p : X → Bool) (xs ys : List X) → find p (xs ++ ys) ≡ or_else (find p xs) (find p ys)
-find-append p [] ys = refl
-find-append p (x ∷ xs) ys = by (p x) (find-append p xs ys)
-  where
-    by : (b : Bool) → find p (xs ++ ys) ≡ or_else (find p xs) (find p ys) → cond b (Some x) (find p (xs ++ ys)) ≡ or_else (cond b (Some x) (find p xs)) (find p ys)
-    by true e = refl
-    by false e = e
-
 find-none : {X : Type 0} (q p : X → Bool) (xs : List X) → ((x : X) → q x ≡ true → p x ≡ false) → find q (filter p xs) ≡ None
 find-none q p [] h = refl
 find-none q p (x ∷ xs) h = by (p x) (q x) refl refl (find-none q p xs h)
@@ -107,7 +100,7 @@ find-same q p (x ∷ xs) h = by (p x) (q x) refl refl (find-same q p xs h)
     by false true e k rest = absurd (not_both (p x) (h x k) e)
     by false false e k rest = rest
 
-else_none : {X : Type 0} (o : Option X) → or_else o None ≡ o
+else_none : {X : Type 0} (o : Option X) → option_or o None ≡ o
 else_none None = refl
 else_none (Some x) = refl
 
@@ -181,11 +174,11 @@ module _ (kept : Kept) (trees : AreTrees kept) (number : ℕ) (it : OwnTree) (at
     selected_by_key key false c h k = refl
     selected_by_key key true true h k =
         ap (option_map selected_of) (find-append (is_of key.pattern) selections (one ∷ [])
-        ∙ ap (λ (o : Option Selection). or_else o (find (is_of key.pattern) (one ∷ []))) (none_before key k (find (is_of key.pattern) selections) refl)
+        ∙ ap (λ (o : Option Selection). option_or o (find (is_of key.pattern) (one ∷ []))) (none_before key k (find (is_of key.pattern) selections) refl)
         ∙ ap (λ (t : Bool). cond t (Some one) None) k) ∙ ap (λ (s : Selected). Some s) value_is
     selected_by_key key true false h k =
         ap (option_map selected_of) (find-append (is_of key.pattern) selections (one ∷ [])
-        ∙ ap (λ (t : Bool). or_else (find (is_of key.pattern) selections) (cond t (Some one) None)) k ∙ else_none (find (is_of key.pattern) selections))
+        ∙ ap (λ (t : Bool). option_or (find (is_of key.pattern) selections) (cond t (Some one) None)) k ∙ else_none (find (is_of key.pattern) selections))
         ∙ sym (its_own key h)
 
     selected_selections : (key : VrfPattern) → maps.get (control_of (with_tree number with_one kept)).selections key ≡ maps.get (with_selection now it.own.id pattern (control_of kept).selections) key

@@ -5,6 +5,7 @@ use Rattle.std.specs.Ordering.{eq_by_cmp}
 use Rattle.std.specs.declared.cmp.Ordering.{Ordering}
 use Rattle.std.specs.Cmp.{IsTotalOrder}
 use Rattle.std.specs.FinMap as maps
+use Rattle.std.specs.Option.{option_or}
 use Rattle.std.specs.FinMap.{find}
 use Rattle.std.specs.FinSet as sets
 use Rattle.std.proofs.lemmas.List.Folds.{list_any-append}
@@ -22,14 +23,10 @@ pub record HasNone {X : Type 0} (none : X) (or : X → X → X) : Type 0 where
 
 -- ---- of options and of truth values
 
-abbrev pub or_else : {X : Type 0} → Option X → Option X → Option X
-or_else None other = other
-or_else (Some x) other = Some x
-
-pub options : {X : Type 0} → HasNone {X = Option X} None or_else
+pub options : {X : Type 0} → HasNone {X = Option X} None option_or
 options {X} = record { left = λ x. refl; right = right }
   where
-    right : (x : Option X) → or_else x None ≡ x
+    right : (x : Option X) → option_or x None ≡ x
     right None = refl
     right (Some x) = refl
 
@@ -75,20 +72,20 @@ module _ {A X : Type 0} (none : X) (or : X → X → X) where
 -- ---- maps and sets
 
 module _ {K V : Type 0} (R : K → K → Ordering) where
-  head_else : (b : Bool) (v : V) (o p : Option V) → cond b (Some v) (or_else o p) ≡ or_else (cond b (Some v) o) p
+  head_else : (b : Bool) (v : V) (o p : Option V) → cond b (Some v) (option_or o p) ≡ option_or (cond b (Some v) o) p
   head_else true v o p = refl
   head_else false v o p = refl
 
-  pub find-append : (q : K) (xs ys : List (K × V)) → find R q (xs ++ ys) ≡ or_else (find R q xs) (find R q ys)
+  pub find-append : (q : K) (xs ys : List (K × V)) → find R q (xs ++ ys) ≡ option_or (find R q xs) (find R q ys)
   find-append q [] ys = refl
   find-append q (e ∷ xs) ys = ap (cond (eq_by_cmp R q e.0) (Some e.1)) (find-append q xs ys) ∙ head_else (eq_by_cmp R q e.0) e.1 (find R q xs) (find R q ys)
 
-  pub find-gathered : {A : Type 0} (list : A → List (K × V)) (q : K) (xs : List A) → find R q (flat_map list xs) ≡ gathered None or_else (λ x. find R q (list x)) xs
+  pub find-gathered : {A : Type 0} (list : A → List (K × V)) (q : K) (xs : List A) → find R q (flat_map list xs) ≡ gathered None option_or (λ x. find R q (list x)) xs
   find-gathered list q [] = refl
-  find-gathered list q (x ∷ xs) = find-append q (list x) (flat_map list xs) ∙ ap (or_else (find R q (list x))) (find-gathered list q xs)
+  find-gathered list q (x ∷ xs) = find-append q (list x) (flat_map list xs) ∙ ap (option_or (find R q (list x))) (find-gathered list q xs)
 
 pub get-gathered : {K V A : Type 0} {R : K → K → Ordering} → IsTotalOrder R → (list : A → List (K × V)) (q : K) (xs : List A)
-    → maps.get (maps.from_entries {R = R} (flat_map list xs)) q ≡ gathered None or_else (λ x. find R q (list x)) xs
+    → maps.get (maps.from_entries {R = R} (flat_map list xs)) q ≡ gathered None option_or (λ x. find R q (list x)) xs
 get-gathered {R = R} total list q xs = maps.get-from_entries total (flat_map list xs) q ∙ find-gathered R list q xs
 
 pub any-gathered : {K A : Type 0} (p : K → Bool) (list : A → List K) (xs : List A) → list_any p (flat_map list xs) ≡ gathered false (λ a b. a || b) (λ x. list_any p (list x)) xs

@@ -298,14 +298,14 @@ module _ (kept : Kept) where
 
 -- ---- each tree by itself, and all of them
 
+pub choice_back : (choice : Choice) → choice_of (upstream_by choice) ≡ choice
+choice_back choices.None = refl
+choice_back (choices.Local site) = refl
+choice_back (choices.Remote edge rd import source_as) = refl
+
 choice_again : (o : Option Choice) → option_map choice_of (option_map upstream_by o) ≡ o
 choice_again None = refl
-choice_again (Some choice) = ap (λ (c : Choice). Some c) (again choice)
-  where
-    again : (choice : Choice) → choice_of (upstream_by choice) ≡ choice
-    again choices.None = refl
-    again (choices.Local site) = refl
-    again (choices.Remote edge rd import source_as) = refl
+choice_again (Some choice) = ap (λ (c : Choice). Some c) (choice_back choice)
 
 where_owned : {X : Type 0} (b : Bool) (x y : Option X) → (b ≡ true → x ≡ y) → (b ≡ false → x ≡ None) → x ≡ cond b y None
 where_owned true x y h k = h refl

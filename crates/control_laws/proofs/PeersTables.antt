@@ -107,3 +107,18 @@ pub is_behind : (now : ℕ) (change : Change) (old : Option TakenRoute) → IsBe
 is_behind now (updates.Reach advert) old = learned_behind now (record { next_hop = advert.next_hop; comms = advert.comms; pmsi = advert.pmsi }) old
 is_behind now (updates.Unreach key) None = record { same = λ h. refl; fresh = λ h. absurd cc }
 is_behind now (updates.Unreach key) (Some old) = record { same = λ h. absurd cc; fresh = λ h route is. absurd cc }
+
+-- ---- what an advertisement brings
+
+-- the route says what was advertised, whether it was learned anew or stands as before
+pub learned_value : (now : ℕ) (value : Value) (old : Option TakenRoute) → (learned now value old).value ≡ value
+learned_value now value None = refl
+learned_value now value (Some old) = by (same_value old.value value) refl
+  where
+    by : (b : Bool) → same_value old.value value ≡ b → (cond b old (fresh_route now value)).value ≡ value
+    by true e = (value_exact old.value value).0 e
+    by false e = refl
+
+-- whether it is one with the old one is whether its value is
+pub same_learned : (now : ℕ) (value : Value) (old : TakenRoute) → same_route (Some old) (Some (learned now value (Some old))) ≡ same_value old.value value
+same_learned now value old = ap (same_value old.value) (learned_value now value (Some old))

@@ -1,6 +1,7 @@
 -- What an edge keeps where the tree of one VRF is another, or that of each.
 use Rattle.std.proofs.Common.{◌≡◌, ℕ, ◌==◌, ◌||◌, Bool, true, false, cond, inl, inr, List, [], ◌∷◌, ◌++◌, length, length-set, map, find, slice_get, slice_set, Option, Some, None, option_map, refl, sym, ap, subst, ◌∙◌}
 use Rattle.std.specs.FinMap as maps
+use Rattle.std.specs.Option.{option_or}
 use Rattle.std.specs.FinMap.{FinMap}
 use Rattle.std.specs.FinSet as sets
 use Rattle.std.specs.FinSet.{FinSet}
@@ -20,7 +21,7 @@ use Rattle.edge_defs.specs.Place.{OwnVrf, vrfs_from}
 use Rattle.edge_defs.proofs.KeyLemmas.{note_total, note_exact, pattern_total, pattern_exact, flow_total, flow_exact}
 use Rattle.calm_laws.proofs.Lists.{among_behind, map_among}
 use Rattle.control_laws.specs.Control.{Kept, OwnTree, trees_of, upstream_by, control_of, AreTrees, with_tree, with_trees}
-use Rattle.control_laws.proofs.Gathered.{gathered, HasNone, gathered_same, gathered_alike, gathered_map, or_else, options, truths}
+use Rattle.control_laws.proofs.Gathered.{gathered, HasNone, gathered_same, gathered_alike, gathered_map, options, truths}
 use Rattle.control_laws.proofs.Owned.{AreApart, IsOneOf, one_of, paired, with, IsOfOne, of_number, IsOwned, all_changed, all_through, trees_map}
 use Rattle.control_laws.proofs.Together.{tree_note, flow_of, selected_of, entry_in, note_in, choice_in, selected_in, entries_gathered, notes_gathered, flows_gathered, selections_gathered}
 use Rattle.control_laws.proofs.Parts.{IsPart, AreParts, AreFull, Wants, wants_of, apart, of_iface, no_flow, no_selection, trees_together, parts_of, full_of}
@@ -69,7 +70,7 @@ module _ (kept : Kept) (number : ℕ) (it : OwnTree) (at_number : slice_get (tre
 
     -- what the tree has as before the edge has as before
     pub entries_stay : tree.vrf.entries ≡ it.tree.vrf.entries → (control_of (with_tree number tree kept)).entries ≡ (control_of kept).entries
-    entries_stay e = same_entries _ _ (λ at. entries_gathered (with_tree number tree kept) at ∙ stays None or_else (entry_in at) (ap (λ (m : Entries). maps.get m at) e) ∙ sym (entries_gathered kept at))
+    entries_stay e = same_entries _ _ (λ at. entries_gathered (with_tree number tree kept) at ∙ stays None option_or (entry_in at) (ap (λ (m : Entries). maps.get m at) e) ∙ sym (entries_gathered kept at))
 
     pub notes_stay : tree.vrf.notes ≡ it.tree.vrf.notes → (control_of (with_tree number tree kept)).notes ≡ (control_of kept).notes
     notes_stay e = same_notes _ _ (λ note.
@@ -79,13 +80,13 @@ module _ (kept : Kept) (number : ℕ) (it : OwnTree) (at_number : slice_get (tre
     pub flows_stay : tree.vrf.flows ≡ it.tree.vrf.flows → (control_of (with_tree number tree kept)).flows ≡ (control_of kept).flows
     flows_stay e = same_flows _ _ (λ key.
         flows_gathered (with_tree number tree kept) key
-        ∙ stays None or_else (choice_in key) (ap (λ (m : FinMap tree_keys.flow_cmp Choice). cond (it.own.id.0 == key.vrf.0) (option_map upstream_by (maps.get m (flow_of key))) None) e)
+        ∙ stays None option_or (choice_in key) (ap (λ (m : FinMap tree_keys.flow_cmp Choice). cond (it.own.id.0 == key.vrf.0) (option_map upstream_by (maps.get m (flow_of key))) None) e)
         ∙ sym (flows_gathered kept key))
 
     pub selections_stay : tree.root.selections ≡ it.tree.root.selections → (control_of (with_tree number tree kept)).selections ≡ (control_of kept).selections
     selections_stay e = same_selections _ _ (λ key.
         selections_gathered (with_tree number tree kept) key
-        ∙ stays None or_else (selected_in key) (ap (λ (l : List Selection). cond (it.own.id.0 == key.vrf.0) (option_map selected_of (find (is_of key.pattern) l)) None) e)
+        ∙ stays None option_or (selected_in key) (ap (λ (l : List Selection). cond (it.own.id.0 == key.vrf.0) (option_map selected_of (find (is_of key.pattern) l)) None) e)
         ∙ sym (selections_gathered kept key))
 
   -- what holds of each tree, and of the new one, holds of each then
@@ -143,7 +144,7 @@ module _ (kept : Kept) (number : ℕ) (it : OwnTree) (at_number : slice_get (tre
     flow_then key =
         flows_gathered new key
         ∙ changed options (λ (own : OwnVrf). own.id.0 == key.vrf.0) (of_number key.vrf.0) (choice_in key) (λ other p. no_flow kept parts key other)
-        ∙ test_twice (it.own.id.0 == key.vrf.0) (option_map upstream_by (maps.get tree.vrf.flows (flow_of key))) None (gathered None or_else (choice_in key) (trees_of kept))
+        ∙ test_twice (it.own.id.0 == key.vrf.0) (option_map upstream_by (maps.get tree.vrf.flows (flow_of key))) None (gathered None option_or (choice_in key) (trees_of kept))
         ∙ ap (cond (it.own.id.0 == key.vrf.0) (option_map upstream_by (maps.get tree.vrf.flows (flow_of key)))) (sym (flows_gathered kept key))
 
     pub selection_then : (key : VrfPattern) → maps.get (control_of new).selections key
@@ -151,7 +152,7 @@ module _ (kept : Kept) (number : ℕ) (it : OwnTree) (at_number : slice_get (tre
     selection_then key =
         selections_gathered new key
         ∙ changed options (λ (own : OwnVrf). own.id.0 == key.vrf.0) (of_number key.vrf.0) (selected_in key) (λ other p. no_selection kept parts key other)
-        ∙ test_twice (it.own.id.0 == key.vrf.0) (option_map selected_of (find (is_of key.pattern) tree.root.selections)) None (gathered None or_else (selected_in key) (trees_of kept))
+        ∙ test_twice (it.own.id.0 == key.vrf.0) (option_map selected_of (find (is_of key.pattern) tree.root.selections)) None (gathered None option_or (selected_in key) (trees_of kept))
         ∙ ap (cond (it.own.id.0 == key.vrf.0) (option_map selected_of (find (is_of key.pattern) tree.root.selections))) (sym (selections_gathered kept key))
 
 -- ---- each tree is another
@@ -181,7 +182,7 @@ module _ (kept : Kept) (change : TreeData → TreeData) where
   all_stay none or own same = all_gathered none or own ∙ gathered_alike none or (λ it. own (changed_it it)) own (trees_of kept) (λ it a. same it)
 
   pub all_entries_stay : ((tree : TreeData) → (change tree).vrf.entries ≡ tree.vrf.entries) → (control_of all_new).entries ≡ (control_of kept).entries
-  all_entries_stay same = same_entries _ _ (λ at. entries_gathered all_new at ∙ all_stay None or_else (entry_in at) (λ it. ap (λ (m : Entries). maps.get m at) (same it.tree)) ∙ sym (entries_gathered kept at))
+  all_entries_stay same = same_entries _ _ (λ at. entries_gathered all_new at ∙ all_stay None option_or (entry_in at) (λ it. ap (λ (m : Entries). maps.get m at) (same it.tree)) ∙ sym (entries_gathered kept at))
 
   pub all_notes_stay : ((tree : TreeData) → (change tree).vrf.notes ≡ tree.vrf.notes) → (control_of all_new).notes ≡ (control_of kept).notes
   all_notes_stay same = same_notes _ _ (λ note.
@@ -191,13 +192,13 @@ module _ (kept : Kept) (change : TreeData → TreeData) where
   pub all_flows_stay : ((tree : TreeData) → (change tree).vrf.flows ≡ tree.vrf.flows) → (control_of all_new).flows ≡ (control_of kept).flows
   all_flows_stay same = same_flows _ _ (λ key.
       flows_gathered all_new key
-      ∙ all_stay None or_else (choice_in key) (λ it. ap (λ (m : FinMap tree_keys.flow_cmp Choice). cond (it.own.id.0 == key.vrf.0) (option_map upstream_by (maps.get m (flow_of key))) None) (same it.tree))
+      ∙ all_stay None option_or (choice_in key) (λ it. ap (λ (m : FinMap tree_keys.flow_cmp Choice). cond (it.own.id.0 == key.vrf.0) (option_map upstream_by (maps.get m (flow_of key))) None) (same it.tree))
       ∙ sym (flows_gathered kept key))
 
   pub all_selections_stay : ((tree : TreeData) → (change tree).root.selections ≡ tree.root.selections) → (control_of all_new).selections ≡ (control_of kept).selections
   all_selections_stay same = same_selections _ _ (λ key.
       selections_gathered all_new key
-      ∙ all_stay None or_else (selected_in key) (λ it. ap (λ (l : List Selection). cond (it.own.id.0 == key.vrf.0) (option_map selected_of (find (is_of key.pattern) l)) None) (same it.tree))
+      ∙ all_stay None option_or (selected_in key) (λ it. ap (λ (l : List Selection). cond (it.own.id.0 == key.vrf.0) (option_map selected_of (find (is_of key.pattern) l)) None) (same it.tree))
       ∙ sym (selections_gathered kept key))
 
   -- what the change makes of the part of each it makes of all of it

@@ -7,6 +7,7 @@ use Rattle.std.specs.declared.cmp.Ordering.{Ordering}
 use Rattle.std.specs.declared.cmp.Ordering.TheVariants.{Less, Equal, Greater}
 use Rattle.std.specs.Cmp.{IsTotalOrder, Equal-is}
 use Rattle.std.specs.FinMap as maps
+use Rattle.std.specs.Option.{option_or}
 use Rattle.std.specs.FinMap.{FinMap, IsAntisymmetric, find, put, is_sorted}
 use Rattle.std.specs.FinMap.Entries.{by_order, below_all, is_some-find}
 use Rattle.std.specs.FinSet as sets
@@ -20,7 +21,7 @@ use Rattle.calm_laws.proofs.Lists.{any_among}
 use Rattle.calm_laws.proofs.Maps.{found_stands, empty_entries}
 use Rattle.edge_defs.specs.Place.{OwnVrf}
 use Rattle.control_laws.specs.Control.{OwnTree}
-use Rattle.control_laws.proofs.Gathered.{or_else, options, truths, gathered_none, find-append, find-gathered, any-gathered}
+use Rattle.control_laws.proofs.Gathered.{options, truths, gathered_none, find-append, find-gathered, any-gathered}
 use Rattle.control_laws.proofs.Owned.{AreApart, IsOfOne}
 
 -- ---- sums
@@ -63,7 +64,7 @@ module _ {K V : Type 0} (R : K → K → Ordering) where
   pub once_both : (xs ys : List (K × V)) → StandOnce xs → StandOnce ys → ((e : K × V) → Among e xs → find R e.0 ys ≡ None) → StandOnce (xs ++ ys)
   once_both [] ys once behind apart = behind
   once_both (e ∷ xs) ys once behind apart =
-      (find-append R e.0 xs ys ∙ ap (λ (o : Option V). or_else o (find R e.0 ys)) once.0 ∙ apart e (inl refl), once_both xs ys once.1 behind (λ f a. apart f (inr a)))
+      (find-append R e.0 xs ys ∙ ap (λ (o : Option V). option_or o (find R e.0 ys)) once.0 ∙ apart e (inl refl), once_both xs ys once.1 behind (λ f a. apart f (inr a)))
 
 pub map_once : {K V : Type 0} {R : K → K → Ordering} (m : FinMap R V) → StandOnce R (maps.entries m)
 map_once {R = R} m = sorted_once R (maps.entries m) (maps.entries_sorted m)

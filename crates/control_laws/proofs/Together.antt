@@ -4,6 +4,7 @@ use Rattle.std.specs.List.{list_any}
 use Rattle.std.specs.Ordering.{is_eq, eq_by_cmp}
 use Rattle.std.specs.Cmp.{tied_itself, both_ways, Equal-is}
 use Rattle.std.specs.FinMap as maps
+use Rattle.std.specs.Option.{option_or}
 use Rattle.std.specs.FinSet as sets
 use Rattle.std.proofs.lemmas.Bool.{and_from, and_parts, eq-eqb, eqb-true}
 use Rattle.mv_base.specs.declared.ids.VrfId.{VrfId}
@@ -26,7 +27,7 @@ use Rattle.edge_defs.proofs.KeyLemmas.{note_total, pattern_total, pattern_exact,
 use Rattle.tree_defs.proofs.KeyLemmas.{flow_total as tree_flow_total, flow_exact as tree_flow_exact}
 use Rattle.tree_laws.specs.TreeOf.{edge_note, flow_in}
 use Rattle.control_laws.specs.Control.{Kept, OwnTree, trees_of, upstream_by, flows_by, selected_by, control_of}
-use Rattle.control_laws.proofs.Gathered.{gathered, or_else, gathered_alike, get-gathered, contains-gathered}
+use Rattle.control_laws.proofs.Gathered.{gathered, gathered_alike, get-gathered, contains-gathered}
 
 -- ---- what each tree has of a thing
 
@@ -54,10 +55,10 @@ selected_in at it = if it.own.id.0 == at.vrf.0 then option_map selected_of (find
 
 -- ---- the look-ups as what is gathered from the trees
 
-pub entries_gathered : (kept : Kept) (at : IfaceEntry) → maps.get (control_of kept).entries at ≡ gathered None or_else (entry_in at) (trees_of kept)
+pub entries_gathered : (kept : Kept) (at : IfaceEntry) → maps.get (control_of kept).entries at ≡ gathered None option_or (entry_in at) (trees_of kept)
 entries_gathered kept at =
     get-gathered entry_cmp_total (λ (it : OwnTree). maps.entries it.tree.vrf.entries) at (trees_of kept)
-    ∙ gathered_alike None or_else (λ (it : OwnTree). maps.find entry_cmp at (maps.entries it.tree.vrf.entries)) (entry_in at) (trees_of kept) (λ it a. sym (maps.get-entries it.tree.vrf.entries at))
+    ∙ gathered_alike None option_or (λ (it : OwnTree). maps.find entry_cmp at (maps.entries it.tree.vrf.entries)) (entry_in at) (trees_of kept) (λ it a. sym (maps.get-entries it.tree.vrf.entries at))
 
 pub any_noted : (note : edges.Note) (notes : List Note) → list_any (eq_by_cmp note_cmp note) (map edge_note notes) ≡ list_any (eq_by_cmp tree_keys.note_cmp (tree_note note)) notes
 any_noted note [] = refl
@@ -136,15 +137,15 @@ find-selections vrf key (selection ∷ more) =
     (λ i. cond (pattern_ties vrf key selection i) (Some (selected_of selection)) (find-selections vrf key more i))
     ∙ head_where (vrf.0 == key.vrf.0) (is_of key.pattern selection) selected_of selection (find (is_of key.pattern) more)
 
-pub flows_gathered : (kept : Kept) (key : VrfFlow) → maps.get (control_of kept).flows key ≡ gathered None or_else (choice_in key) (trees_of kept)
+pub flows_gathered : (kept : Kept) (key : VrfFlow) → maps.get (control_of kept).flows key ≡ gathered None option_or (choice_in key) (trees_of kept)
 flows_gathered kept key =
     get-gathered flow_total flows_by key (trees_of kept)
-    ∙ gathered_alike None or_else (λ (it : OwnTree). maps.find flow_cmp key (flows_by it)) (choice_in key) (trees_of kept)
+    ∙ gathered_alike None option_or (λ (it : OwnTree). maps.find flow_cmp key (flows_by it)) (choice_in key) (trees_of kept)
     (λ it a. find-flows it.own.id key (maps.entries it.tree.vrf.flows)
     ∙ ap (λ (o : Option Choice). cond (it.own.id.0 == key.vrf.0) (option_map upstream_by o) None) (sym (maps.get-entries it.tree.vrf.flows (flow_of key))))
 
-pub selections_gathered : (kept : Kept) (key : VrfPattern) → maps.get (control_of kept).selections key ≡ gathered None or_else (selected_in key) (trees_of kept)
+pub selections_gathered : (kept : Kept) (key : VrfPattern) → maps.get (control_of kept).selections key ≡ gathered None option_or (selected_in key) (trees_of kept)
 selections_gathered kept key =
     get-gathered pattern_total (λ (it : OwnTree). map (selected_by it.own.id) it.tree.root.selections) key (trees_of kept)
-    ∙ gathered_alike None or_else (λ (it : OwnTree). maps.find pattern_cmp key (map (selected_by it.own.id) it.tree.root.selections)) (selected_in key) (trees_of kept)
+    ∙ gathered_alike None option_or (λ (it : OwnTree). maps.find pattern_cmp key (map (selected_by it.own.id) it.tree.root.selections)) (selected_in key) (trees_of kept)
     (λ it a. find-selections it.own.id key it.tree.root.selections)

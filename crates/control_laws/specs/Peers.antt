@@ -29,8 +29,8 @@ use Rattle.tree_defs.specs.declared.flow.TakenJoin.{TakenJoin}
 use Rattle.tree_defs.specs.Keys.{active_cmp}
 use Rattle.tree_defs.specs.Trees.{TreeData, join_cmp, wanted_by}
 use Rattle.edge_defs.specs.Edge.{Control, Taken, TakenRoute}
-use Rattle.edge_defs.specs.Imported.{FlowRoute, ImportedSelective, imported_active, imported_inclusive}
-use Rattle.edge_defs.specs.Imported.{imported_join, imported_selective, taken_from}
+use Rattle.edge_defs.specs.Imported.{FlowRoute, ImportedSelective, imported_active, imported_inclusive, imported_join}
+use Rattle.edge_defs.specs.Imported.{imported_selective, taken_from}
 use Rattle.edge_defs.specs.Keys.{same_value}
 use Rattle.edge_defs.specs.Place.{EdgePlace, OwnVrf, addr_of}
 use Rattle.edge_defs.specs.Steps.{learned, taken_change}

@@ -1,16 +1,19 @@
 //! Laws of what an edge keeps, put together from the trees of its VRFs.
-ghost use Rattle.std.specs.Prelude.{◌≡◌, ◌==◌, ℕ, true, false, map, slice_get, None, Some, option_map};
+ghost use Rattle.std.specs.Prelude.{◌≡◌, ◌↔◌, ◌==◌, ℕ, true, false, map, slice_get, None, Some, option_map};
 ghost use Rattle.std.specs.FinMap as maps;
 ghost use Rattle.std.specs.FinSet as sets;
 ghost use Rattle.mv_base.specs.Lists.{Among};
 ghost use Rattle.scenario_defs.specs.declared.event.IfaceEntry.{IfaceEntry};
+ghost use Rattle.selective_defs.specs.declared.selection.Selection.{Selection};
+ghost use Rattle.umh_select.specs.declared.route.Choice.{Choice};
 ghost use Rattle.tree_defs.specs.declared.flow.Flow.{Flow};
 ghost use Rattle.tree_defs.specs.declared.flow.Note.{Note};
 ghost use Rattle.tree_defs.specs.Trees.{TreeData};
 ghost use Rattle.edge_defs.specs.Edge.{VrfFlow, VrfPattern, no_control};
 ghost use Rattle.edge_defs.specs.Originated.{is_iface_of};
 ghost use Rattle.edge_defs.specs.Place.{OwnVrf, vrfs_from};
-ghost use Rattle.tree_laws.specs.TreeOf.{edge_note, flow_in};
+ghost use Rattle.edge_defs.specs.Tunnels.{selections_of};
+ghost use Rattle.tree_laws.specs.TreeOf.{choice_of, edge_note, flow_in};
 ghost use Rattle.control_laws.specs.Control.{AreTrees, Kept, OwnTree, control_of, trees_of, upstream_by};
 ghost use Rattle.control_laws.specs.Customers.{Makes};
 ghost use Rattle.control_laws.specs.Start.{AreFirst};
@@ -30,8 +33,8 @@ pub fn nothing_is_kept_at_first()
         map (λ it. it.own) (trees_of kept) ≡ vrfs_from kept.home.me 0 kept.home.scenario.vrfs → Makes kept no_control }
 {}
 
-/// An entry or a note at an interface of a VRF of the edge is the one of the VRF's tree, and so is a flow of the VRF, with its upstream.
-/// At an interface of none of its VRFs there is none, and of another VRF there is no flow and no selection.
+/// An entry or a note at an interface of a VRF of the edge is the one of the VRF's tree, and so is a flow of the VRF, with its upstream,
+/// and a selection. At an interface of none of its VRFs there is none, and of another VRF there is no flow and no selection.
 pub fn trees_are_looked_up()
     ensures entries { (kept : Kept) (it : OwnTree) (at : IfaceEntry) → AreTrees kept → Among it (trees_of kept) →
         is_iface_of kept.home.scenario it.own.id at.iface ≡ true →
@@ -47,9 +50,12 @@ pub fn trees_are_looked_up()
         sets.contains (control_of kept).notes (edge_note note) ≡ false }
     ensures flows { (kept : Kept) (it : OwnTree) (flow : Flow) → AreTrees kept → Among it (trees_of kept) →
         maps.get (control_of kept).flows (flow_in it.own.id flow) ≡ option_map upstream_by (maps.get it.tree.vrf.flows flow) }
+    ensures choices { (choice : Choice) → choice_of (upstream_by choice) ≡ choice }
     ensures no_flow { (kept : Kept) (key : VrfFlow) → AreTrees kept →
         ((it : OwnTree) → Among it (trees_of kept) → (it.own.id.0 == key.vrf.0) ≡ false) →
         maps.get (control_of kept).flows key ≡ None }
+    ensures selections { (kept : Kept) (it : OwnTree) (selection : Selection) → AreTrees kept → Among it (trees_of kept) →
+        Among selection it.tree.root.selections ↔ Among selection (selections_of (control_of kept) it.own.id) }
     ensures no_selection { (kept : Kept) (key : VrfPattern) → AreTrees kept →
         ((it : OwnTree) → Among it (trees_of kept) → (it.own.id.0 == key.vrf.0) ≡ false) →
         maps.get (control_of kept).selections key ≡ None }

@@ -1,4 +1,4 @@
-use Rattle.control_laws.proofs.Parts.{entry_at, entry_nowhere, flow_at, flow_nowhere, note_at, note_nowhere, parts_of, selection_nowhere}
+use Rattle.control_laws.proofs.Parts.{choice_back, entry_at, entry_nowhere, flow_at, flow_nowhere, note_at, note_nowhere, parts_of, selection_nowhere, selections_among}
 use Rattle.control_laws.proofs.looked_up.trees_are_looked_up.Goals as goal
 
 pub returns-clause-entries : goal.returns-clause-entries
@@ -21,3 +21,9 @@ returns-clause-no_flow c = λ kept key trees h. flow_nowhere kept (parts_of kept
 
 pub returns-clause-no_selection : goal.returns-clause-no_selection
 returns-clause-no_selection c = λ kept key trees h. selection_nowhere kept (parts_of kept trees) key h
+
+pub returns-clause-choices : goal.returns-clause-choices
+returns-clause-choices c = choice_back
+
+pub returns-clause-selections : goal.returns-clause-selections
+returns-clause-selections c = λ kept it selection trees a. selections_among kept (parts_of kept trees) it a selection

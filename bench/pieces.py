@@ -7,7 +7,8 @@
 and over, in pieces of 1, 7 and 1,000 octets and whole, and takes the messages that wait behind each piece.
 
 `parts`: the program of bench/parts/ works the parts of a node over and over: shared buffers, the upstream choice among
-8,192 routes, changes of a table of 8,192 routes with a flush behind each, look-ups among 8,192 labels.
+8,192 routes, changes of a table of 8,192 routes with a flush behind each, look-ups among 8,192 labels, a label node that
+maps, withdraws and releases the labels of its trees, bindings that are kept and taken among 8,192.
 
 Both are built, with their proofs, in a copy of the crates, so that the repository itself has no program that only
 measures. Libraries that are built here already are taken along.
@@ -115,10 +116,10 @@ def streams():
 
 
 def parts():
-    files = {'src/main.rt': (PARTS / 'main.rt.txt').read_text()}
+    files = {f'src/{code.name.removesuffix(".txt")}': code.read_text() for code in sorted(PARTS.glob('*.rt.txt'))}
     for proof in sorted(PARTS.glob('*.antt.txt')):
-        function, kind = proof.name.removesuffix('.antt.txt').split('.')
-        files[f'proofs/{function}/{kind}.antt'] = proof.read_text()
+        place = proof.name.removesuffix('.antt.txt').replace('.', '/')
+        files[f'{place}.antt' if place.startswith('specs/') else f'proofs/{place}.antt'] = proof.read_text()
     printed = output((PARTS / 'depends.txt').read_text().strip(), files)
     rows = re.findall(r'^row (\w+) (\d+) (\d+) (\d+)$', printed, re.MULTILINE)
     if not rows:

@@ -1,2 +1,4 @@
 pub mod PlaceLemmas
 pub mod OctetLemmas
+pub mod RowLemmas
+pub mod EdgeLemmas

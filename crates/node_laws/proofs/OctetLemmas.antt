@@ -42,7 +42,11 @@ if_some : (b : Bool) (octets : List ℕ) (other : Option (List ℕ)) → octets_
 if_some true octets other = refl
 if_some false octets other = refl
 
-waiting_then : (waiting : FinMap peer_cmp (List ℕ)) (session other : PeerSession) (octets : List ℕ)
+if_none : (b : Bool) (other : Option (List ℕ)) → octets_or (cond b None other) ≡ cond b [] (octets_or other)
+if_none true other = refl
+if_none false other = refl
+
+pub waiting_then : (waiting : FinMap peer_cmp (List ℕ)) (session other : PeerSession) (octets : List ℕ)
     → waiting_at (maps.insert waiting session octets) other ≡ cond (eq_by_cmp peer_cmp other session) octets (waiting_at waiting other)
 waiting_then waiting session other octets =
     ap octets_or (maps.get-insert peer_total waiting session octets other) ∙ if_some (eq_by_cmp peer_cmp other session) octets (maps.get waiting other)
@@ -51,6 +55,23 @@ own_then : (own : FinMap node_cmp (List ℕ)) (node other : NodeId) (octets : Li
     → waiting_for (maps.insert own node octets) other ≡ cond (eq_by_cmp node_cmp other node) octets (waiting_for own other)
 own_then own node other octets =
     ap octets_or (maps.get-insert node_cmp_total own node octets other) ∙ if_some (eq_by_cmp node_cmp other node) octets (maps.get own other)
+
+-- ---- a session that is lost
+
+pub waiting_less : (waiting : FinMap peer_cmp (List ℕ)) (session other : PeerSession)
+    → waiting_at (maps.remove waiting session) other ≡ cond (eq_by_cmp peer_cmp other session) [] (waiting_at waiting other)
+waiting_less waiting session other =
+    ap octets_or (maps.get-remove peer_total waiting session other) ∙ if_none (eq_by_cmp peer_cmp other session) (maps.get waiting other)
+
+own_less : (own : FinMap node_cmp (List ℕ)) (node other : NodeId)
+    → waiting_for (maps.remove own node) other ≡ cond (eq_by_cmp node_cmp other node) [] (waiting_for own other)
+own_less own node other =
+    ap octets_or (maps.get-remove node_cmp_total own node other) ∙ if_none (eq_by_cmp node_cmp other node) (maps.get own other)
+
+pub lost_waits : (waiting : FinMap peer_cmp (List ℕ)) (own : FinMap node_cmp (List ℕ)) (peer : NodeId) → AreLabelOctets waiting own
+    → AreLabelOctets (maps.remove waiting (label_session peer)) (maps.remove own peer)
+lost_waits waiting own peer same other =
+    waiting_less waiting (label_session peer) (label_session other) ∙ (λ i. cond (same_tie other peer i) [] (same other i)) ∙ sym (own_less own peer other)
 
 -- ---- messages one after another
 

@@ -3,4 +3,6 @@
 
 mod laws;
 
-pub use laws::{label_octets_wait, places_are_one};
+pub use laws::{
+    edges_have_label_nodes, label_octets_wait, places_are_one, row_octets_wait, rows_are_calls,
+};

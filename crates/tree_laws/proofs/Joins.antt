@@ -88,6 +88,11 @@ module _ {X Y : Type 0} (tell : X → Option Y) where
               before v (inl same) b = ap tell same ∙ e
               before v (inr a) b = f.earlier v a b
 
+-- the same is told where each of them tells the same
+pub told_alike : {X Y : Type 0} (tell other : X → Option Y) → ((x : X) → tell x ≡ other x) → (xs : List X) → first_told tell xs ≡ first_told other xs
+told_alike tell other h [] = refl
+told_alike tell other h (x ∷ xs) = λ i. elim (h x i) [ None ↦ told_alike tell other h xs i | Some y ↦ Some y ]
+
 -- ---- what a list of entries has first at a key
 
 module _ {K V : Type 0} (R : K → K → Ordering) (key : K) where
@@ -315,6 +320,14 @@ module _ (place : EdgePlace) (control : Control) (peer : NodeId) (rd : Rd) (sour
           ≡ only_if (b && (pointwise nat_eq own_rd.0 rd.0 && (own_as == source_as))) value
       by true = ap (λ (b : Bool). only_if b value) (key_ties (afi_of flow.source) rd own_rd source_as own_as flow)
       by false = refl
+
+  -- the join is that of the first VRF which has it for its upstream of the flow
+  pub joins_by_vrfs : AreOfVrfs place control → maps.get (held_for place control peer) key
+      ≡ first_told (λ own. upstream_of (option_map choice_of (maps.get control.flows (flow_in own.id flow))) >>? λ up. only_if (is_join_to peer rd source_as up) (join_value place up)) (own_vrfs place)
+  joins_by_vrfs of_vrfs =
+      held_told of_vrfs
+      ∙ told_alike vrf_tells (λ own. upstream_of (option_map choice_of (maps.get control.flows (flow_in own.id flow))) >>? λ up. only_if (is_join_to peer rd source_as up) (join_value place up))
+      (λ own. flow_tells own.id (maps.get control.flows (flow_in own.id flow))) (own_vrfs place)
 
   tree_tells : (own : OwnVrf) (tree : TreeData) → IsTreeOf place control own tree → vrf_tells own ≡ join_of place peer rd source_as flow tree
   tree_tells own tree is =

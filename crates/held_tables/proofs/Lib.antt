@@ -1,0 +1,5 @@
+pub mod HoldLemmas
+pub mod Witness
+pub mod JoinLemmas
+pub mod StartLemmas
+pub mod PrefixLemmas

@@ -1,0 +1,7 @@
+use Rattle.std.proofs.Common.{◌∙◌, sym}
+use Rattle.held_laws.proofs.Calls.{unnoted_beside}
+use Rattle.held_tables.proofs.laws.another_note_holds.Goals as goal
+
+pub returns : goal.returns
+returns c = λ place control own iface source group tables rules a of beside hold peer table at.
+    hold peer table at ∙ sym (unnoted_beside place rules peer control own a iface source group of beside)

@@ -1,0 +1,12 @@
+pub mod PeerTurns
+pub mod PeerKinds
+pub mod PeerSound
+pub mod PeerCalls
+pub mod PeerTaken
+pub mod PeerAnnounced
+pub mod CountLemmas
+pub mod SoundLemmas
+pub mod PlaceLemmas
+pub mod CallLemmas
+pub mod SelectLemmas
+pub mod StartLemmas

@@ -1,0 +1,34 @@
+-- What is kept, with what its flows want by the routes of now.
+use Rattle.std.proofs.Common.{◌≡◌, refl, sym, subst}
+use Rattle.std.proofs.lemmas.List.{length-map}
+use Rattle.mv_base.specs.Lists.{Among}
+use Rattle.calm_laws.proofs.Lists.{among_map}
+use Rattle.control_laws.specs.Control.{Kept, OwnTree, control_of, trees_of, with_trees}
+use Rattle.control_laws.specs.Peers.{as_wanted}
+use Rattle.control_laws.specs.Between.{AreTreesBetween}
+use Rattle.control_laws.proofs.Between.{between_together}
+use Rattle.control_laws.proofs.Owned.{with}
+use Rattle.control_laws.proofs.Parts.{AreFull, AreParts, full_of, parts_of}
+use Rattle.control_laws.proofs.Replaced.{same_control, still_full, all_its, all_entries_stay, all_notes_stay, all_selections_stay, all_flows_stay}
+use Rattle.edge_control.specs.Sound.{IsSound}
+
+-- the edge keeps the same with it
+pub wanted_control : (kept : Kept) → control_of (with_trees as_wanted kept) ≡ control_of kept
+wanted_control kept =
+    same_control _ _ (all_entries_stay kept as_wanted (λ tree. refl)) (all_notes_stay kept as_wanted (λ tree. refl)) (all_selections_stay kept as_wanted (λ tree. refl))
+    (all_flows_stay kept as_wanted (λ tree. refl)) refl
+
+wanted_parts : (kept : Kept) → AreParts (with_trees as_wanted kept) → AreParts kept
+wanted_parts kept parts it a =
+    let as_it : OwnTree → OwnTree = λ other. with other (as_wanted other.tree) in
+    let part = parts (as_it it) (subst (Among (as_it it)) (sym (all_its kept as_wanted)) (among_map as_it it (trees_of kept) a)) in
+    record { entries = part.entries; notes = part.notes; selections = part.selections; derived = part.derived }
+
+pub sound_full : (kept : Kept) → IsSound kept → AreFull kept
+sound_full kept sound = still_full (with_trees as_wanted kept) kept.trees (full_of (with_trees as_wanted kept) sound.trees) (sym (length-map kept.trees as_wanted))
+
+pub sound_parts : (kept : Kept) → IsSound kept → AreParts kept
+sound_parts kept sound = wanted_parts kept (parts_of (with_trees as_wanted kept) sound.trees)
+
+pub sound_between : (kept : Kept) → IsSound kept → AreTreesBetween kept
+sound_between kept sound = between_together kept (sound_full kept sound) (sound_parts kept sound)

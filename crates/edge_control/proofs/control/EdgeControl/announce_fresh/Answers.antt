@@ -1,0 +1,57 @@
+use Rattle.std.proofs.Common.{◌≡◌, None, sym, ap, subst, ◌∙◌}
+use Rattle.std.specs.FinMap.{FinMap}
+use Rattle.bgp_attributes.specs.declared.update.Change.TheVariants.{Unreach}
+use Rattle.label_defs.specs.Keys.{node_cmp}
+use Rattle.edge_defs.specs.Edge.{Taken}
+use Rattle.edge_defs.specs.Steps.{taken_change}
+use Rattle.taken_tables.specs.Routes.{handed}
+use Rattle.taken_tables.specs.Tables.{changed_at, reach, route_at}
+use Rattle.control_laws.specs.Control.{Kept, control_of}
+use Rattle.edge_control.specs.Sound.{IsSound, kept_of}
+use Rattle.edge_control.specs.Places.{vrfs_of}
+use Rattle.edge_control.specs.Taking.{coming, dropping, turned_all}
+use Rattle.edge_control.proofs.PeerSound.{as_many}
+use Rattle.edge_control.proofs.PeerAnnounced.{came, table_back, went}
+use Rattle.edge_control.proofs.control.EdgeControl.announce_fresh.Goals as goal
+
+pub invariant_of-self-in-Ok-learn_said : goal.invariant_of-self-in-Ok-learn_said
+invariant_of-self-in-Ok-learn_said c =
+    let kept : Kept = kept_of c.self.inside.home c.self.inside.trees.items c.self.inside.taken in
+    let none : route_at kept.peers c.args.peer c.args.key.now ≡ None = ap (λ (k : Kept). route_at k.peers c.args.peer c.args.key.now) c.self.view_is ∙ c.requires.fresh in
+    subst (λ (tables : FinMap node_cmp Taken). IsSound (kept_of c.self.inside.home c.learn_said.new.trees.items tables)) (sym c.in-Ok.ensures.learned)
+    (came kept c.self.invariant c.args.peer c.args.key.now c.spelled.ensures (handed c.args.value) c.args.now c.learn_said.new.trees.items none (as_many kept c.self.invariant)
+    (λ core. c.in-Ok-learn_said.ensures.learned core
+    ∙ ap (λ (tables : FinMap node_cmp Taken). turned_all (coming kept.home core c.args.peer c.args.now c.args.key.now (route_at tables c.args.peer c.args.key.now)) (vrfs_of kept.home) kept.trees) c.in-Ok.ensures.learned)).0
+
+pub invariant_of-self-in-Err-learn_said : goal.invariant_of-self-in-Err-learn_said
+invariant_of-self-in-Err-learn_said c =
+    let kept : Kept = kept_of c.self.inside.home c.self.inside.trees.items c.self.inside.taken in
+    let none : route_at kept.peers c.args.peer c.args.key.now ≡ None = ap (λ (k : Kept). route_at k.peers c.args.peer c.args.key.now) c.self.view_is ∙ c.requires.fresh in
+    subst (λ (tables : FinMap node_cmp Taken). IsSound (kept_of c.self.inside.home c.learn_said.new.trees.items tables))
+    (sym (c.forget.ensures c.args.now ∙ ap (changed_at c.args.peer (λ taken. taken_change c.args.now taken (Unreach c.args.key.now))) c.in-Ok.ensures.learned
+    ∙ table_back kept.peers c.args.peer c.args.key.now (handed c.args.value) c.args.now none))
+    (went kept c.self.invariant c.args.peer c.args.key.now c.spelled.ensures (handed c.args.value) c.args.now c.learn_said.new.trees.items none (as_many kept c.self.invariant)
+    (λ core. c.in-Err-learn_said.ensures.forgot core
+    ∙ ap (λ (tables : FinMap node_cmp Taken). turned_all (dropping kept.home core c.args.peer c.args.now c.args.key.now (route_at tables c.args.peer c.args.key.now)) (vrfs_of kept.home) kept.trees) c.in-Ok.ensures.learned)).0
+
+pub returns-in-Ok-learn_said-clause-announced : goal.returns-in-Ok-learn_said-clause-announced
+returns-in-Ok-learn_said-clause-announced c =
+    let kept : Kept = kept_of c.self.inside.home c.self.inside.trees.items c.self.inside.taken in
+    let none : route_at kept.peers c.args.peer c.args.key.now ≡ None = ap (λ (k : Kept). route_at k.peers c.args.peer c.args.key.now) c.self.view_is ∙ c.requires.fresh in
+    ap (λ (tables : FinMap node_cmp Taken). control_of (kept_of c.self.inside.home c.learn_said.new.trees.items tables)) c.in-Ok.ensures.learned
+    ∙ (came kept c.self.invariant c.args.peer c.args.key.now c.spelled.ensures (handed c.args.value) c.args.now c.learn_said.new.trees.items none (as_many kept c.self.invariant)
+    (λ core. c.in-Ok-learn_said.ensures.learned core
+    ∙ ap (λ (tables : FinMap node_cmp Taken). turned_all (coming kept.home core c.args.peer c.args.now c.args.key.now (route_at tables c.args.peer c.args.key.now)) (vrfs_of kept.home) kept.trees) c.in-Ok.ensures.learned)).1
+    ∙ ap (λ (k : Kept). record (control_of k) { peers = changed_at c.args.peer (λ taken. taken_change c.args.now taken (reach c.args.key.now (handed c.args.value))) k.peers }) c.self.view_is
+
+pub returns-in-Err-learn_said-clause-unchanged : goal.returns-in-Err-learn_said-clause-unchanged
+returns-in-Err-learn_said-clause-unchanged c =
+    let kept : Kept = kept_of c.self.inside.home c.self.inside.trees.items c.self.inside.taken in
+    let none : route_at kept.peers c.args.peer c.args.key.now ≡ None = ap (λ (k : Kept). route_at k.peers c.args.peer c.args.key.now) c.self.view_is ∙ c.requires.fresh in
+    ap (λ (tables : FinMap node_cmp Taken). control_of (kept_of c.self.inside.home c.learn_said.new.trees.items tables))
+    (c.forget.ensures c.args.now ∙ ap (changed_at c.args.peer (λ taken. taken_change c.args.now taken (Unreach c.args.key.now))) c.in-Ok.ensures.learned
+    ∙ table_back kept.peers c.args.peer c.args.key.now (handed c.args.value) c.args.now none)
+    ∙ (went kept c.self.invariant c.args.peer c.args.key.now c.spelled.ensures (handed c.args.value) c.args.now c.learn_said.new.trees.items none (as_many kept c.self.invariant)
+    (λ core. c.in-Err-learn_said.ensures.forgot core
+    ∙ ap (λ (tables : FinMap node_cmp Taken). turned_all (dropping kept.home core c.args.peer c.args.now c.args.key.now (route_at tables c.args.peer c.args.key.now)) (vrfs_of kept.home) kept.trees) c.in-Ok.ensures.learned)).1
+    ∙ ap control_of c.self.view_is

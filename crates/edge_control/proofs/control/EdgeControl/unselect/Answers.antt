@@ -1,0 +1,23 @@
+use Rattle.std.proofs.Common.{List, sym, ap, subst, ◌∙◌}
+use Rattle.tree_defs.specs.Trees.{TreeData}
+use Rattle.edge_defs.specs.Steps.{Unselect, effect}
+use Rattle.edge_home.specs.Home.{place_of}
+use Rattle.control_laws.specs.Control.{Kept, control_of}
+use Rattle.control_laws.proofs.Parts.{no_core}
+use Rattle.edge_control.specs.Sound.{IsSound, kept_of}
+use Rattle.edge_control.proofs.SelectLemmas.{unselected_made}
+use Rattle.edge_control.proofs.control.EdgeControl.unselect.Goals as goal
+
+pub invariant_of-self : goal.invariant_of-self
+invariant_of-self c =
+    let kept : Kept = kept_of c.self.inside.home c.self.inside.trees.items c.self.inside.taken in
+    subst (λ (trees : List TreeData). IsSound (record kept { trees = trees })) (sym c.unselect_at.ensures)
+    (unselected_made kept c.self.invariant c.place_of_vrf-place.result c.args.vrf c.place_of_vrf-place.ensures c.args.pattern 0 no_core).sound
+
+pub returns-clause-unselected : goal.returns-clause-unselected
+returns-clause-unselected c =
+    let kept : Kept = kept_of c.self.inside.home c.self.inside.trees.items c.self.inside.taken in
+    λ core now.
+    ap (λ (trees : List TreeData). control_of (record kept { trees = trees })) c.unselect_at.ensures
+    ∙ (unselected_made kept c.self.invariant c.place_of_vrf-place.result c.args.vrf c.place_of_vrf-place.ensures c.args.pattern now core).is
+    ∙ ap (λ (k : Kept). effect (place_of k.home core) now (control_of k) (Unselect c.args.vrf c.args.pattern)) c.self.view_is

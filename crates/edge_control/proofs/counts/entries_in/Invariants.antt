@@ -1,0 +1,9 @@
+use Rattle.std.specs.Prelude.{sum_by}
+use Rattle.std.proofs.Common.{◌≡◌, min, take}
+use Rattle.std.specs.FinMap as maps
+use Rattle.tree_defs.specs.Trees.{TreeData}
+use Rattle.edge_control.proofs.CountLemmas.{most}
+use Rattle.edge_control.proofs.counts.entries_in.Given as goal
+
+abbrev pub invariant-loop-tree : goal.invariant-loop-tree
+invariant-loop-tree l = l.count ≡ min (sum_by (λ (tree : TreeData). maps.len tree.vrf.entries) (take l.tree-index l.fn.trees)) most

@@ -1,0 +1,9 @@
+use Rattle.std.specs.Prelude.{sum_by}
+use Rattle.std.proofs.Common.{◌≡◌, min, take}
+use Rattle.std.specs.FinSet as sets
+use Rattle.tree_defs.specs.Trees.{TreeData}
+use Rattle.edge_control.proofs.CountLemmas.{most}
+use Rattle.edge_control.proofs.counts.notes_in.Given as goal
+
+abbrev pub invariant-loop-tree : goal.invariant-loop-tree
+invariant-loop-tree l = l.count ≡ min (sum_by (λ (tree : TreeData). sets.len tree.vrf.notes) (take l.tree-index l.fn.trees)) most

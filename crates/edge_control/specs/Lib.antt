@@ -1,0 +1,4 @@
+pub mod Sound
+pub mod Taking
+pub mod Places
+pub mod Start

@@ -1,0 +1,148 @@
+//! The calls of customers.
+ghost use Rattle.std.specs.Prelude.{◌≡◌, ◌&&◌, ℕ, ◌<◌, ◌^◌, true, false, not, nat_le, Err, IfOk, OnOk, OnErr};
+ghost use Rattle.core_walks.specs.Core.{Core};
+ghost use Rattle.pim_defs.specs.Entries.{applied, are_too_many};
+ghost use Rattle.edge_defs.specs.Originated.{is_iface_of};
+ghost use Rattle.edge_defs.specs.Steps.{Active, Idle, Pim, effect};
+ghost use Rattle.edge_home.specs.Home.{place_of};
+ghost use Rattle.control_laws.specs.Control.{control_of};
+ghost use Rattle.edge_control.specs.Places.{IsPlace, is_note_too_many, is_own_iface, note_limit};
+ghost use Rattle.edge_control.specs.declared.fault.ControlFault.TheVariants as ControlFault;
+
+use crate::control::EdgeControl;
+use crate::counts::{entries_in, is_over, notes_in};
+use crate::fault::ControlFault;
+use crate::places::place_of_iface;
+use crate::trees::{note_at, take_at, unnote_at};
+use mv_base::{Addr, IfaceId, NoMemory};
+use pim_joinprune::JoinPrune;
+
+/// The most notes of an edge.
+const NOTE_LIMIT: u32 = 256;
+
+/// Whether a note that may be there already is one more than an edge holds.
+fn is_one_too_many(noted: bool, count: u32) -> bool
+    ensures { result ≡ (not noted && nat_le note_limit count) }
+{
+    !noted && NOTE_LIMIT <= count
+}
+
+impl EdgeControl {
+    /// Whether the entries would be too many behind the message, which the tree at that place takes.
+    fn is_over_behind(
+        &self,
+        place: usize,
+        iface: IfaceId,
+        message: &JoinPrune,
+        now: u64,
+    ) -> Result<bool, NoMemory>
+        requires place { IsPlace self.now.home place (λ own. is_iface_of self.now.home.scenario own.id iface) }
+        requires now { now < 2 ^ 63 }
+        ensures { IfOk result (λ over. over ≡ are_too_many (applied (control_of self.now).entries iface message.now now)) }
+    {
+        let behind = self.trees[place].pim_entries_after(self.alloc, iface, message, now)?;
+        let own = self.trees[place].pim_entries();
+        Ok(is_over(entries_in(&self.trees), own, behind))
+    }
+
+    /// The tree at that place takes the message, behind which the entries are not too many.
+    fn take_fitting(
+        &mut self,
+        place: usize,
+        iface: IfaceId,
+        message: &JoinPrune,
+        now: u64,
+    ) -> Result<(), ControlFault>
+        requires place { IsPlace self.old.home place (λ own. is_iface_of self.old.home.scenario own.id iface) }
+        requires now { now < 2 ^ 63 }
+        requires fits { are_too_many (applied (control_of self.old).entries iface message.now now) ≡ false }
+        ensures taken { (core : Core) → OnOk result (control_of self.new
+            ≡ effect (place_of self.old.home core) now (control_of self.old) (Pim iface message.now)) }
+        ensures home { self.new.home ≡ self.old.home }
+        ensures memory { OnErr result (result ≡ Err ControlFault.NoMemory) }
+        ensures unchanged { OnErr result (self.new ≡ self.old) }
+    {
+        take_at(&mut self.trees, place, iface, message, now)
+    }
+
+    /// Takes a Join/Prune message at the interface, which is one of a VRF of the edge (RFC 7761 section 4.5).
+    pub fn take_pim(
+        &mut self,
+        iface: IfaceId,
+        message: &JoinPrune,
+        now: u64,
+    ) -> Result<(), ControlFault>
+        requires own { is_own_iface self.old.home iface ≡ true }
+        requires now { now < 2 ^ 63 }
+        ensures taken { (core : Core) → OnOk result (control_of self.new
+            ≡ effect (place_of self.old.home core) now (control_of self.old) (Pim iface message.now)) }
+        ensures home { self.new.home ≡ self.old.home }
+        ensures fits { OnOk result (are_too_many (applied (control_of self.old).entries iface message.now now) ≡ false) }
+        ensures full { result ≡ Err ControlFault.Full →
+            are_too_many (applied (control_of self.old).entries iface message.now now) ≡ true }
+        ensures unchanged { OnErr result (self.new ≡ self.old) }
+    {
+        let place = place_of_iface(&self.home, iface);
+        match self.is_over_behind(place, iface, message, now) {
+            Err(NoMemory) => Err(ControlFault::NoMemory),
+            Ok(true) => Err(ControlFault::Full),
+            Ok(false) => self.take_fitting(place, iface, message, now),
+        }
+    }
+
+    /// Whether a note would be too many, in the tree at that place.
+    fn is_over_noted(&self, place: usize, iface: IfaceId, source: Addr, group: Addr) -> bool
+        requires place { IsPlace self.now.home place (λ own. is_iface_of self.now.home.scenario own.id iface) }
+        ensures { result ≡ is_note_too_many (control_of self.now) iface source group }
+    {
+        let noted = self.trees[place].noted(iface, source, group);
+        let count = notes_in(&self.trees);
+        is_one_too_many(noted, count)
+    }
+
+    /// The tree at that place notes the source.
+    fn note_fitting(
+        &mut self,
+        place: usize,
+        iface: IfaceId,
+        source: Addr,
+        group: Addr,
+    ) -> Result<(), ControlFault>
+        requires place { IsPlace self.old.home place (λ own. is_iface_of self.old.home.scenario own.id iface) }
+        ensures noted { (core : Core) (now : ℕ) → OnOk result (control_of self.new
+            ≡ effect (place_of self.old.home core) now (control_of self.old) (Active iface source group)) }
+        ensures home { self.new.home ≡ self.old.home }
+        ensures memory { OnErr result (result ≡ Err ControlFault.NoMemory) }
+        ensures unchanged { OnErr result (self.new ≡ self.old) }
+    {
+        note_at(&mut self.trees, place, iface, source, group)
+    }
+
+    /// Notes at the interface, which is one of a VRF of the edge, that the source sends to the group.
+    pub fn note(&mut self, iface: IfaceId, source: Addr, group: Addr) -> Result<(), ControlFault>
+        requires own { is_own_iface self.old.home iface ≡ true }
+        ensures noted { (core : Core) (now : ℕ) → OnOk result (control_of self.new
+            ≡ effect (place_of self.old.home core) now (control_of self.old) (Active iface source group)) }
+        ensures home { self.new.home ≡ self.old.home }
+        ensures fits { OnOk result (is_note_too_many (control_of self.old) iface source group ≡ false) }
+        ensures full { result ≡ Err ControlFault.Full → is_note_too_many (control_of self.old) iface source group ≡ true }
+        ensures unchanged { OnErr result (self.new ≡ self.old) }
+    {
+        let place = place_of_iface(&self.home, iface);
+        if self.is_over_noted(place, iface, source, group) {
+            return Err(ControlFault::Full);
+        }
+        self.note_fitting(place, iface, source, group)
+    }
+
+    /// The note is there no more. It takes no memory.
+    pub fn unnote(&mut self, iface: IfaceId, source: Addr, group: Addr)
+        requires own { is_own_iface self.old.home iface ≡ true }
+        ensures unnoted { (core : Core) (now : ℕ) → control_of self.new
+            ≡ effect (place_of self.old.home core) now (control_of self.old) (Idle iface source group) }
+        ensures home { self.new.home ≡ self.old.home }
+    {
+        let place = place_of_iface(&self.home, iface);
+        unnote_at(&mut self.trees, place, iface, source, group);
+    }
+}

@@ -1,0 +1,56 @@
+//! Which of the edge's VRFs an interface or a number names.
+ghost use Rattle.std.specs.Prelude.{◌≡◌, ◌==◌, true, position};
+ghost use Rattle.edge_defs.specs.Originated.{is_iface_of};
+ghost use Rattle.edge_defs.specs.Place as places;
+ghost use Rattle.edge_control.specs.Places.{IsPlace, is_own_iface, is_own_vrf};
+
+use edge_home::{EdgeHome, OwnVrf};
+use mv_base::{IfaceId, VrfId};
+use scenario_defs::Scenario;
+
+/// Whether the interface is one of the VRF.
+fn is_iface_of(scenario: &Scenario, vrf: VrfId, iface: IfaceId) -> bool
+    ensures { result ≡ is_iface_of scenario.now vrf iface }
+{
+    match scenario.ifaces.as_slice().get(usize::from(iface.0)) {
+        None => false,
+        Some(found) => found.vrf.0 == vrf.0,
+    }
+}
+
+/// The place of the first of the VRFs that has the interface.
+fn position_of_iface(scenario: &Scenario, vrfs: &[OwnVrf], iface: IfaceId) -> Option<usize>
+    ensures { result ≡ position (λ own. is_iface_of scenario.now own.id iface) vrfs.now }
+{
+    vrfs.iter()
+        .position(|own| is_iface_of(scenario, own.id, iface))
+}
+
+/// The place of the first of the VRFs that has the number.
+fn position_of_vrf(vrfs: &[OwnVrf], vrf: VrfId) -> Option<usize>
+    ensures { result ≡ position (λ own. own.id.0 == vrf.0) vrfs.now }
+{
+    vrfs.iter().position(|own| own.id.0 == vrf.0)
+}
+
+/// The place of the VRF of the interface among those of the edge.
+pub(crate) fn place_of_iface(home: &EdgeHome, iface: IfaceId) -> usize
+    requires { is_own_iface home.now iface ≡ true }
+    ensures { IsPlace home.now result (λ own. is_iface_of home.now.scenario own.id iface) }
+{
+    match position_of_iface(home.scenario(), home.vrfs(), iface) {
+        Some(place) => place,
+        None => unreachable!(),
+    }
+}
+
+/// The place of the VRF of that number among those of the edge.
+pub(crate) fn place_of_vrf(home: &EdgeHome, vrf: VrfId) -> usize
+    requires { is_own_vrf home.now vrf ≡ true }
+    ensures { IsPlace home.now result (λ own. own.id.0 == vrf.0) }
+{
+    match position_of_vrf(home.vrfs(), vrf) {
+        Some(place) => place,
+        None => unreachable!(),
+    }
+}

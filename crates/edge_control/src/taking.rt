@@ -1,0 +1,171 @@
+//! Routes that peers withdraw and announce (RFC 4271 section 9.2).
+ghost use Rattle.std.specs.Prelude.{◌≡◌, ◌<◌, ℕ, None, true, length, is_some, OnOk, OnErr};
+ghost use Rattle.std.specs.FinMap as maps;
+ghost use Rattle.bgp_attributes.specs.declared.update.Change.TheVariants.{Unreach};
+ghost use Rattle.bgp_update.specs.Written.{IsWritableKey};
+ghost use Rattle.core_walks.specs.Core.{Core};
+ghost use Rattle.edge_defs.specs.Keys.{same_value};
+ghost use Rattle.edge_defs.specs.Place.{vrfs_from};
+ghost use Rattle.edge_defs.specs.Steps.{taken_change};
+ghost use Rattle.edge_routes.specs.Judged.{value_of};
+ghost use Rattle.taken_tables.specs.Routes.{handed};
+ghost use Rattle.taken_tables.specs.Tables.{changed_at, is_news, reach, route_at};
+ghost use Rattle.control_laws.specs.Control.{control_of};
+ghost use Rattle.edge_control.specs.Taking.{coming, dropping, turned_all};
+
+use crate::control::EdgeControl;
+use crate::each::{forget_in, learn_or_forget};
+use edge_home::EdgeHome;
+use edge_routes::TakenValue;
+use mv_base::{NoMemory, NodeId};
+use route_order::{TableKey, same_attribute, same_comms, same_hop};
+use taken_tables::{RouteValue, TakenTables};
+use vrf_trees::VrfTree;
+
+/// Whether both say the same.
+fn same_value(own: &TakenValue, other: &TakenValue) -> bool
+    ensures { result ≡ same_value (value_of own.now) (value_of other.now) }
+{
+    if !same_hop(own.next_hop, other.next_hop) {
+        return false;
+    }
+    if !same_comms(own.comms, other.comms) {
+        return false;
+    }
+    same_attribute(own.pmsi, other.pmsi)
+}
+
+/// Whether the value is another one than that of the route of the key that was taken from the peer.
+fn is_news(taken: &TakenTables, peer: NodeId, key: &TableKey, value: &RouteValue) -> bool
+    ensures { result ≡ is_news (handed value.now) (route_at taken.now peer key.now) }
+{
+    match taken.get(peer, key) {
+        None => true,
+        Some(entry) => !same_value(&entry.value(), &value.lent()),
+    }
+}
+
+/// The trees forget what they took of the route of the key that was taken from the peer, where there is one. It takes no memory.
+fn drop_in(
+    home: &EdgeHome,
+    trees: &mut Vec<VrfTree>,
+    taken: &TakenTables,
+    peer: NodeId,
+    key: &TableKey,
+)
+    requires each { length trees.old.items ≡ length (vrfs_from home.now.me 0 home.now.scenario.vrfs) }
+    requires known { is_some (maps.get taken.now peer) ≡ true → peer.0 < length home.now.scenario.nodes }
+    ensures { (core : Core) (now : ℕ) → trees.new.items ≡ turned_all
+        (dropping home.now core peer now key.now (route_at taken.now peer key.now))
+        (vrfs_from home.now.me 0 home.now.scenario.vrfs) trees.old.items }
+{
+    match taken.get(peer, key) {
+        None => {}
+        Some(entry) => {
+            let addr = home.addr_of(peer);
+            forget_in(home, trees, peer, addr, key.key(), Some(entry.value()));
+        }
+    }
+}
+
+/// Shows that the key has a spelling.
+fn spelled(key: &TableKey)
+    ensures { IsWritableKey key.now }
+{
+    let _key = key.key();
+}
+
+/// The trees take what their VRFs use of the route of the key, where the peer's table has one, and none stood there before. Where
+/// memory runs out, they forget it again.
+fn learn_said(
+    home: &EdgeHome,
+    trees: &mut Vec<VrfTree>,
+    taken: &TakenTables,
+    peer: NodeId,
+    key: &TableKey,
+    now: u64,
+) -> Result<(), NoMemory>
+    requires each { length trees.old.items ≡ length (vrfs_from home.now.me 0 home.now.scenario.vrfs) }
+    requires known { is_some (maps.get taken.now peer) ≡ true → peer.0 < length home.now.scenario.nodes }
+    ensures learned { OnOk result ((core : Core) → trees.new.items ≡ turned_all
+        (coming home.now core peer now key.now (route_at taken.now peer key.now))
+        (vrfs_from home.now.me 0 home.now.scenario.vrfs) trees.old.items) }
+    ensures forgot { OnErr result ((core : Core) → trees.new.items ≡ turned_all
+        (dropping home.now core peer now key.now (route_at taken.now peer key.now))
+        (vrfs_from home.now.me 0 home.now.scenario.vrfs) trees.old.items) }
+{
+    match taken.get(peer, key) {
+        None => Ok(()),
+        Some(entry) => {
+            let addr = home.addr_of(peer);
+            learn_or_forget(home, trees, peer, addr, key.key(), Some(entry.value()), now)
+        }
+    }
+}
+
+impl EdgeControl {
+    /// The peer withdraws the route of the key: it is forgotten. It takes no memory.
+    pub fn withdraw(&mut self, peer: NodeId, key: &TableKey)
+        ensures withdrawn { (now : ℕ) → control_of self.new ≡ record (control_of self.old) {
+          peers = changed_at peer (λ taken. taken_change now taken (Unreach key.now)) self.old.peers;
+        } }
+        ensures home { self.new.home ≡ self.old.home }
+    {
+        spelled(key);
+        drop_in(&self.home, &mut self.trees, &self.taken, peer, key);
+        self.taken.forget(peer, key);
+    }
+
+    /// The peer announces a route at a key at which none of its stands. Where memory runs out, none stands there.
+    fn announce_fresh(
+        &mut self,
+        peer: NodeId,
+        key: &TableKey,
+        value: RouteValue,
+        now: u64,
+    ) -> Result<(), NoMemory>
+        requires fresh { route_at self.old.peers peer key.now ≡ None }
+        ensures announced { OnOk result (control_of self.new ≡ record (control_of self.old) {
+          peers = changed_at peer (λ taken. taken_change now taken (reach key.now (handed value))) self.old.peers;
+        }) }
+        ensures unchanged { OnErr result (control_of self.new ≡ control_of self.old) }
+        ensures home { self.new.home ≡ self.old.home }
+    {
+        spelled(key);
+        match self.taken.learn(peer, *key, value, now) {
+            Err(fault) => Err(fault),
+            Ok(_) => match learn_said(&self.home, &mut self.trees, &self.taken, peer, key, now) {
+                Ok(()) => Ok(()),
+                Err(fault) => {
+                    self.taken.forget(peer, key);
+                    Err(fault)
+                }
+            },
+        }
+    }
+
+    /// The peer announces the route of the key with that value. An equal one changes nothing, and takes no memory. Where memory runs
+    /// out, the route of the key is withdrawn. A peer whose session is down changes nothing.
+    pub fn announce(
+        &mut self,
+        peer: NodeId,
+        key: &TableKey,
+        value: RouteValue,
+        now: u64,
+    ) -> Result<(), NoMemory>
+        ensures announced { OnOk result (control_of self.new ≡ record (control_of self.old) {
+          peers = changed_at peer (λ taken. taken_change now taken (reach key.now (handed value))) self.old.peers;
+        }) }
+        ensures withdrawn { OnErr result (control_of self.new ≡ record (control_of self.old) {
+          peers = changed_at peer (λ taken. taken_change now taken (Unreach key.now)) self.old.peers;
+        }) }
+        ensures news { OnErr result (is_news (handed value) (route_at self.old.peers peer key.now) ≡ true) }
+        ensures home { self.new.home ≡ self.old.home }
+    {
+        if !is_news(&self.taken, peer, key, &value) {
+            return Ok(());
+        }
+        self.withdraw(peer, key);
+        self.announce_fresh(peer, key, value, now)
+    }
+}

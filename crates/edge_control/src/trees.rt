@@ -1,0 +1,102 @@
+//! Changes of one of the trees.
+ghost use Rattle.std.specs.Prelude.{◌≡◌, ◌<◌, ◌^◌, false, Some, Err, length, slice_get, IfOk, OnOk, OnErr};
+ghost use Rattle.pim_defs.specs.Entries.{applied, are_too_many};
+ghost use Rattle.selective_defs.specs.Selective.{next_number};
+ghost use Rattle.selective.specs.Roots.{IsSelected, lsp_number};
+ghost use Rattle.tree_defs.specs.Trees.{TreeData};
+ghost use Rattle.control_laws.specs.Customers.{noted, pim_taken, selected, unnoted, unselected};
+ghost use Rattle.edge_control.specs.Places.{changed_at};
+ghost use Rattle.edge_control.specs.declared.fault.ControlFault.TheVariants as faults;
+
+use crate::fault::ControlFault;
+use mv_base::{Addr, IfaceId, Pattern};
+use pim_joinprune::JoinPrune;
+use pim_state::TakeFault;
+use vrf_trees::VrfTree;
+
+/// The tree takes the message.
+pub(crate) fn take_at(
+    trees: &mut Vec<VrfTree>,
+    place: usize,
+    iface: IfaceId,
+    message: &JoinPrune,
+    now: u64,
+) -> Result<(), ControlFault>
+    requires there { place < length trees.old.items }
+    requires now { now < 2 ^ 63 }
+    requires fits { (tree : TreeData) → slice_get trees.old.items place ≡ Some tree →
+        are_too_many (applied tree.vrf.entries iface message.now now) ≡ false }
+    ensures taken { OnOk result (trees.new.items ≡ changed_at place (pim_taken iface message.now now) trees.old.items) }
+    ensures memory { OnErr result (result ≡ Err faults.NoMemory) }
+    ensures unchanged { OnErr result (trees.new.items ≡ trees.old.items) }
+{
+    match trees[place].pim_take(iface, message, now) {
+        Ok(()) => Ok(()),
+        Err(TakeFault::NoMemory) => Err(ControlFault::NoMemory),
+        Err(TakeFault::Full) => unreachable!(),
+    }
+}
+
+/// The tree notes the source.
+pub(crate) fn note_at(
+    trees: &mut Vec<VrfTree>,
+    place: usize,
+    iface: IfaceId,
+    source: Addr,
+    group: Addr,
+) -> Result<(), ControlFault>
+    requires there { place < length trees.old.items }
+    ensures noted { OnOk result (trees.new.items ≡ changed_at place (noted iface source group) trees.old.items) }
+    ensures memory { OnErr result (result ≡ Err faults.NoMemory) }
+    ensures unchanged { OnErr result (trees.new.items ≡ trees.old.items) }
+{
+    match trees[place].note(iface, source, group) {
+        Ok(()) => Ok(()),
+        Err(_) => Err(ControlFault::NoMemory),
+    }
+}
+
+/// The tree ends the note.
+pub(crate) fn unnote_at(
+    trees: &mut Vec<VrfTree>,
+    place: usize,
+    iface: IfaceId,
+    source: Addr,
+    group: Addr,
+)
+    requires there { place < length trees.old.items }
+    ensures { trees.new.items ≡ changed_at place (unnoted iface source group) trees.old.items }
+{
+    trees[place].unnote(iface, source, group);
+}
+
+/// The tree selects the pattern, and tells the number of its tunnel.
+pub(crate) fn select_at(
+    trees: &mut Vec<VrfTree>,
+    place: usize,
+    pattern: Pattern,
+    now: u64,
+) -> Result<u32, ControlFault>
+    requires there { place < length trees.old.items }
+    requires new { (tree : TreeData) → slice_get trees.old.items place ≡ Some tree → ¬ (IsSelected pattern tree.root.selections) }
+    requires few { (tree : TreeData) → slice_get trees.old.items place ≡ Some tree → length tree.root.selections < 256 }
+    requires now { now < 2 ^ 63 }
+    ensures selected { OnOk result (trees.new.items ≡ changed_at place (selected pattern now) trees.old.items) }
+    ensures number { (tree : TreeData) → slice_get trees.old.items place ≡ Some tree →
+        IfOk result (λ lsp. lsp ≡ lsp_number tree.root.number (next_number tree.root.selections)) }
+    ensures memory { OnErr result (result ≡ Err faults.NoMemory) }
+    ensures unchanged { OnErr result (trees.new.items ≡ trees.old.items) }
+{
+    match trees[place].root_select(pattern, now) {
+        Ok(lsp) => Ok(lsp),
+        Err(_) => Err(ControlFault::NoMemory),
+    }
+}
+
+/// The tree ends the selection of the pattern.
+pub(crate) fn unselect_at(trees: &mut Vec<VrfTree>, place: usize, pattern: Pattern)
+    requires there { place < length trees.old.items }
+    ensures { trees.new.items ≡ changed_at place (unselected pattern) trees.old.items }
+{
+    trees[place].root_unselect(pattern);
+}

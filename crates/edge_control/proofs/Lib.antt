@@ -10,3 +10,4 @@ pub mod PlaceLemmas
 pub mod CallLemmas
 pub mod SelectLemmas
 pub mod StartLemmas
+pub mod TimerLemmas

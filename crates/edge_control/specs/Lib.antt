@@ -2,3 +2,4 @@ pub mod Sound
 pub mod Taking
 pub mod Places
 pub mod Start
+pub mod Timers

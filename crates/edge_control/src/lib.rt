@@ -2,6 +2,7 @@
 //! RFC 6514).
 #![tactic(auto)]
 
+mod clock;
 mod control;
 mod counts;
 mod customers;

@@ -4,10 +4,8 @@ ghost use Rattle.std.specs.FinMap as maps;
 ghost use Rattle.bgp_attributes.specs.declared.update.Change.TheVariants.{Unreach};
 ghost use Rattle.bgp_update.specs.Written.{IsWritableKey};
 ghost use Rattle.core_walks.specs.Core.{Core};
-ghost use Rattle.edge_defs.specs.Keys.{same_value};
 ghost use Rattle.edge_defs.specs.Place.{vrfs_from};
 ghost use Rattle.edge_defs.specs.Steps.{taken_change};
-ghost use Rattle.edge_routes.specs.Judged.{value_of};
 ghost use Rattle.taken_tables.specs.Routes.{handed};
 ghost use Rattle.taken_tables.specs.Tables.{changed_at, is_news, reach, route_at};
 ghost use Rattle.control_laws.specs.Control.{control_of};
@@ -16,24 +14,10 @@ ghost use Rattle.edge_control.specs.Taking.{coming, dropping, turned_all};
 use crate::control::EdgeControl;
 use crate::each::{forget_in, learn_or_forget};
 use edge_home::EdgeHome;
-use edge_routes::TakenValue;
 use mv_base::{NoMemory, NodeId};
-use route_order::{TableKey, same_attribute, same_comms, same_hop};
-use taken_tables::{RouteValue, TakenTables};
+use route_order::TableKey;
+use taken_tables::{RouteValue, TakenTables, same_value};
 use vrf_trees::VrfTree;
-
-/// Whether both say the same.
-fn same_value(own: &TakenValue, other: &TakenValue) -> bool
-    ensures { result ≡ same_value (value_of own.now) (value_of other.now) }
-{
-    if !same_hop(own.next_hop, other.next_hop) {
-        return false;
-    }
-    if !same_comms(own.comms, other.comms) {
-        return false;
-    }
-    same_attribute(own.pmsi, other.pmsi)
-}
 
 /// Whether the value is another one than that of the route of the key that was taken from the peer.
 fn is_news(taken: &TakenTables, peer: NodeId, key: &TableKey, value: &RouteValue) -> bool

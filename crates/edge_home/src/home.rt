@@ -90,7 +90,8 @@ impl EdgeHome {
 
     /// The VRFs of the edge, in order.
     pub fn vrfs(&self) -> &[OwnVrf]
-        ensures { AreOwn self.now result.now }
+        ensures vrfs { AreOwn self.now result.now }
+        ensures is { IsHome self.now.scenario self.now.me }
     {
         &self.vrfs
     }

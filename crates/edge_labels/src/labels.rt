@@ -1,16 +1,22 @@
 //! The label part of an edge.
-ghost use Rattle.std.specs.Prelude.{◌≡◌, ◌≤◌, ◌<◌, ◌^◌, not, false, length, is_some, All, None, Some, IfOk};
+ghost use Rattle.std.specs.Prelude.{◌≡◌, ◌≤◌, ◌<◌, ◌^◌, not, false, length, map, is_some, All, None, Some, IfOk};
 ghost use Rattle.std.specs.FinMap as maps;
+ghost use Rattle.std.specs.FinSet.{FinSet};
 ghost use Rattle.core_walks.specs.Core.{Core as Walks};
+ghost use Rattle.label_defs.specs.Keys.{fec_cmp};
 ghost use Rattle.label_defs.specs.LabelData.{due};
 ghost use Rattle.label_defs.specs.Node.{fresh_node, place_in, handed, handed_out};
 ghost use Rattle.mldp_node.specs.Standing.{IsPlace};
-ghost use Rattle.edge_labels.specs.Calls.{IsWantable, MayMake, AnswersAll, calls_of};
+ghost use Rattle.edge_defs.specs.Steps.{changed_leaves};
+ghost use Rattle.edge_labels.specs.Calls.{IsWantable, MayMake, AnswersAll, calls_of, leaf_call};
+ghost use Rattle.edge_labels.specs.Changes.{AreCandidates};
 
-use crate::changes::LeafChange;
+use crate::changes::{LeafChange, changes_in};
 use crate::own_call::OwnCall;
 use crate::row::make_all;
 use core_paths::Core;
+use label_trees::in_order;
+use mldp_fec::Fec;
 use mldp_node::{Addrs, LdpNode, NodeFault};
 use mv_base::{Bytes, NoMemory, NodeId};
 use std::alloc::Global;
@@ -67,6 +73,20 @@ impl EdgeLabels {
         ensures { result.now ≡ self.now }
     {
         &self.node
+    }
+
+    /// The trees of which the edge becomes or stops being a leaf, in their order: of the candidates, in any order, it is to be a leaf of
+    /// those that are listed.
+    pub fn leaf_changes(
+        &self,
+        candidates: Vec<Fec>,
+        leaves: &[Fec],
+    ) -> Result<Vec<LeafChange>, NoMemory>
+        ensures { (new : FinSet fec_cmp) → AreCandidates self.now.node.part.leaves new candidates.items leaves.now →
+            IfOk result (λ changes. map leaf_call changes.items ≡ changed_leaves self.now.node.part.leaves new) }
+    {
+        let fecs = in_order(candidates)?;
+        changes_in(self.alloc, self.node.fib(), &fecs, leaves)
     }
 
     /// The label steps of one step of the edge: that of the call itself, if it has one, and then one for each tree of which the edge

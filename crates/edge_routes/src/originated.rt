@@ -50,8 +50,8 @@ pub struct RemoteUpstream {
     pub source_as: u16,
 }
 
-/// The AFI of a flow's addresses.
-fn afi_of(addr: Addr) -> Afi
+/// The AFI of a flow's addresses (RFC 6514 section 4).
+pub fn afi_of(addr: Addr) -> Afi
     ensures { result ≡ afi_of addr }
 {
     match addr {

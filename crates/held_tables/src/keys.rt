@@ -12,9 +12,9 @@ ghost use Rattle.edge_defs.specs.Place.{EdgePlace};
 ghost use Rattle.edge_routes.specs.Local.{IsAt};
 
 use bgp_attributes::Key;
-use edge_routes::LocalVrf;
+use edge_routes::{LocalVrf, afi_of};
 use mv_base::{Addr, Pattern, Prefix, Rd};
-use mvpn_nlri::{Afi, Route};
+use mvpn_nlri::Route;
 use route_order::TableKey;
 
 /// The key of a Source Active A-D route.
@@ -50,16 +50,6 @@ pub(crate) fn selective_key(own: &LocalVrf, pattern: &Pattern) -> TableKey
     spelled(own.vrf().rd, pattern.source, pattern.group, own.addr(), key)
 }
 
-/// The AFI of a flow's addresses.
-fn family(addr: Addr) -> Afi
-    ensures { result ≡ afi_of addr }
-{
-    match addr {
-        Addr::V4(_) => Afi::Ipv4,
-        Addr::V6(_) => Afi::Ipv6,
-    }
-}
-
 /// The key of a Source Tree Join.
 pub(crate) fn join_key(rd: Rd, source_as: u16, source: Addr, group: Addr) -> TableKey
     requires { IsGroup (afi_of source) group }
@@ -71,7 +61,7 @@ pub(crate) fn join_key(rd: Rd, source_as: u16, source: Addr, group: Addr) -> Tab
         source,
         group,
     };
-    TableKey::of(Key::Mcast(family(source), route))
+    TableKey::of(Key::Mcast(afi_of(source), route))
 }
 
 /// The key of an Intra-AS I-PMSI A-D route of these parts, which have spellings.

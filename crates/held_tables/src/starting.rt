@@ -127,6 +127,5 @@ pub fn start(tables: &mut EdgeTables, alloc: Global, home: &EdgeHome) -> Result<
         EachPeer (HasFront (all_start_routes (place_of home.now core))) tables.old tables.new) }
     ensures told { AreToldAlike tables.old tables.new }
 {
-    let _scenario = home.scenario();
     hold_vrfs(tables, alloc, home, home.vrfs())
 }

@@ -147,6 +147,16 @@ impl Fib {
         }
     }
 
+    /// Whether the node is a leaf of the tree. It takes no memory.
+    pub fn is_leaf(&self, fec: &Fec) -> bool
+        ensures { result ≡ sets.contains self.now.leaves fec.now }
+    {
+        match self.slots.get(fec) {
+            Some(slot) => slot.entry.leaf,
+            None => false,
+        }
+    }
+
     /// The FECs of all entries, each once, in no order.
     pub fn trees(&self, alloc: Global) -> Result<Vec<Fec>, NoMemory>
         ensures { IfOk result (λ fecs. (fec : Fec) → list_any (λ own. same_fec own fec) fecs.items ≡ is_known self.now fec) }

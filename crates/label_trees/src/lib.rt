@@ -6,4 +6,5 @@ mod mapped;
 mod order;
 mod trees;
 
+pub use order::in_order;
 pub use trees::LabelTrees;

@@ -45,7 +45,7 @@ fn compare(own: &Fec, other: &Fec) -> Ordering
 }
 
 /// The trees in their order, each once.
-pub(crate) fn in_order(fecs: Vec<Fec>) -> Result<Vec<Fec>, NoMemory>
+pub fn in_order(fecs: Vec<Fec>) -> Result<Vec<Fec>, NoMemory>
     ensures { IfOk result (λ ordered. ordered.items ≡ in_order (sets.from_list {R = fec_cmp} fecs.items)) }
 {
     let mut fecs = fecs;

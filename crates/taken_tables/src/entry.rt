@@ -94,7 +94,7 @@ impl TakenEntry {
 }
 
 /// Whether both say the same.
-pub(crate) fn same_value(own: &TakenValue, other: &TakenValue) -> bool
+pub fn same_value(own: &TakenValue, other: &TakenValue) -> bool
     ensures { result ≡ same_value (value_of own.now) (value_of other.now) }
 {
     if !same_hop(own.next_hop, other.next_hop) {

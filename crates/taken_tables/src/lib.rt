@@ -8,6 +8,6 @@ mod running;
 mod slots;
 mod tables;
 
-pub use entry::{RouteValue, TakenEntry};
+pub use entry::{RouteValue, TakenEntry, same_value};
 pub use laws::{active_keys_are_one, changes_are_one, join_keys_are_one, selective_keys_are_one};
 pub use tables::{TableEntries, TakenTables};

@@ -19,7 +19,7 @@ use pim_state::TakeFault;
 use scenario_defs::IfaceList;
 use std::alloc::Global;
 use std::marker::Model;
-use tree_defs::{ActiveRoute, Flow, Note, Origin};
+use tree_defs::{ActiveRoute, Flow, Note, Origin, Upstream};
 use umh_select::Learned;
 
 /// What one VRF keeps: its interfaces, their joined and pruned entries, what tells that sources send, and the routes that it
@@ -257,6 +257,13 @@ impl VrfFlows {
         ensures once { IfOk result (λ changes. (IsUnique same_flow changes.joins) × (IsUnique same_flow changes.leaves)) }
     {
         self.state.refresh(now, me, core)
+    }
+
+    /// The edge that was joined for the source and group at the last refresh, with what its route says. It takes no memory.
+    pub fn upstream(&self, source: Addr, group: Addr) -> Option<Upstream>
+        ensures { result ≡ upstream_of (maps.get self.now.flows (flow_by_addrs source group)) }
+    {
+        self.state.upstream(&Flow { source, group })
     }
 
     /// Whether the VRF chooses for the source and group where a datagram comes from. It takes no memory.

@@ -146,7 +146,7 @@ fn gained(before: Option<Upstream>, after: Option<Upstream>) -> Option<Upstream>
 }
 
 /// The edge that was joined for a flow that is held.
-fn joined_before(flows: &FlowTable, flow: &Flow) -> Option<Upstream>
+pub(crate) fn joined_before(flows: &FlowTable, flow: &Flow) -> Option<Upstream>
     ensures { result ≡ joined_by (kept_of (get same_flow flows.now flow.now)) }
 {
     match flows.get(flow) {

@@ -18,7 +18,7 @@ ghost use Rattle.vrf_flows.specs.State.{IsSound, iface_in, no_vrf, compares_cost
 
 use crate::held::{Cause, FlowTable, Kept, hold, hold_entries, hold_message};
 use crate::marks::{mark, mark_between, mark_ended, mark_message};
-use crate::plan::{Joins, joins_of, leaves_of, plan, settle};
+use crate::plan::{Joins, joined_before, joins_of, leaves_of, plan, settle};
 use crate::sight::{Sight, asking_now};
 use core_paths::Core;
 use indexmap::{IndexMap, IndexSet};
@@ -27,7 +27,7 @@ use pim_joinprune::JoinPrune;
 use pim_state::{Downstream, TakeFault};
 use scenario_defs::IfaceList;
 use std::alloc::Global;
-use tree_defs::{ActiveRoute, Flow, Note, Origin, SiteIface};
+use tree_defs::{ActiveRoute, Flow, Note, Origin, SiteIface, Upstream};
 use umh_select::{Choice, Learned, Umh};
 
 /// What changed since the last refresh: the flows that are joined at another edge, and those that were and are left.
@@ -418,6 +418,14 @@ impl State {
         ensures { (cost : NodeId → ℕ) → AreCosts core.now me cost → result ≡ is_from from (chosen_for self.now.routes cost flow) }
     {
         is_from(from, self.routes.choose(flow.source, flow.group, me, core))
+    }
+
+    /// The edge that was joined for the flow at the last refresh.
+    pub(crate) fn upstream(&self, flow: &Flow) -> Option<Upstream>
+        requires sound { IsSound self.now }
+        ensures { result ≡ upstream_of (maps.get (vrf_of self.now).flows flow.now) }
+    {
+        joined_before(&self.flows, flow)
     }
 
     /// The interfaces that are kept for a flow, where it is as the last refresh left it, and that was at the clock.

@@ -35,7 +35,7 @@ use scenario_defs::IfaceList;
 use selective::{LeafTunnels, RootTunnels};
 use std::alloc::Global;
 use std::marker::Model;
-use tree_defs::{Flow, Origin, TakenJoin};
+use tree_defs::{Flow, Origin, TakenJoin, Upstream};
 use umh_select::Learned;
 use vrf_flows::VrfFlows;
 
@@ -481,6 +481,13 @@ impl VrfTree {
                 Err(fault)
             }
         }
+    }
+
+    /// The edge that was joined for the source and group at the last refresh, with what its route says. It takes no memory.
+    pub fn upstream(&self, source: Addr, group: Addr) -> Option<Upstream>
+        ensures { result ≡ upstream_of (maps.get self.now.vrf.flows (flow_by_addrs source group)) }
+    {
+        self.flows.upstream(source, group)
     }
 
     /// Whether a flow wanted the selective tunnel at the last refresh. It takes no memory.

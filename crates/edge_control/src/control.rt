@@ -4,6 +4,7 @@ ghost use Rattle.edge_defs.specs.Edge.{no_control};
 ghost use Rattle.edge_home.specs.Home.{IsHome, home_of};
 ghost use Rattle.control_laws.specs.Control.{control_of};
 ghost use Rattle.edge_control.specs.Places.{IsTreeAt, is_own_vrf};
+ghost use Rattle.edge_control.specs.Sound.{IsSound};
 
 use crate::places::place_of_vrf;
 use crate::starting::first_trees;
@@ -57,9 +58,24 @@ impl EdgeControl {
 
     /// What the edge knows of the network.
     pub fn home(&self) -> &EdgeHome
-        ensures { result.now ≡ self.now.home }
+        ensures home { result.now ≡ self.now.home }
+        ensures sound { IsSound self.now }
     {
         &self.home
+    }
+
+    /// The trees of the edge's VRFs, in their order.
+    pub fn trees(&self) -> &[VrfTree]
+        ensures { result.now ≡ self.now.trees }
+    {
+        &self.trees
+    }
+
+    /// The routes that were taken from peers.
+    pub fn taken(&self) -> &TakenTables
+        ensures { result.now ≡ self.now.peers }
+    {
+        &self.taken
     }
 
     /// What the VRF keeps.

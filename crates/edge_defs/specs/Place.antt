@@ -1,11 +1,12 @@
 -- The place of an edge: the scenario, the core, and which of the nodes it is.
-use Rattle.std.specs.Prelude.{ℕ, ◌+◌, ◌*◌, ◌==◌, ◌&&◌, Bool, true, false, nat_eq, List, [], ◌∷◌, length, take}
+use Rattle.std.specs.Prelude.{ℕ, ◌+◌, ◌*◌, ◌==◌, ◌&&◌, Bool, true, false, nat_eq, List, [], ◌∷◌, length, take, All}
 use Rattle.std.specs.Prelude.{slice_get, position, option_map, Option, None, Some, if◌then◌else◌}
 use Rattle.std.specs.Int.{w32, to_be_bytes}
 use Rattle.std.specs.List.{list_any}
 use Rattle.std.specs.Cmp.Lexicographic.{pointwise}
-use Rattle.mv_base.specs.Address.{same_addr}
+use Rattle.mv_base.specs.Address.{addr_octets, same_addr}
 use Rattle.mv_base.specs.Number.{◌>>?◌}
+use Rattle.mv_base.specs.Octets.{IsOctets}
 use Rattle.mv_base.specs.declared.addr.Addr.{Addr}
 use Rattle.mv_base.specs.declared.addr.Addr.TheVariants.{V4}
 use Rattle.mv_base.specs.declared.ids.NodeId.{NodeId}
@@ -53,6 +54,10 @@ own_vrfs place = vrfs_from place.me 0 place.scenario.vrfs
 
 abbrev pub own_addr : EdgePlace → Addr
 own_addr place = addr_of place.scenario place.me
+
+-- Each prefix of the scenario's sites is of octets, as it is in any program.
+abbrev pub HasPrefixes : Scenario → Type 0
+HasPrefixes scenario = All (λ site. All (λ prefix. IsOctets (addr_octets prefix.addr)) site.prefixes) scenario.sites
 
 -- ---- tunnels
 

@@ -1,7 +1,11 @@
 //! A scenario that is copied.
-ghost use Rattle.std.specs.Prelude.{◌≡◌, IfOk};
+ghost use Rattle.std.specs.Prelude.{◌≡◌, All, IfOk, OnOk};
+ghost use Rattle.mv_base.specs.Address.{addr_octets};
+ghost use Rattle.mv_base.specs.Octets.{IsOctets};
+ghost use Rattle.edge_defs.specs.Place.{HasPrefixes};
 
-use mv_base::{NoMemory, Seq};
+use mv_base::{NoMemory, Prefix, Seq};
+use route_order::are_octets;
 use scenario_defs::{Scenario, Site, Sites};
 use std::alloc::Global;
 
@@ -14,12 +18,23 @@ fn copied<T: Copy>(alloc: Global, list: &Seq<T>) -> Result<Seq<T>, NoMemory>
     Ok(Seq::from_vec(copy))
 }
 
+/// Shows that the prefixes are of octets.
+fn have_octets(prefixes: &[Prefix])
+    ensures { All (λ prefix. IsOctets (addr_octets prefix.addr)) prefixes.now }
+{
+    for prefix in prefixes {
+        are_octets(prefix.addr.octets());
+    }
+}
+
 /// A copy of the sites.
 fn copied_sites(alloc: Global, sites: &[Site]) -> Result<Sites, NoMemory>
-    ensures { IfOk result (λ copy. copy ≡ sites.now) }
+    ensures copy { IfOk result (λ copy. copy ≡ sites.now) }
+    ensures octets { OnOk result (All (λ site. All (λ prefix. IsOctets (addr_octets prefix.addr)) site.prefixes) sites.now) }
 {
     let mut copy = Seq::new(alloc);
     for site in sites {
+        have_octets(site.prefixes.as_slice());
         let prefixes = copied(alloc, &site.prefixes)?;
         copy.push(Site {
             name: site.name,
@@ -31,7 +46,8 @@ fn copied_sites(alloc: Global, sites: &[Site]) -> Result<Sites, NoMemory>
 
 /// A copy of the scenario.
 pub(crate) fn copied_scenario(alloc: Global, scenario: &Scenario) -> Result<Scenario, NoMemory>
-    ensures { IfOk result (λ copy. copy ≡ scenario.now) }
+    ensures copy { IfOk result (λ copy. copy ≡ scenario.now) }
+    ensures octets { OnOk result (HasPrefixes scenario.now) }
 {
     Ok(Scenario {
         life: scenario.life,

@@ -1,7 +1,7 @@
 //! What an edge knows of the network.
 ghost use Rattle.std.specs.Prelude.{◌≡◌, ◌<◌, ◌≤◌, ◌^◌, length, IfOk};
 ghost use Rattle.mv_base.specs.declared.addr.Addr.TheVariants.{V4};
-ghost use Rattle.edge_defs.specs.Place.{addr_of};
+ghost use Rattle.edge_defs.specs.Place.{HasPrefixes, addr_of};
 ghost use Rattle.edge_home.specs.Home.{AreOwn, IsHome, home_of, peers_from, peers_of};
 
 use crate::copying::copied_scenario;
@@ -20,6 +20,7 @@ pub struct EdgeHome {
 }
 
 impl Model for EdgeHome {
+    ghost use Rattle.edge_defs.specs.Place.{HasPrefixes};
     ghost use Rattle.edge_home.specs.Home.{Home, home_code, home_of, IsHome, AreOwn};
 
     ghost Value = { Home };
@@ -28,7 +29,7 @@ impl Model for EdgeHome {
 
     ghost view = { λ h. home_of h.scenario h.me };
 
-    ghost invariant = { λ h. IsHome h.scenario h.me × AreOwn (home_of h.scenario h.me) h.vrfs.items };
+    ghost invariant = { λ h. IsHome h.scenario h.me × (HasPrefixes h.scenario × AreOwn (home_of h.scenario h.me) h.vrfs.items) };
 }
 
 /// The octets of the IPv4 address of the edge.
@@ -77,6 +78,7 @@ impl EdgeHome {
     pub fn scenario(&self) -> &Scenario
         ensures scenario { result.now ≡ self.now.scenario }
         ensures is { IsHome self.now.scenario self.now.me }
+        ensures octets { HasPrefixes self.now.scenario }
     {
         &self.scenario
     }

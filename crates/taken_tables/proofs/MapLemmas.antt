@@ -17,7 +17,6 @@ use Rattle.mv_base.specs.declared.addr.Addr.TheVariants.{V4}
 use Rattle.mv_base.specs.declared.ids.NodeId.{NodeId}
 use Rattle.bgp_attributes.specs.declared.key.Key.{Key}
 use Rattle.bgp_attributes.specs.declared.update.Change.{Change}
-use Rattle.bgp_update.specs.Written.{IsWritableKey}
 use Rattle.scenario_defs.specs.declared.scenario.Node.{Node}
 use Rattle.scenario_defs.specs.declared.scenario.Vrf.{Vrf}
 use Rattle.label_defs.specs.Keys.{node_cmp}
@@ -30,7 +29,7 @@ use Rattle.edge_defs.proofs.KeyLemmas.{key_exact, key_total}
 use Rattle.edge_routes.specs.Local.{Local}
 use Rattle.taken_tables.specs.Running.{IsOf, imports, node_run, run_at, table_run}
 use Rattle.taken_tables.specs.Slots.{Rows, slot_of, taken_in, tables_of}
-use Rattle.taken_tables.specs.Tables.{AreSpelled, IsSpelled, Tables, changed_at, is_news, is_news_at}
+use Rattle.taken_tables.specs.Tables.{AreSpelled, IsSpelled, IsSpelledKey, Tables, changed_at, is_news, is_news_at}
 
 pub node_total : IsTotalOrder node_cmp
 node_total = on_total (λ (node : NodeId). node.0) nat_cmp_total
@@ -292,22 +291,22 @@ empty_spelled key h = no_key (sym (ap is_some (get-empty key_cmp key)) ∙ h)
 pub none_spelled : AreSpelled maps.empty
 none_spelled peer taken h = no_some taken (sym (get-empty node_cmp peer) ∙ h)
 
-pub route_spelled : (taken : Taken) (key : Key) (route : TakenRoute) → IsSpelled taken → IsWritableKey key → IsSpelled (insert taken key route)
+pub route_spelled : (taken : Taken) (key : Key) (route : TakenRoute) → IsSpelled taken → IsSpelledKey key → IsSpelled (insert taken key route)
 route_spelled taken key route old h q there = by (eq_by_cmp key_cmp q key) refl (sym (ap is_some (get-insert key_total taken key route q)) ∙ there)
   where
-    by : (b : Bool) → eq_by_cmp key_cmp q key ≡ b → is_some (cond b (Some route) (get taken q)) ≡ true → IsWritableKey q
-    by true e k = subst IsWritableKey (sym (one_key key_exact q key e)) h
+    by : (b : Bool) → eq_by_cmp key_cmp q key ≡ b → is_some (cond b (Some route) (get taken q)) ≡ true → IsSpelledKey q
+    by true e k = subst IsSpelledKey (sym (one_key key_exact q key e)) h
     by false e k = old q k
 
 pub learned_spelled : {E : Type 0} (r : Result Bool E) (there rows : Rows) (key : Key) (route : TakenRoute) → OnOk r (taken_in rows ≡ insert (taken_in there) key route) → OnErr r (rows ≡ there)
-    → IsWritableKey key → IsSpelled (taken_in there) → IsSpelled (taken_in rows)
+    → IsSpelledKey key → IsSpelled (taken_in there) → IsSpelled (taken_in rows)
 learned_spelled (Ok news) there rows key route ok err writable h = subst IsSpelled (sym ok) (route_spelled (taken_in there) key route h writable)
 learned_spelled (Err e) there rows key route ok err writable h = subst (λ (r : Rows). IsSpelled (taken_in r)) (sym err) h
 
 pub rest_spelled : (taken : Taken) (key : Key) → IsSpelled taken → IsSpelled (remove taken key)
 rest_spelled taken key old q there = by (eq_by_cmp key_cmp q key) (sym (ap is_some (get-remove key_total taken key q)) ∙ there)
   where
-    by : (b : Bool) → is_some (cond b None (get taken q)) ≡ true → IsWritableKey q
+    by : (b : Bool) → is_some (cond b None (get taken q)) ≡ true → IsSpelledKey q
     by true k = no_key k
     by false k = old q k
 

@@ -16,7 +16,7 @@ use Rattle.bgp_attributes.specs.declared.key.Key.{Key}
 use Rattle.bgp_attributes.specs.contracts.key.Key as keys
 use Rattle.bgp_attributes.specs.declared.update.Change.{Change}
 use Rattle.bgp_attributes.specs.declared.update.Change.TheVariants.{Reach}
-use Rattle.bgp_update.specs.Written.{IsWritableKey}
+use Rattle.bgp_update.specs.Written.{HasOctets, IsWritableKey}
 use Rattle.label_defs.specs.Keys.{node_cmp}
 use Rattle.edge_defs.specs.Edge.{Taken, TakenRoute}
 use Rattle.edge_defs.specs.Keys.{Value, same_value}
@@ -51,9 +51,13 @@ is_news_at tables peer key value = elim (maps.get tables peer) [ None ↦ false 
 
 -- ---- keys
 
--- each key has a spelling
+-- a key that has a spelling, and whose prefix is octets, as it is in any program
+abbrev pub IsSpelledKey : Key → Type 0
+IsSpelledKey key = IsWritableKey key × HasOctets key
+
+-- each key is such a one
 abbrev pub IsSpelled : Taken → Type 0
-IsSpelled taken = (key : Key) → maps.contains_key taken key ≡ true → IsWritableKey key
+IsSpelled taken = (key : Key) → maps.contains_key taken key ≡ true → IsSpelledKey key
 
 abbrev pub AreSpelled : Tables → Type 0
 AreSpelled tables = (peer : NodeId) (taken : Taken) → maps.get tables peer ≡ Some taken → IsSpelled taken

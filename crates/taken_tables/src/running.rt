@@ -1,19 +1,20 @@
 //! The table of one peer.
 ghost use Rattle.std.specs.Prelude.{◌≡◌, ◌+◌, ◌&&◌, true, not, nat_le, is_some, IfOk, OnOk, OnErr};
 ghost use Rattle.std.specs.FinMap as maps;
-ghost use Rattle.bgp_update.specs.Written.{IsWritableKey};
+ghost use Rattle.bgp_update.specs.Written.{HasOctets};
 ghost use Rattle.edge_defs.specs.Imported.{imported_selective};
 ghost use Rattle.edge_defs.specs.Steps.{taken_change};
 ghost use Rattle.taken_tables.specs.Routes.{handed};
 ghost use Rattle.taken_tables.specs.Running.{imports, node_run, run_at, table_run};
 ghost use Rattle.taken_tables.specs.Slots.{taken_in};
-ghost use Rattle.taken_tables.specs.Tables.{IsSpelled, is_news, reach};
+ghost use Rattle.taken_tables.specs.Tables.{IsSpelledKey, is_news, reach};
 
 use crate::entry::{RouteValue, TakenEntry, same_value};
+use bgp_attributes::Key;
 use edge_routes::{LocalVrf, imported_selective};
 use mv_base::{Addr, NoMemory, NodeId};
 use rib_sync::Inbox;
-use route_order::TableKey;
+use route_order::{TableKey, are_octets};
 use scenario_defs::Node;
 use table_defs::Change;
 
@@ -30,11 +31,21 @@ fn is_news(table: &TakenTable, key: &TableKey, value: &RouteValue) -> bool
     }
 }
 
-/// Shows that the key has a spelling.
-fn spelled(key: &TableKey)
-    ensures { IsWritableKey key.now }
+/// Shows that the prefix of a unicast route is octets.
+fn has_octets(key: &Key)
+    ensures { HasOctets key.now }
 {
-    let _key = key.key();
+    match key {
+        Key::Unicast { rd: _, prefix } => are_octets(prefix.addr.octets()),
+        Key::Mcast(_, _) => {}
+    }
+}
+
+/// Shows that the key has a spelling, and is of octets.
+fn spelled(key: &TableKey)
+    ensures { IsSpelledKey key.now }
+{
+    has_octets(key.key());
 }
 
 /// Takes the route at the clock, and tells whether it is another one than before. An equal one keeps its time.
@@ -47,7 +58,7 @@ pub(crate) fn learn(
 ) -> Result<bool, NoMemory>
     ensures learned { OnOk result (taken_in table.new ≡ taken_change now (taken_in table.old) (reach key (handed value))) }
     ensures news { IfOk result (λ news. news ≡ is_news (handed value) (maps.get (taken_in table.old) key)) }
-    ensures spelled { IsWritableKey key }
+    ensures spelled { IsSpelledKey key }
     ensures unchanged { OnErr result (table.new ≡ table.old) }
 {
     spelled(&key);

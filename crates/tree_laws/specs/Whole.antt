@@ -1,28 +1,22 @@
 -- Prefixes that are told by their first bits.
-use Rattle.std.specs.Prelude.{◌≡◌, true, List, All, Some}
+use Rattle.std.specs.Prelude.{◌≡◌, true, List, Some}
 use Rattle.std.specs.FinMap as maps
-use Rattle.mv_base.specs.Address.{addr_octets}
 use Rattle.mv_base.specs.Lists.{Among}
-use Rattle.mv_base.specs.Octets.{IsOctets}
 use Rattle.mv_base.specs.Prefix.{covers}
 use Rattle.mv_base.specs.declared.addr.Addr.{Addr}
 use Rattle.mv_base.specs.declared.ids.NodeId.{NodeId}
 use Rattle.bgp_attributes.specs.declared.key.Key.{Key}
 use Rattle.bgp_update.specs.Written.{HasOctets, IsWritableKey}
-use Rattle.scenario_defs.specs.declared.scenario.Scenario.{Scenario}
 use Rattle.choice_defs.specs.declared.known_route.KnownRoute.{KnownRoute}
 use Rattle.edge_defs.specs.Edge.{Control, TakenRoute}
 use Rattle.edge_defs.specs.Imported.{taken_from}
+pub use Rattle.edge_defs.specs.Place.{HasPrefixes}
 
 -- Prefixes of one length that cover one address are one, as they are where no bit is set behind the length.
 abbrev pub AreWhole : List KnownRoute → Type 0
 AreWhole routes = (route other : KnownRoute) (source : Addr) → Among route routes → Among other routes
     → route.prefix.bits ≡ other.prefix.bits → covers route.prefix source ≡ true → covers other.prefix source ≡ true
     → route.prefix ≡ other.prefix
-
--- Each prefix of the scenario's sites is of octets, as it is in any program.
-abbrev pub HasPrefixes : Scenario → Type 0
-HasPrefixes scenario = All (λ site. All (λ prefix. IsOctets (addr_octets prefix.addr)) site.prefixes) scenario.sites
 
 -- Each key under which a route was taken has a spelling, and is of octets.
 abbrev pub HaveSpellings : Control → Type 0

@@ -2,7 +2,9 @@
 #![tactic(auto)]
 
 mod key;
+mod octets;
 mod value;
 
 pub use key::TableKey;
+pub use octets::are_octets;
 pub use value::{COMM_LIMIT, TableValue, same_attribute, same_comms, same_hop};

@@ -13,7 +13,7 @@ pub use imported::{
 };
 pub use local::LocalVrf;
 pub use originated::{
-    Import, RemoteUpstream, active_key, afi_of, import_target, inclusive_key, join_route, own_import,
-    plain_value, selective_key, tunnel_value, unicast_key, unicast_value,
+    Import, RemoteUpstream, active_key, afi_of, import_target, inclusive_key, join_route,
+    own_import, plain_value, selective_key, tunnel_value, unicast_key, unicast_value,
 };
 pub use tunnel::{lsp, lsp_of, tunnel_by, tunnel_number};

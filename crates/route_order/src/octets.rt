@@ -4,5 +4,4 @@ ghost use Rattle.mv_base.specs.Octets.{IsOctets};
 /// Shows that these are octets. It does nothing.
 pub fn are_octets(octets: &[u8])
     ensures { IsOctets octets.now }
-{
-}
+{}

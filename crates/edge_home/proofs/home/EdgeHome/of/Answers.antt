@@ -10,7 +10,9 @@ invariant_of-result c =
     subst (λ scenario. IsHome scenario c.args.me) (sym c.in_ok-scenario.ensures.copy)
     (record { rules = c.requires.rules; edge = c.requires.edge }) in (
       is,
-      (subst HasPrefixes (sym c.in_ok-scenario.ensures.copy) c.in_ok-scenario.ensures.octets,
-      are_own c.in_ok-scenario.scenario c.args.me c.own_octets-addr.result c.in_ok-vrfs.vrfs.items c.own_octets-addr.ensures
-          (c.in_ok-vrfs.ensures ∙ ap (own_from c.own_octets-addr.result c.in_ok-scenario.scenario.system c.args.me 0) c.as_slice.ensures)),
+      (
+        subst HasPrefixes (sym c.in_ok-scenario.ensures.copy) c.in_ok-scenario.ensures.octets,
+        are_own c.in_ok-scenario.scenario c.args.me c.own_octets-addr.result c.in_ok-vrfs.vrfs.items c.own_octets-addr.ensures
+            (c.in_ok-vrfs.ensures ∙ ap (own_from c.own_octets-addr.result c.in_ok-scenario.scenario.system c.args.me 0) c.as_slice.ensures),
+      ),
     )

@@ -1,0 +1,4 @@
+pub mod CoreLemmas
+pub mod KeptLemmas
+pub mod ImportLemmas
+pub mod LeavingLemmas

@@ -3,7 +3,7 @@
 
 mod inclusive;
 mod timers;
-mod wants;
+mod wanted;
 
 pub use timers::due;
-pub use wants::{wanted_of, wants};
+pub use wanted::{wanted_of, wants};

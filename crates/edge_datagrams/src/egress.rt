@@ -8,7 +8,7 @@ ghost use Rattle.edge_home.specs.Home.{as_own, place_of};
 ghost use Rattle.control_laws.specs.Control.{control_of};
 ghost use Rattle.edge_control.specs.Places.{vrfs_of};
 
-use crate::imports::imports_at;
+use crate::imported::imports_at;
 use crate::nodes::{are_of_octets, root_of};
 use core_paths::Core;
 use edge_control::EdgeControl;

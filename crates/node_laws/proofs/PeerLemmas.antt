@@ -160,15 +160,23 @@ row_stays me addr place now (step ∷ more) waiting peer =
     ap (λ (w : FinMap peer_cmp (List ℕ)). waiting_at w (bgp_session peer)) (puts_again puts (flat_map (label_puts me addr place now) more) waiting)
     ∙ row_stays me addr place now more (with_puts puts waiting) peer ∙ others_stay me addr (step_puts place now step.old step.call step.new.puts) waiting peer
 
-pub step_waits : (place : EdgePlace) (now : ℕ) (call : Call) (old : EdgeState) (new : EdgeStepped) (peer : NodeId)
-    → old.spent ≡ None → edge_step place now old.edge call ≡ Some new → Among peer (edges place.scenario)
-    → waiting_at (called place now old call).waiting (bgp_session peer)
-    ≡ kept_for call peer (waiting_at old.waiting (bgp_session peer)) ++ update_octets (put_to place old.edge.control new.edge.control peer)
-step_waits place now call old new peer e h among =
-    let bgp : List Put = bgp_puts place old.edge.control new.edge.control in
-    let told : List Put = flat_map (label_puts place.me (addr_of place.scenario place.me) (label_place place.scenario place.core place.me) now) new.row in
-    ap (λ (x : EdgeState). waiting_at x.waiting (bgp_session peer)) (edge_after place now call old new e h)
-    ∙ ap (λ (w : FinMap peer_cmp (List ℕ)). waiting_at w (bgp_session peer)) (puts_again bgp told (prepared call old).waiting)
-    ∙ row_stays place.me (addr_of place.scenario place.me) (label_place place.scenario place.core place.me) now new.row (with_puts bgp (prepared call old).waiting) peer
-    ∙ peers_wait place old.edge.control new.edge.control (prepared call old).waiting peer among
-    ∙ ap (λ (l : List ℕ). l ++ update_octets (put_to place old.edge.control new.edge.control peer)) (kept call old peer)
+module _ (place : EdgePlace) (now : ℕ) (call : Call) (old : EdgeState) (new : EdgeStepped) (peer : NodeId) (e : old.spent ≡ None) (h : edge_step place now old.edge call ≡ Some new) where
+  -- what its label steps put does not wait for a BGP peer
+  bgp_alone : waiting_at (called place now old call).waiting (bgp_session peer) ≡ waiting_at (with_puts (bgp_puts place old.edge.control new.edge.control) (prepared call old).waiting) (bgp_session peer)
+  bgp_alone =
+      let bgp : List Put = bgp_puts place old.edge.control new.edge.control in
+      let told : List Put = flat_map (label_puts place.me (addr_of place.scenario place.me) (label_place place.scenario place.core place.me) now) new.row in
+      ap (λ (x : EdgeState). waiting_at x.waiting (bgp_session peer)) (edge_after place now call old new e h)
+      ∙ ap (λ (w : FinMap peer_cmp (List ℕ)). waiting_at w (bgp_session peer)) (puts_again bgp told (prepared call old).waiting)
+      ∙ row_stays place.me (addr_of place.scenario place.me) (label_place place.scenario place.core place.me) now new.row (with_puts bgp (prepared call old).waiting) peer
+
+  pub step_waits : Among peer (edges place.scenario)
+      → waiting_at (called place now old call).waiting (bgp_session peer)
+      ≡ kept_for call peer (waiting_at old.waiting (bgp_session peer)) ++ update_octets (put_to place old.edge.control new.edge.control peer)
+  step_waits among =
+      bgp_alone
+      ∙ peers_wait place old.edge.control new.edge.control (prepared call old).waiting peer among
+      ∙ ap (λ (l : List ℕ). l ++ update_octets (put_to place old.edge.control new.edge.control peer)) (kept call old peer)
+
+  pub step_leaves : (Among peer (edges place.scenario) → ⊥) → waiting_at (called place now old call).waiting (bgp_session peer) ≡ kept_for call peer (waiting_at old.waiting (bgp_session peer))
+  step_leaves none = bgp_alone ∙ others_wait place old.edge.control new.edge.control (prepared call old).waiting peer none ∙ kept call old peer

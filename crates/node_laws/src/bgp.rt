@@ -11,7 +11,8 @@ ghost use Rattle.edge_defs.specs.Held.{put_to};
 ghost use Rattle.edge_defs.specs.Place.{EdgePlace};
 ghost use Rattle.edge_defs.specs.Steps.{Call, EdgeStepped, edge_step};
 ghost use Rattle.mvpn_model.specs.Sessions.{edges};
-ghost use Rattle.node_defs.specs.EdgeState.{EdgeState, all_taken, call_of, called, handed, handed_out, prepared, stepped, waiting_at, with_puts};
+ghost use Rattle.node_defs.specs.EdgeState.{EdgeState, all_taken, call_of, called, handed, handed_out, prepared, stepped};
+ghost use Rattle.node_defs.specs.EdgeState.{waiting_at, with_puts};
 ghost use Rattle.node_defs.specs.Puts.{bgp_puts};
 ghost use Rattle.node_laws.specs.Places.{label_session};
 ghost use Rattle.node_laws.specs.Waits.{bgp_session, kept_for, update_octets};
@@ -30,13 +31,18 @@ pub fn bgp_octets_wait()
         waiting_at (with_puts (bgp_puts place old new) waiting) (label_session peer) ≡ waiting_at waiting (label_session peer) }
 {}
 
-/// Behind a step of an edge, what waits for a BGP peer is what the call leaves of it, and then the changes that the step puts to it.
+/// Behind a step of an edge, what waits for a BGP peer is what the call leaves of it, and then the UPDATE messages of the changes that
+/// the step puts to it (RFC 4271 section 4.3). For a node that is no edge, it is what the call leaves.
 pub fn peers_octets_wait()
     ensures peers { (place : EdgePlace) (now : ℕ) (call : Call) (old : EdgeState) (new : EdgeStepped) (peer : NodeId) →
         old.spent ≡ None → edge_step place now old.edge call ≡ Some new → Among peer (edges place.scenario) →
         waiting_at (called place now old call).waiting (bgp_session peer)
         ≡ kept_for call peer (waiting_at old.waiting (bgp_session peer))
         ++ update_octets (put_to place old.edge.control new.edge.control peer) }
+    ensures others { (place : EdgePlace) (now : ℕ) (call : Call) (old : EdgeState) (new : EdgeStepped) (peer : NodeId) →
+        old.spent ≡ None → edge_step place now old.edge call ≡ Some new → (Among peer (edges place.scenario) → ⊥) →
+        waiting_at (called place now old call).waiting (bgp_session peer)
+        ≡ kept_for call peer (waiting_at old.waiting (bgp_session peer)) }
 {}
 
 /// A call changes the streams of an edge only before its step, whether or not there is a step. An edge that is spent stays as it is.

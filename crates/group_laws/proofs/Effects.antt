@@ -1,5 +1,5 @@
 -- What a call itself changes leaves groups of the family of their source.
-use Rattle.std.proofs.Common.{◌≡◌, ◌⊎◌, ℕ, ◌==◌, ◌||◌, ◌&&◌, Bool, true, false, cond, not, inl, inr, Option, None, Some, refl, sym, ap, subst, ◌∙◌}
+use Rattle.std.proofs.Common.{◌≡◌, ◌⊎◌, ℕ, ◌==◌, Bool, true, false, cond, not, inl, inr, Option, None, Some, refl, sym, ap, subst, ◌∙◌}
 use Rattle.std.specs.Prelude.{is_some, fold}
 use Rattle.std.specs.Cmp.{Equal-is}
 use Rattle.std.specs.FinMap as maps
@@ -9,8 +9,6 @@ use Rattle.std.specs.Ordering.{eq_by_cmp}
 use Rattle.std.proofs.lemmas.Bool.{and_parts, or_cases}
 use Rattle.mv_base.specs.declared.addr.Addr.{Addr}
 use Rattle.mv_base.specs.declared.ids.IfaceId.{IfaceId}
-use Rattle.mv_base.specs.declared.ids.NodeId.{NodeId}
-use Rattle.bgp_attributes.specs.declared.update.Change.{Change}
 use Rattle.bgp_update.specs.Table.{changes_of}
 use Rattle.pim_joinprune.specs.declared.message.JoinPrune.{JoinPrune}
 use Rattle.scenario_defs.specs.declared.event.IfaceEntry.{IfaceEntry}
@@ -18,12 +16,12 @@ use Rattle.scenario_defs.specs.declared.event.JoinEntry.{JoinEntry}
 use Rattle.scenario_defs.specs.declared.event.JoinEntry.TheVariants.{Source}
 use Rattle.scenario_defs.specs.declared.event.Kind.TheVariants as kinds
 use Rattle.label_defs.specs.Keys.{node_cmp}
-use Rattle.pim_defs.specs.Entries.{Entries, entry_cmp, expiry_then, applied, kept_at}
-use Rattle.pim_defs.specs.Expiry.{counts, extended, remaining}
+use Rattle.pim_defs.specs.Entries.{Entries, entry_cmp, applied, kept_at}
+use Rattle.pim_defs.specs.Expiry.{extended, remaining}
 use Rattle.pim_defs.specs.Mention.{joins, prunes, mention_of, joined_after}
 use Rattle.pim_defs.specs.declared.expiry.Expiry.{Expiry}
 use Rattle.pim_defs.proofs.EntriesLemmas.{get-applied, get-kept}
-use Rattle.edge_defs.specs.Edge.{Note, note_cmp, VrfPattern, pattern_cmp, flow_cmp, Selected, Taken, Control, no_control}
+use Rattle.edge_defs.specs.Edge.{Note, note_cmp, pattern_cmp, flow_cmp, Selected, Taken, Control, no_control}
 use Rattle.edge_defs.specs.Place.{EdgePlace}
 use Rattle.edge_defs.specs.Steps.{Call, Update, Label, Pim, Active, Idle, Select, Unselect, Raised, Noticed, Timers, Rerouted, effect, with_selection, selections_run, peers_run, taken_change}
 use Rattle.edge_defs.proofs.KeyLemmas.{note_total, note_exact}

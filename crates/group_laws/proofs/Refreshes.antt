@@ -1,5 +1,5 @@
 -- Flows have groups of the family of their source, and so they have behind a step.
-use Rattle.std.proofs.Common.{◌≡◌, ℕ, Bool, true, false, cond, inl, inr, Option, None, Some, refl, subst, sym, ap, ◌∙◌}
+use Rattle.std.proofs.Common.{◌≡◌, ℕ, Bool, true, false, cond, inl, inr, Option, None, Some, refl, subst, ap}
 use Rattle.std.specs.Prelude.{is_some}
 use Rattle.std.specs.FinMap as maps
 use Rattle.mv_base.specs.declared.addr.Addr.{Addr}
@@ -10,7 +10,7 @@ use Rattle.mvpn_nlri.specs.declared.route.Afi.TheVariants.{Ipv4, Ipv6}
 use Rattle.mvpn_nlri.specs.declared.route.Route.TheVariants as routes
 use Rattle.bgp_attributes.specs.declared.key.Key.{Key}
 use Rattle.bgp_attributes.specs.declared.key.Key.TheVariants.{Mcast, Unicast}
-use Rattle.bgp_update.specs.Written.{afi_of, IsWritableKey}
+use Rattle.bgp_update.specs.Written.{IsWritableKey}
 use Rattle.pim_defs.specs.Entries.{expiry_at}
 use Rattle.pim_defs.specs.Expiry.{counts}
 use Rattle.pim_defs.specs.declared.expiry.Expiry.{Expiry}
@@ -20,7 +20,7 @@ use Rattle.edge_defs.specs.Flows.{flows_at}
 use Rattle.edge_defs.specs.Imported.{FlowRoute, active_of}
 use Rattle.edge_defs.specs.Place.{EdgePlace, OwnVrf}
 use Rattle.edge_defs.specs.Steps.{Call, effect, is_vrf_step, refreshed, control_step}
-use Rattle.edge_words.specs.Asked.{IsNoted, IsTold, IsKnown, Asks, IsAsked}
+use Rattle.edge_words.specs.Asked.{IsKnown, Asks, IsAsked}
 use Rattle.edge_words.proofs.Flows.{flows_are}
 use Rattle.control_laws.specs.Peers.{AreWritable}
 use Rattle.group_laws.specs.Groups.{IsFlow, HaveGroups, IsAllowed}

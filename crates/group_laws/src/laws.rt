@@ -12,9 +12,9 @@ ghost use Rattle.edge_defs.specs.Steps.{Call, control_step, effect, refreshed};
 ghost use Rattle.control_laws.specs.Peers.{AreWritable};
 ghost use Rattle.group_laws.specs.Groups.{HasGroups, HaveGroups, IsAllowed, IsFlow};
 
-/// What is joined at an edge, what is noted there and its flows have multicast groups of the family of their sources: at first, behind
-/// what a call itself changes, behind a refresh of the flows, and behind a step (RFC 6514 section 4). Of a call this asks that what it
-/// joins or notes has such a group; of the routes that were taken, that each of their keys has a spelling.
+/// Each (S,G) that is joined or noted at an edge, and each of its flows, has a multicast group of the family of S: at first, behind what a
+/// call itself changes, behind a refresh of the flows, and behind a step (RFC 6514 section 4). This asks of a call that what it joins or
+/// notes has such a group, and of the routes that were taken that each key has a spelling.
 pub fn groups_are_kept()
     ensures first { HaveGroups no_control }
     ensures call { (place : EdgePlace) (now : ℕ) (control : Control) (call : Call) → HaveGroups control → IsAllowed call →
@@ -25,15 +25,15 @@ pub fn groups_are_kept()
         AreWritable (effect place now control call) → IsAllowed call → HaveGroups (control_step place now control call) }
 {}
 
-/// Each (S,G) that a Join/Prune message joins has such a group where the message has a spelling, so where octets spell it and where it
-/// was read from octets (RFC 7761 section 4.9.1).
+/// Each (S,G) that a Join/Prune message joins has a multicast group of the family of S, where the message has a spelling: so where octets
+/// spell it, and where it was read from octets (RFC 7761 section 4.9.1).
 pub fn messages_have_groups()
     ensures whole { (message : JoinPrune) → IsJoinPrune message → HasGroups message }
     ensures spelled { (octets : List ℕ) (message : JoinPrune) → Spells message octets → HasGroups message }
     ensures read { (octets : List ℕ) (message : JoinPrune) → IsOctets octets → decoded octets ≡ Ok message → HasGroups message }
 {}
 
-/// A source and a group that a line of a script names are such a flow.
+/// A group that a line of a script names beside a source is a multicast group of the source's family.
 pub fn named_flows_are_flows()
     ensures { (source group : Addr) → NamesFlow source group → IsFlow source group }
 {}

@@ -1,5 +1,5 @@
 -- The routes that an edge learned are of nodes of its core.
-use Rattle.std.proofs.Common.{◌≡◌, ◌<◌, ℕ, length, is_some, Option, Some, sym, ap, subst, ◌∙◌}
+use Rattle.std.proofs.Common.{◌≡◌, ◌<◌, ℕ, List, length, slice_get, is_some, Option, Some, sym, ap, subst, ◌∙◌}
 use Rattle.std.specs.FinMap as maps
 use Rattle.std.proofs.lemmas.Option.{slice_get_within}
 use Rattle.mv_base.specs.Lists.{Among}
@@ -20,15 +20,17 @@ use Rattle.tree_defs.specs.Trees.{TreeData}
 use Rattle.edge_defs.specs.Edge.{Taken, TakenRoute}
 use Rattle.edge_defs.specs.Imported.{taken_from}
 use Rattle.edge_defs.specs.Place.{OwnVrf}
-use Rattle.edge_home.specs.Home.{IsHome, place_of}
+use Rattle.edge_home.specs.Home.{Home, IsHome, place_of}
 use Rattle.calm_laws.proofs.Maps.{entry_get}
 use Rattle.calm_laws.proofs.Upstreams.{chained}
 use Rattle.edge_words.proofs.Members.{table_of}
 use Rattle.tree_laws.specs.TreeOf.{held_at, held_from}
 use Rattle.control_laws.specs.Control.{Kept, OwnTree, control_of, trees_of}
 use Rattle.control_laws.proofs.Between.{between_at}
+use Rattle.control_laws.proofs.Owned.{there}
 use Rattle.control_laws.proofs.Parts.{no_core}
-use Rattle.edge_control.specs.Places.{IsTreeAt}
+use Rattle.control_laws.proofs.Replaced.{it_among}
+use Rattle.edge_control.specs.Places.{IsTreeAt, vrfs_of}
 use Rattle.edge_control.specs.Sound.{IsSound}
 use Rattle.edge_control.proofs.SoundLemmas.{sound_between}
 
@@ -56,14 +58,27 @@ module _ (kept : Kept) (sound : IsSound kept) where
   of_core it a key held h =
       held_node no_core it.own key.prefix key.place held (sym ((between_at kept (sound_between kept sound) no_core it a).learned key) ∙ h)
 
+  abbrev vrfs : List OwnVrf
+  vrfs = vrfs_of kept.home
+
+  -- the VRF and the tree at a place stand together
+  pub it_there : (number : ℕ) (own : OwnVrf) (tree : TreeData) → slice_get vrfs number ≡ Some own → slice_get kept.trees number ≡ Some tree
+      → Among (record { own = own; tree = tree }) (trees_of kept)
+  it_there number own tree h k = it_among kept number (record { own = own; tree = tree }) (there vrfs kept.trees number own tree h k)
+
+  pub there_core : (nodes number : ℕ) (own : OwnVrf) (tree : TreeData) → nodes ≡ length kept.home.scenario.nodes → slice_get vrfs number ≡ Some own → slice_get kept.trees number ≡ Some tree
+      → AreOfCore nodes tree.vrf.routes.learned
+  there_core nodes number own tree e at tree_at key held h =
+      subst (λ (n : ℕ). (peer_of key.place).0 < n) (sym e) (of_core (record { own = own; tree = tree }) (it_there number own tree at tree_at) key held h)
+
   -- the same of a core of as many nodes
   pub at_core : (nodes : ℕ) (vrf : VrfId) (tree : TreeData) → nodes ≡ length kept.home.scenario.nodes → IsTreeAt kept vrf tree → AreOfCore nodes tree.vrf.routes.learned
   at_core nodes vrf tree e at key held h =
       subst (λ (n : ℕ). (peer_of key.place).0 < n) (sym e) (of_core at.it at.among key held (ap (λ (t : TreeData). maps.get t.vrf.routes.learned key) at.is ∙ h))
 
-  pub me_below : (nodes : ℕ) → nodes ≡ length kept.home.scenario.nodes → kept.home.me.0 < nodes
-  me_below nodes e = subst (λ (n : ℕ). kept.home.me.0 < n) (sym e) (me_within kept.home.scenario kept.home.me sound.home)
-
--- the costs by which a node knows its core are least
-pub are_costs : (core : Topology) (walks : Core) (me : NodeId) → IsCoreOf core.nodes core.links walks → me.0 < core.nodes → AreCosts core me (walks.cost me)
-are_costs core walks me is within node h = is.least me node within h
+-- the costs by which the edge knows its core are least
+pub costs_of : (home : Home) (core : Topology) (walks : Core) (me : NodeId) → IsHome home.scenario home.me → core.nodes ≡ length home.scenario.nodes → IsCoreOf core.nodes core.links walks
+    → me ≡ home.me → AreCosts core me (walks.cost me)
+costs_of home core walks me is count of_core same node within =
+    let below : me.0 < core.nodes = subst (λ (n : ℕ). me.0 < n) (sym count) (subst (λ (n : NodeId). n.0 < length home.scenario.nodes) (sym same) (me_within home.scenario home.me is)) in
+    of_core.least me node below within

@@ -1,17 +1,17 @@
 -- A copy that arrives on a tunnel leaves VRF by VRF.
-use Rattle.std.proofs.Common.{◌≡◌, ℕ, zero, suc, ◌+◌, ◌<◌, ◌||◌, ◌⊎◌, inl, inr, Bool, true, false, cond, List, [], ◌∷◌, ◌++◌, length, take, nat_lt, is_some, position, slice_get, Option, Some, None, option_map, refl, sym, ap, subst, ◌∙◌, append_assoc, append-nil, arith}
+use Rattle.std.proofs.Common.{◌≡◌, ℕ, zero, suc, ◌+◌, ◌<◌, ◌||◌, Bool, true, false, cond, List, [], ◌∷◌, ◌++◌, length, take, get_or, nat_lt, is_some, position, slice_get, Option, Some, None, option_map, refl, sym, ap, subst, ◌∙◌, append_assoc, append-nil, arith}
 use Rattle.std.specs.List.{flat_map, list_any, position_or_len}
 use Rattle.std.specs.FinMap as maps
 use Rattle.std.proofs.lemmas.Bool.{lt-ltb, or_left, or_right}
 use Rattle.std.proofs.lemmas.List.Quantifiers.{position-Some}
-use Rattle.std.proofs.lemmas.Option.{slice_get-get_or}
+use Rattle.std.proofs.lemmas.Option.{slice_get-get_or, slice_get_read}
 use Rattle.mv_base.specs.Address.{same_addr, same_addr_equal, same_addr_equiv}
-use Rattle.mv_base.specs.Lists.{Among}
 use Rattle.mv_base.specs.declared.addr.Addr.{Addr}
 use Rattle.mv_base.specs.declared.ids.IfaceId.{IfaceId}
 use Rattle.mv_base.specs.declared.ids.NodeId.{NodeId}
 use Rattle.mldp_fec.specs.declared.fec.Fec.{Fec}
 use Rattle.core_walks.specs.Core.{Core}
+use Rattle.choice_defs.proofs.HashLemmas.{some_place}
 use Rattle.scenario_defs.specs.declared.scenario.Node.{Node}
 use Rattle.scenario_defs.specs.declared.scenario.Scenario.{Scenario}
 use Rattle.tree_defs.specs.declared.flow.Flow.{Flow}
@@ -25,16 +25,16 @@ use Rattle.calm_laws.proofs.Lists.{not_both}
 use Rattle.edge_words.proofs.Known.{addr_at}
 use Rattle.tree_laws.specs.Imports.{imports}
 use Rattle.tree_laws.proofs.Leaving.{no_outs, outs_are}
-use Rattle.control_laws.specs.Control.{Kept, OwnTree, control_of, trees_of}
+use Rattle.control_laws.specs.Control.{Kept, control_of}
 use Rattle.control_laws.specs.Peers.{as_wanted}
 use Rattle.control_laws.proofs.Between.{between_at}
-use Rattle.control_laws.proofs.Owned.{there}
-use Rattle.control_laws.proofs.Replaced.{it_among}
 use Rattle.edge_control.specs.Places.{vrfs_of}
 use Rattle.edge_control.specs.Sound.{IsSound}
+use Rattle.edge_control.proofs.PeerSound.{as_many}
 use Rattle.edge_control.proofs.PlaceLemmas.{any_before}
 use Rattle.edge_control.proofs.SoundLemmas.{sound_between}
 use Rattle.edge_datagrams.specs.Datagrams.{AreOfOctets}
+use Rattle.edge_datagrams.proofs.CoreLemmas.{it_there}
 use Rattle.edge_datagrams.proofs.KeptLemmas.{are_whole}
 
 -- ---- lists
@@ -108,11 +108,11 @@ module _ (scenario : Scenario) (addr : Addr) where
 
 -- ---- what leaves
 
-outs_where : (imported : Bool) (outs : List IfaceId) → outs ≡ [] → outs ≡ cond imported outs []
-outs_where true outs e = refl
-outs_where false outs e = e
+where_none : {X : Type 0} (b : Bool) (xs : List X) → xs ≡ [] → xs ≡ cond b xs []
+where_none true xs e = refl
+where_none false xs e = e
 
-module _ (kept : Kept) (sound : IsSound kept) (octets : AreOfOctets kept) (walks : Core) (now : ℕ) (fec : Fec) (flow : Flow) where
+module _ (kept : Kept) (sound : IsSound kept) (walks : Core) (now : ℕ) (fec : Fec) (flow : Flow) where
   abbrev place : EdgePlace
   place = place_of kept.home walks
 
@@ -123,22 +123,42 @@ module _ (kept : Kept) (sound : IsSound kept) (octets : AreOfOctets kept) (walks
   pub none_leave : node_with kept.home.scenario fec.root ≡ None → flat_map leaves_at (own_vrfs place) ≡ []
   none_leave e = none_told leaves_at (own_vrfs place) (λ own. no_outs place now (control_of kept) own fec flow (λ peer up same. no_root kept.home.scenario fec.root e peer (sound.peers peer up) same))
 
-  module _ (root : NodeId) (within : root.0 < length kept.home.scenario.nodes) (rooted : addr_of kept.home.scenario root ≡ fec.root)
+  module _ (octets : AreOfOctets kept) (root : NodeId) (within : root.0 < length kept.home.scenario.nodes) (rooted : addr_of kept.home.scenario root ≡ fec.root)
       (number : ℕ) (own : OwnVrf) (tree : TreeData) (own_at : slice_get (vrfs_of kept.home) number ≡ Some own) (tree_at : slice_get kept.trees number ≡ Some tree) where
-    abbrev it : OwnTree
-    it = record { own = own; tree = tree }
+    abbrev imported : Bool
+    imported = imports place (control_of kept) own root fec
 
-    among : Among it (trees_of kept)
-    among = it_among kept number it (there (vrfs_of kept.home) kept.trees number own tree own_at tree_at)
+    abbrev all : List IfaceId
+    all = outgoing tree.vrf (walks.cost kept.home.me) now flow (origins.Edge root)
 
-    leave_is : leaves_at own ≡ cond (imports place (control_of kept) own root fec) (outgoing tree.vrf (walks.cost kept.home.me) now flow (origins.Edge root)) []
-    leave_is = outs_are place now (control_of kept) own fec flow (as_wanted tree) (between_at kept (sound_between kept sound) walks it among) root sound.home.rules sound.peers within rooted (are_whole kept sound octets walks own)
+    leave_is : leaves_at own ≡ cond imported all []
+    leave_is =
+        outs_are place now (control_of kept) own fec flow (as_wanted tree) (between_at kept (sound_between kept sound) walks (record { own = own; tree = tree }) (it_there kept sound number own tree own_at tree_at)) root
+        sound.home.rules sound.peers within rooted (are_whole kept sound octets walks own)
 
-    pub leave_all : (outs : List IfaceId) (imported : Bool) → outs ≡ outgoing tree.vrf (walks.cost kept.home.me) now flow (origins.Edge root) → imported ≡ imports place (control_of kept) own root fec
-        → (outs ≡ []) ⊎ (imported ≡ true) → outs ≡ leaves_at own
-    leave_all outs imported e k (inl empty) = outs_where imported outs empty ∙ (λ i. cond (k i) (e i) []) ∙ sym leave_is
-    leave_all outs imported e k (inr so) = ap (λ (b : Bool). cond b outs []) (sym so) ∙ (λ i. cond (k i) (e i) []) ∙ sym leave_is
+    pub leave_empty : (outs : List IfaceId) → outs ≡ all → outs ≡ [] → outs ≡ leaves_at own
+    leave_empty outs e empty = e ∙ where_none imported all (sym e ∙ empty) ∙ sym leave_is
 
-    pub leave_none : (imported : Bool) → imported ≡ imports place (control_of kept) own root fec → imported ≡ false → [] ≡ leaves_at own
-    leave_none imported k not =
-        ap (λ (b : Bool). cond b (outgoing tree.vrf (walks.cost kept.home.me) now flow (origins.Edge root)) []) (sym not ∙ k) ∙ sym leave_is
+    pub leave_all : (outs : List IfaceId) (so : Bool) → outs ≡ all → so ≡ imported → so ≡ true → outs ≡ leaves_at own
+    leave_all outs so e k h = e ∙ ap (λ (b : Bool). cond b all []) (sym h ∙ k) ∙ sym leave_is
+
+    pub leave_none : (outs : List IfaceId) (so : Bool) → outs ≡ [] → so ≡ imported → so ≡ false → outs ≡ leaves_at own
+    leave_none outs so e k h = e ∙ ap (λ (b : Bool). cond b all []) (sym h ∙ k) ∙ sym leave_is
+
+-- ---- VRF by VRF
+
+pub tree_read : (trees kept : List TreeData) (number : ℕ) (tree : TreeData) → trees ≡ kept → number < length kept → tree ≡ get_or trees number tree → slice_get kept number ≡ Some tree
+tree_read trees kept number tree e within is = slice_get_read kept (length kept) number tree refl within (is ∙ ap (λ (ts : List TreeData). get_or ts number tree) e)
+
+pub within_trees : (kept : Kept) → IsSound kept → (trees : List TreeData) (number : ℕ) → trees ≡ kept.trees → number < length (vrfs_of kept.home) → number < length trees
+within_trees kept sound trees number e within =
+    let many = as_many kept sound in
+    let same = ap (λ (ts : List TreeData). length ts) e in
+    omega (arith, many, same, within)
+
+-- the interfaces of one VRF more
+pub outs_more : (f : OwnVrf → List IfaceId) (vrfs : List OwnVrf) (number : ℕ) (old more slice new : List IfaceId) → number < length vrfs → old ≡ flat_map f (take number vrfs)
+    → ((own : OwnVrf) → slice_get vrfs number ≡ Some own → more ≡ f own) → slice ≡ more → new ≡ old ++ slice → new ≡ flat_map f (take (number + 1) vrfs)
+outs_more f vrfs number old more slice new within before of_own same e =
+    let own = some_place vrfs number within in
+    e ∙ (λ i. before i ++ (same ∙ of_own own.0 own.1) i) ∙ sym (one_more f vrfs number own.0 own.1)

@@ -15,9 +15,10 @@ ghost use Rattle.tree_laws.specs.Imports.{imports};
 ghost use Rattle.control_laws.specs.Control.{control_of};
 ghost use Rattle.edge_control.specs.Places.{is_own_vrf};
 
+use crate::vrfs::own_of;
 use bgp_attributes::Key;
 use edge_control::EdgeControl;
-use edge_home::{EdgeHome, OwnVrf};
+use edge_home::OwnVrf;
 use edge_routes::{TakenValue, imported_inclusive, imported_selective};
 use mldp_fec::Fec;
 use mv_base::{Addr, NodeId, VrfId};
@@ -77,18 +78,6 @@ pub(crate) fn imports_at(control: &EdgeControl, own: &OwnVrf, edge: NodeId, fec:
     match control.taken().entries(edge) {
         None => false,
         Some(entries) => has_route(own, control.home().addr_of(edge), fec, entries),
-    }
-}
-
-/// The VRF of that number.
-fn own_of(home: &EdgeHome, vrf: VrfId) -> &OwnVrf
-    requires { is_own_vrf home.now vrf ≡ true }
-    ensures { (core : Core) (own : places.OwnVrf) → Among own (own_vrfs (place_of home.now core)) → own.id ≡ vrf →
-        own ≡ as_own result.now }
-{
-    match home.vrfs().iter().find(|own| own.id.0 == vrf.0) {
-        Some(own) => own,
-        None => unreachable!(),
     }
 }
 

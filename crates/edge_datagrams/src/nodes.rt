@@ -10,7 +10,7 @@ use mv_base::{Addr, NodeId};
 use scenario_defs::{Node, Scenario};
 
 /// The place of the first of the nodes that has the address.
-fn place_of(nodes: &[Node], addr: Addr) -> Option<usize>
+fn position_of(nodes: &[Node], addr: Addr) -> Option<usize>
     ensures value { result ≡ position (λ node. same_addr node.addr addr) nodes.now }
     ensures within { IfSome result (λ place. place < length nodes.now) }
 {
@@ -22,7 +22,7 @@ pub fn root_of(scenario: &Scenario, fec: &Fec) -> Option<NodeId>
     requires { length scenario.now.nodes ≤ 64 }
     ensures { result ≡ node_with scenario.now fec.now.root }
 {
-    match place_of(scenario.nodes.as_slice(), fec.root) {
+    match position_of(scenario.nodes.as_slice(), fec.root) {
         None => None,
         Some(place) => Some(NodeId(place as u16)),
     }

@@ -197,10 +197,6 @@ forgotten-sound old mid flows sound rest there unique each = subst (λ (state : 
       (λ q h. absent-none old.ifaces old.entries old.sent.keys (chosen_for old.routes sound.cost) mid.clock q h);
 })
 
--- Where the flows and the clock alone are others, so are the flows of the VRF.
-pub rest-same : (old mid : State) (flows : FlowTable) → mid ≡ record old { flows = mid.flows; clock = mid.clock } → vrf_of (record mid { flows = flows }) ≡ record (vrf_of old) { flows = from_entries (flows_in flows.entries) }
-rest-same old mid flows rest = ap (λ (state : State). vrf_of (record state { flows = flows })) rest
-
 -- ---- answers
 
 pub on-err : {X E P : Type 0} (result : Result X E) → P → OnErr result P

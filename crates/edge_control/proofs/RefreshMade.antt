@@ -1,5 +1,5 @@
 -- What an edge keeps behind a refresh of its trees.
-use Rattle.std.proofs.Common.{◌≡◌, ◌⊎◌, ℕ, ◌<◌, ◌==◌, ◌||◌, Bool, true, false, inl, inr, List, [], ◌∷◌, map, find, length, is_some, Option, None, Some, option_map, slice_get, refl, sym, ap, subst, ◌∙◌}
+use Rattle.std.proofs.Common.{◌≡◌, ◌⊎◌, ℕ, ◌<◌, ◌==◌, ◌||◌, Bool, true, false, cond, inl, inr, List, [], ◌∷◌, map, find, length, is_some, Option, None, Some, option_map, slice_get, refl, sym, ap, subst, ◌∙◌}
 use Rattle.std.specs.List.{AllByRecursion, AllZip}
 use Rattle.std.specs.Option.{option_or}
 use Rattle.std.specs.FinMap as maps
@@ -35,6 +35,7 @@ use Rattle.edge_defs.specs.Place.{EdgePlace, HasPrefixes, OwnVrf, vrfs_from}
 use Rattle.edge_defs.specs.Steps.{refreshed}
 use Rattle.edge_home.specs.Home.{place_of}
 use Rattle.taken_tables.specs.Tables.{AreSpelled, IsSpelled, IsSpelledKey}
+use Rattle.taken_tables.proofs.SpelledLemmas.{octets_key, writable_key}
 use Rattle.calm_laws.proofs.Lists.{map_among}
 use Rattle.tree_laws.specs.TreeOf.{flow_in, held_at, held_from}
 use Rattle.tree_laws.specs.Whole.{HaveSpellings}
@@ -43,12 +44,12 @@ use Rattle.control_laws.specs.Between.{IsRefreshed}
 use Rattle.control_laws.specs.Control.{Kept, OwnTree, control_of, trees_of, upstream_by}
 use Rattle.control_laws.specs.Customers.{AreSingle, Makes}
 use Rattle.control_laws.proofs.Between.{between_at, between_together, trees_refreshed}
-use Rattle.control_laws.proofs.Gathered.{gathered_zip, options}
+use Rattle.control_laws.proofs.Gathered.{options}
 use Rattle.control_laws.proofs.Owned.{each_of, of_number, or_not}
 use Rattle.control_laws.proofs.Parts.{AreFull, AreParts, IsPart, flow_at, flow_nowhere, no_core}
 use Rattle.control_laws.proofs.Replaced.{same_control, same_entries, same_notes, same_selections}
 use Rattle.control_laws.proofs.Together.{choice_in, entries_gathered, entry_in, flow_of, note_in, notes_gathered, selected_in, selected_of, selections_gathered, tree_note}
-use Rattle.control_laws.proofs.Zipped.{Stands, zip_back, zip_full, zip_map, zipped}
+use Rattle.control_laws.proofs.Zipped.{Stands, gathered_zip, zip_back, zip_full, zip_map, zipped}
 use Rattle.selective.specs.Roots.{is_of}
 use Rattle.edge_control.specs.Sound.{IsSingle, IsSound}
 use Rattle.edge_control.specs.Refreshing.{AreAllMoved, AreChanged, AreMoved, HasJoin, IsRestOf, join_at, tree_join}
@@ -271,7 +272,8 @@ spelled_in None key route h spelled = absurd (let bad : None ≡ Some route = sy
 spelled_in (Some taken) key route h spelled = spelled taken refl key (ap is_some h)
 
 have_spellings : (kept : Kept) → AreSpelled kept.peers → HaveSpellings (control_of kept)
-have_spellings kept spelled peer key route h = spelled_in (maps.get kept.peers peer) key route h (spelled peer)
+have_spellings kept spelled peer key route h =
+    let is = spelled_in (maps.get kept.peers peer) key route h (spelled peer) in (writable_key key is, octets_key key is)
 
 -- Behind a refresh of each tree the flows are those of the edge at the clock.
 pub refresh_makes : (kept : Kept) → IsSound kept → HasPrefixes kept.home.scenario → AreSpelled kept.peers → (core : Core) (now : ℕ) (others : List TreeData)

@@ -10,12 +10,15 @@ use Rattle.core_walks.specs.Topology.{Topology}
 use Rattle.mldp_fec.specs.declared.fec.Fec.{Fec}
 use Rattle.label_defs.specs.LabelData.{same_fec}
 use Rattle.umh_select.specs.Routes.{AreCosts}
-use Rattle.tree_defs.specs.Trees.{TreeData}
+use Rattle.tree_defs.specs.declared.flow.Flow.{Flow}
+use Rattle.tree_defs.specs.Flows.{flow_of}
+use Rattle.tree_defs.specs.Trees.{TreeData, wanted_by}
 use Rattle.vrf_trees.specs.declared.changes.TreeJoin.{TreeJoin}
+use Rattle.vrf_trees.specs.Changes.{AreNew}
 use Rattle.calm_laws.proofs.Lists.{among_either}
 use Rattle.control_laws.specs.Between.{IsRefreshed}
 use Rattle.edge_control.specs.Refreshing.{AreAllMoved, AreMoved, AreTold, HasJoin, IsRestOf, tree_join}
-use Rattle.edge_control.proofs.RefreshJoins.{Tells, moved_more}
+use Rattle.edge_control.proofs.RefreshJoins.{Tells, moved_more, tells_more, told_here}
 
 -- ---- lists of which some elements are others
 
@@ -173,9 +176,28 @@ all_told fecs [] (y ∷ ys) h fec none = absurd h
 all_told fecs (x ∷ xs) [] h fec none = absurd h
 all_told fecs (x ∷ xs) (y ∷ ys) h fec none = λ i. h.0 fec none i || all_told fecs xs ys h.1 fec none i
 
+-- one tree more is refreshed
+pub told_on : (old now : List TreeData) (all wants unwants : List Fec) (n : ℕ) (d s : TreeData) → n < length now → d ≡ get_or old n d → AllZip (Tells all) old now
+    → AreNew wants d.wants s.wants → AreNew unwants s.wants d.wants → AllZip (Tells ((all ++ wants) ++ unwants)) old (set now n s)
+told_on old now all wants unwants n d s lt same before came went =
+    zip_set (Tells ((all ++ wants) ++ unwants)) n old now d s lt
+    (zip_weaker (Tells all) (Tells ((all ++ wants) ++ unwants)) (λ x y. tells_more x y all wants unwants) old now before)
+    (subst (λ (tree : TreeData). Tells ((all ++ wants) ++ unwants) tree s) same (told_here d s all wants unwants came went))
+
 -- ---- the loop
 
 -- The second tree is the first one behind a refresh, in that core as the node knows it.
 pub record IsTurned (core : Topology) (me : NodeId) (now : ℕ) (old new : TreeData) : Type 0 where
   pub refreshed : (cost : NodeId → ℕ) → AreCosts core me cost → IsRefreshed cost now old new
   pub rest : IsRestOf old new
+
+pub turned_by : (core : Topology) (me : NodeId) (now : ℕ) (old new : TreeData)
+    → ((cost : NodeId → ℕ) → AreCosts core me cost → (flow : Flow) → get new.vrf.flows flow ≡ flow_of old.vrf cost now flow)
+    → new.wants ≡ sets.from_list (wanted_by old.leaf new.vrf.flows) → IsRestOf old new → IsTurned core me now old new
+turned_by core me now old new flows wants rest = record {
+  refreshed = λ cost costs. record {
+    flows = flows cost costs;
+    rest = rest ∙ (λ i. record old { vrf = record old.vrf { flows = new.vrf.flows }; wants = wants i });
+  };
+  rest = rest;
+}

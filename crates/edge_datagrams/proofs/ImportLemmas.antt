@@ -1,33 +1,25 @@
 -- Looking through the table of a peer says which routes are imported from it.
-use Rattle.std.proofs.Common.{◌≡◌, ℕ, ◌==◌, Bool, false, List, length, slice_get, Option, Some, None, option_map, sym, ap, ◌∙◌}
+use Rattle.std.proofs.Common.{◌≡◌, Bool, false, List, length, Option, Some, None, option_map, sym, ap, ◌∙◌}
 use Rattle.std.specs.List.{list_any}
 use Rattle.std.specs.FinMap as maps
 use Rattle.std.specs.FinMap.{FinMap}
-use Rattle.std.proofs.lemmas.Bool.{eqb-true}
 use Rattle.std.proofs.lemmas.List.{length-map}
-use Rattle.std.proofs.lemmas.Option.{same_Some}
-use Rattle.mv_base.specs.Lists.{Among}
 use Rattle.mv_base.specs.declared.ids.NodeId.{NodeId}
-use Rattle.mv_base.specs.declared.ids.VrfId.{VrfId}
 use Rattle.mldp_fec.specs.contracts.fec.FecPartialEq.TheImpl as fecs_equal
 use Rattle.mldp_fec.specs.declared.fec.Fec.{Fec}
 use Rattle.mldp_fec.proofs.SameLemmas.{fec_equal, fec_itself}
-use Rattle.core_walks.specs.Core.{Core}
 use Rattle.bgp_attributes.specs.declared.key.Key.{Key}
 use Rattle.label_defs.specs.Keys.{node_cmp}
 use Rattle.label_defs.specs.LabelData.{same_fec}
 use Rattle.label_defs.proofs.KeyLemmas.{same_fec_equal, same_fec_from}
 use Rattle.edge_defs.specs.Edge.{Taken, TakenRoute}
 use Rattle.edge_defs.specs.Imported.{taken_from}
-use Rattle.edge_defs.specs.Place.{OwnVrf, own_vrfs}
-use Rattle.edge_home.specs.Home.{AreOwn, Home, as_own, place_of}
+use Rattle.edge_home.specs.Home.{AreOwn, Home, as_own}
 use Rattle.edge_home.specs.declared.own_vrf.OwnVrf as home_vrfs
-use Rattle.calm_laws.proofs.Vrfs.{one_number}
 use Rattle.edge_words.proofs.Members.{either}
-use Rattle.edge_words.proofs.Prefixes.{among_at}
 use Rattle.control_laws.specs.Control.{Kept, control_of}
 use Rattle.control_laws.proofs.Parts.{no_core}
-use Rattle.edge_control.specs.Places.{IsPlace, vrfs_of}
+use Rattle.edge_control.specs.Places.{vrfs_of}
 use Rattle.edge_control.proofs.PeerCalls.{no_table, some_table}
 
 -- ---- one tunnel
@@ -44,12 +36,8 @@ fec_told fec own equal e =
 pub own_count : (home : Home) (owns : List home_vrfs.OwnVrf) → AreOwn home owns → length owns ≡ length (vrfs_of home)
 own_count home owns are = sym (length-map owns as_own) ∙ ap length (are.vrfs no_core)
 
--- the one of a number
-pub own_is : (home : Home) (vrf : VrfId) (number : ℕ) (found : OwnVrf) → IsPlace home number (λ own. own.id.0 == vrf.0) → slice_get (vrfs_of home) number ≡ Some found
-    → (core : Core) (own : OwnVrf) → Among own (own_vrfs (place_of home core)) → own.id ≡ vrf → own ≡ found
-own_is home vrf number found is at core own a id =
-    let here : Among is.own (own_vrfs (place_of home core)) = among_at (vrfs_of home) number is.own is.at in
-    one_number (place_of home core) own is.own a here (ap (λ (v : VrfId). v.0) id ∙ sym (eqb-true is.own.id.0 vrf.0 is.passes)) ∙ same_Some is.own found (sym is.at ∙ at)
+pub same_count : (home other : Home) (owns : List home_vrfs.OwnVrf) → AreOwn other owns → other ≡ home → length owns ≡ length (vrfs_of home)
+same_count home other owns are same = own_count other owns are ∙ ap (λ (h : Home). length (vrfs_of h)) same
 
 -- ---- the table of a peer
 

@@ -15,11 +15,12 @@ use Rattle.tree_defs.specs.declared.flow.Origin.TheVariants as origins
 use Rattle.tree_defs.specs.Flows.{chosen_for, is_from, outgoing}
 use Rattle.tree_defs.specs.Trees.{TreeData}
 use Rattle.edge_defs.specs.Datagrams.{entering_fate}
-use Rattle.edge_defs.specs.Edge.{Control, Taken}
+use Rattle.edge_defs.specs.Edge.{Control, TakenRoute}
 use Rattle.edge_defs.specs.Place.{EdgePlace, OwnVrf, own_vrfs}
 use Rattle.edge_defs.specs.Upstream.{known_routes}
 use Rattle.edge_defs.proofs.KeyLemmas.{key_total}
 use Rattle.edge_home.specs.Home.{place_of}
+use Rattle.taken_tables.proofs.SpelledLemmas.{octets_key, writable_key}
 use Rattle.calm_laws.proofs.Lists.{among_map}
 use Rattle.calm_laws.proofs.Maps.{entry_get}
 use Rattle.calm_laws.proofs.Vrfs.{one_number}
@@ -54,8 +55,8 @@ module _ (kept : Kept) (sound : IsSound kept) (octets : AreOfOctets kept) (walks
   have_spellings : HaveSpellings control
   have_spellings peer key route h =
       let table = table_of control peer key route h in
-      octets.taken peer table.table (entry_get node_cmp_total kept.peers peer table.table table.of_peer) key
-      (ap (λ o. is_some o) (entry_get key_total table.table key route table.among))
+      let is = octets.taken peer table.table (entry_get node_cmp_total kept.peers peer table.table table.of_peer) key (ap (λ (o : Option TakenRoute). is_some o) (entry_get key_total table.table key route table.among)) in
+      (writable_key key is, octets_key key is)
 
   pub are_whole : (own : OwnVrf) → AreWhole (known_routes place control own)
   are_whole own = prefixes_whole place control own sound.home.rules octets.sites have_spellings

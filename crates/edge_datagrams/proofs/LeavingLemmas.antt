@@ -1,5 +1,5 @@
 -- A copy that arrives on a tunnel leaves VRF by VRF.
-use Rattle.std.proofs.Common.{◌≡◌, ℕ, zero, suc, ◌+◌, ◌<◌, ◌||◌, Bool, true, false, cond, List, [], ◌∷◌, ◌++◌, length, take, get_or, nat_lt, is_some, position, slice_get, Option, Some, None, option_map, refl, sym, ap, subst, ◌∙◌, append_assoc, append-nil, arith}
+use Rattle.std.proofs.Common.{◌≡◌, ℕ, zero, suc, ◌+◌, ◌<◌, ◌||◌, Bool, true, false, cond, List, [], ◌∷◌, ◌++◌, length, take, get_or, nat_lt, is_some, position, slice_get, Option, Some, None, option_map, refl, sym, ap, subst, ◌∙◌, append_assoc, append-nil, add-one, arith}
 use Rattle.std.specs.List.{flat_map, list_any, position_or_len}
 use Rattle.std.specs.FinMap as maps
 use Rattle.std.proofs.lemmas.Bool.{lt-ltb, or_left, or_right}
@@ -40,10 +40,13 @@ use Rattle.edge_datagrams.proofs.KeptLemmas.{are_whole}
 -- ---- lists
 
 -- one more of a list
+one_behind : {X Y : Type 0} (f : X → List Y) (xs : List X) (n : ℕ) (x : X) → slice_get xs n ≡ Some x → flat_map f (take (suc n) xs) ≡ flat_map f (take n xs) ++ f x
+one_behind f [] n x e = absurd cc
+one_behind f (y ∷ ys) zero x e = (let same : y ≡ x = cc in append-nil (f y) ∙ ap f same)
+one_behind f (y ∷ ys) (suc n) x e = ap (λ zs. f y ++ zs) (one_behind f ys n x e) ∙ sym (append_assoc (f y) (flat_map f (take n ys)) (f x))
+
 pub one_more : {X Y : Type 0} (f : X → List Y) (xs : List X) (n : ℕ) (x : X) → slice_get xs n ≡ Some x → flat_map f (take (n + 1) xs) ≡ flat_map f (take n xs) ++ f x
-one_more f [] n x e = absurd cc
-one_more f (y ∷ ys) zero x e = (let same : y ≡ x = cc in append-nil (f y) ∙ ap f same)
-one_more f (y ∷ ys) (suc n) x e = ap (λ zs. f y ++ zs) (one_more f ys n x e) ∙ sym (append_assoc (f y) (flat_map f (take n ys)) (f x))
+one_more f xs n x e = ap (λ (m : ℕ). flat_map f (take m xs)) (add-one n) ∙ one_behind f xs n x e
 
 pub none_told : {X Y : Type 0} (f : X → List Y) (xs : List X) → ((x : X) → f x ≡ []) → flat_map f xs ≡ []
 none_told f [] h = refl
@@ -101,10 +104,11 @@ module _ (scenario : Scenario) (addr : Addr) where
       by : (nodes : List Node) → scenario.nodes ≡ nodes → ⊥
       by [] empty = absurd (let none : length scenario.nodes ≡ 0 = ap (λ (ns : List Node). length ns) empty in omega (arith, within, none))
       by (d ∷ more) are =
+          let found = get_or scenario.nodes node.0 d in
           let at = slice_get-get_or scenario.nodes node.0 d within in
-          not_both (has_addr _)
-          (ap (λ (a : Addr). same_addr a addr) (sym (addr_at scenario node _ at) ∙ same) ∙ same_addr_equiv.refl addr)
-          (passed_over has_addr scenario.nodes (none_by (position has_addr scenario.nodes) e) node.0 _ at)
+          not_both (has_addr found)
+          (ap (λ (a : Addr). same_addr a addr) (sym (addr_at scenario node found at) ∙ same) ∙ same_addr_equiv.refl addr)
+          (passed_over has_addr scenario.nodes (none_by (position has_addr scenario.nodes) e) node.0 found at)
 
 -- ---- what leaves
 

@@ -4,20 +4,28 @@ ghost use Rattle.std.specs.List.{flat_map};
 ghost use Rattle.core_walks.specs.Core.{Core as Walks, IsCoreOf};
 ghost use Rattle.edge_defs.specs.Datagrams.{outs_at};
 ghost use Rattle.edge_defs.specs.Place.{OwnVrf, addr_of, own_vrfs};
-ghost use Rattle.edge_home.specs.Home.{place_of};
+ghost use Rattle.edge_home.specs.Home.{as_own, place_of};
 ghost use Rattle.control_laws.specs.Control.{control_of};
 ghost use Rattle.edge_control.specs.Places.{vrfs_of};
 
 use crate::imported::imports_at;
 use crate::nodes::{are_of_octets, root_of};
-use crate::vrfs::own_at;
 use core_paths::Core;
 use edge_control::EdgeControl;
+use edge_home::{EdgeHome, OwnVrf as HomeVrf};
 use mldp_fec::Fec;
 use mv_base::{Addr, NoMemory, NodeId, Seq};
 use scenario_defs::IfaceList;
 use std::alloc::Global;
 use tree_defs::{Flow, Origin};
+
+/// The VRF at that place among those of the edge.
+fn own_at(home: &EdgeHome, place: usize) -> &HomeVrf
+    requires { place < length (vrfs_of home.now) }
+    ensures { slice_get (vrfs_of home.now) place ≡ Some (as_own result.now) }
+{
+    &home.vrfs()[place]
+}
 
 /// The interfaces of the VRF at that place at which a copy leaves that arrives on the tunnel, whose root is that node.
 fn outs_at(

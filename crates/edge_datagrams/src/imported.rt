@@ -15,9 +15,8 @@ ghost use Rattle.tree_laws.specs.Imports.{imports};
 ghost use Rattle.control_laws.specs.Control.{control_of};
 ghost use Rattle.edge_control.specs.Places.{is_own_vrf};
 
-use crate::vrfs::own_of;
 use bgp_attributes::Key;
-use edge_control::EdgeControl;
+use edge_control::{EdgeControl, own_of_vrf};
 use edge_home::OwnVrf;
 use edge_routes::{TakenValue, imported_inclusive, imported_selective};
 use mldp_fec::Fec;
@@ -87,5 +86,5 @@ pub fn imports(control: &EdgeControl, vrf: VrfId, edge: NodeId, fec: &Fec) -> bo
     ensures { (core : Core) (own : places.OwnVrf) → Among own (own_vrfs (place_of control.now.home core)) → own.id ≡ vrf →
         result ≡ imports (place_of control.now.home core) (control_of control.now) own edge fec.now }
 {
-    imports_at(control, own_of(control.home(), vrf), edge, fec)
+    imports_at(control, own_of_vrf(control.home(), vrf), edge, fec)
 }

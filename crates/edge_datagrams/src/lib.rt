@@ -6,7 +6,6 @@ mod fate;
 mod imported;
 mod ingress;
 mod nodes;
-mod vrfs;
 
 pub use egress::leaving;
 pub use fate::Entering;

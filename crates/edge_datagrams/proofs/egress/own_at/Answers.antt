@@ -3,7 +3,7 @@ use Rattle.std.proofs.lemmas.Option.{slice_get-map, slice_get_read}
 use Rattle.edge_home.specs.Home.{as_own}
 use Rattle.control_laws.proofs.Parts.{no_core}
 use Rattle.edge_datagrams.proofs.ImportLemmas.{own_count}
-use Rattle.edge_datagrams.proofs.vrfs.own_at.Goals as goal
+use Rattle.edge_datagrams.proofs.egress.own_at.Goals as goal
 
 pub offset_bounds-vrfs-place : goal.offset_bounds-vrfs-place
 offset_bounds-vrfs-place c =

@@ -1,0 +1,4 @@
+pub mod ImportLemmas
+pub mod TreeLemmas
+pub mod ChangedLemmas
+pub mod RefreshedLemmas

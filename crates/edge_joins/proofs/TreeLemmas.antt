@@ -1,0 +1,102 @@
+-- The trees of an edge as those of its VRFs, and the joins that they have.
+use Rattle.std.proofs.Common.{◌≡◌, ℕ, List, [], ◌∷◌, map, Option, Some, None, option_map, refl, sym, ap, subst, subst₂, ◌∙◌}
+use Rattle.std.specs.List.{AllByRecursion}
+use Rattle.std.specs.FinMap as maps
+use Rattle.std.proofs.lemmas.Option.{cond_some, same_Some}
+use Rattle.mv_base.specs.Number.{only_if}
+use Rattle.mv_base.specs.declared.addr.Addr.{Addr}
+use Rattle.mv_base.specs.declared.addr.Addr.TheVariants.{V4, V6}
+use Rattle.mvpn_nlri.specs.declared.route.Afi.{Afi}
+use Rattle.mvpn_nlri.specs.declared.route.Afi.TheVariants.{Ipv4, Ipv6}
+use Rattle.bgp_update.specs.Written.{afi_of}
+use Rattle.core_walks.specs.Core.{Core}
+use Rattle.umh_select.specs.declared.route.Choice.{Choice}
+use Rattle.umh_select.specs.declared.route.Choice.TheVariants as choices
+use Rattle.tree_defs.specs.declared.flow.Upstream as uppers
+use Rattle.tree_defs.specs.Flows.{upstream_of}
+use Rattle.tree_defs.specs.Trees.{TreeData}
+use Rattle.edge_defs.specs.Edge.{Control, Import, Remote, Site, Upstream, VrfFlow}
+use Rattle.edge_defs.specs.Held.{held_for}
+use Rattle.edge_defs.specs.Keys.{Value}
+use Rattle.edge_defs.specs.Place.{EdgePlace, OwnVrf, own_vrfs}
+use Rattle.edge_home.specs.Home.{place_of}
+use Rattle.calm_laws.proofs.Upstreams.{chained}
+use Rattle.tree_laws.specs.Joins.{AreOfVrfs, first_told, is_join_to}
+use Rattle.tree_laws.specs.TreeOf.{IsTreeOf, choice_of}
+use Rattle.tree_laws.specs.TreeOf as trees_of_vrfs
+use Rattle.tree_laws.specs.Wanting.{AreTreesOf}
+use Rattle.tree_laws.proofs.Joins.{joins_are}
+use Rattle.control_laws.specs.Control.{Kept, OwnTree, control_of, trees_of, with_trees}
+use Rattle.control_laws.specs.Peers.{as_wanted}
+use Rattle.edge_control.specs.Sound.{IsSound}
+use Rattle.edge_control.proofs.SoundLemmas.{wanted_control}
+use Rattle.vrf_trees.specs.Changes.{flow_in}
+use Rattle.vrf_trees.specs.declared.changes.TreeJoin.{TreeJoin}
+use Rattle.edge_joins.specs.Keys.{key_of}
+use Rattle.edge_joins.specs.Upstreams.{HaveIpv4Imports, import_at}
+use Rattle.edge_joins.proofs.ImportLemmas.{value_by, values_told}
+
+one_by_one : (place : EdgePlace) (control : Control) (its : List OwnTree) → AllByRecursion (λ (it : OwnTree). IsTreeOf place control it.own it.tree) its
+    → AreTreesOf place control (map (λ (it : OwnTree). it.own) its) (map (λ (it : OwnTree). it.tree) its)
+one_by_one place control [] h = tt
+one_by_one place control (it ∷ its) h = (h.0, one_by_one place control its h.1)
+
+-- the trees are those of the VRFs, but for what they want
+pub are_trees : (kept : Kept) (core : Core) → IsSound kept → AreTreesOf (place_of kept.home core) (control_of kept) (own_vrfs (place_of kept.home core)) (map as_wanted kept.trees)
+are_trees kept core sound =
+    let wanted : Kept = with_trees as_wanted kept in
+    let pairs : AreTreesOf (place_of kept.home core) (control_of wanted) (map (λ (it : OwnTree). it.own) (trees_of wanted)) (map (λ (it : OwnTree). it.tree) (trees_of wanted)) =
+    one_by_one (place_of kept.home core) (control_of wanted) (trees_of wanted) (sound.trees.each core) in
+    let named : AreTreesOf (place_of kept.home core) (control_of wanted) (own_vrfs (place_of kept.home core)) (map as_wanted kept.trees) =
+    subst₂ (AreTreesOf (place_of kept.home core) (control_of wanted)) sound.trees.all sound.trees.full pairs in
+    subst (λ (c : Control). AreTreesOf (place_of kept.home core) c (own_vrfs (place_of kept.home core)) (map as_wanted kept.trees)) (wanted_control kept) named
+
+-- the join that the edge holds is the one by the first import that the trees have for it
+pub held_by_trees : (kept : Kept) (core : Core) → IsSound kept → AreOfVrfs (place_of kept.home core) (control_of kept) → (join : TreeJoin)
+    → maps.get (held_for (place_of kept.home core) (control_of kept) join.edge) (key_of join).1 ≡ option_map (value_by (place_of kept.home core)) (first_told (import_at join) kept.trees)
+held_by_trees kept core sound of_vrfs join =
+    joins_are (place_of kept.home core) (control_of kept) join.edge join.rd join.source_as (flow_in join) (map as_wanted kept.trees) (are_trees kept core sound) of_vrfs
+    ∙ values_told (place_of kept.home core) join kept.trees
+
+-- ---- imports of IPv4
+
+module _ (control : Control) (ipv4 : HaveIpv4Imports control) (join : TreeJoin) where
+  of_upstream : (flow : VrfFlow) (import : Addr × ℕ) (up : Option (Option Upstream)) → maps.get control.flows flow ≡ up → (found : uppers.Upstream)
+      → upstream_of (option_map choice_of up) ≡ Some found → found.import ≡ import → afi_of import.0 ≡ Ipv4
+  of_upstream flow import None at found h same = absurd cc
+  of_upstream flow import (Some None) at found h same = absurd cc
+  of_upstream flow import (Some (Some (Site site))) at found h same = absurd cc
+  of_upstream flow import (Some (Some (Remote edge rd own source_as))) at found h same =
+      let one = same_Some (record { edge = edge; rd = rd; import = (own.addr, own.number); source_as = source_as }) found h in
+      ap (λ (i : Addr × ℕ). afi_of i.0) (sym same ∙ ap (λ (u : uppers.Upstream). u.import) (sym one)) ∙ ipv4 flow edge rd own source_as at
+
+  of_tree : (place : EdgePlace) (own : OwnVrf) (tree : TreeData) (import : Addr × ℕ) → IsTreeOf place control own (as_wanted tree) → import_at join tree ≡ Some import → afi_of import.0 ≡ Ipv4
+  of_tree place own tree import is h =
+      let found = chained (upstream_of (maps.get tree.vrf.flows (flow_in join))) (λ up. only_if (is_join_to join.edge join.rd join.source_as up) up.import) import h in
+      of_upstream (trees_of_vrfs.flow_in own.id (flow_in join)) import (maps.get control.flows (trees_of_vrfs.flow_in own.id (flow_in join))) refl found.0
+      (sym (ap upstream_of (is.flows (flow_in join))) ∙ found.1)
+      (cond_some (is_join_to join.edge join.rd join.source_as found.0) found.0.import import found.2).1
+
+  first_of_ipv4 : (place : EdgePlace) (vrfs : List OwnVrf) (trees : List TreeData) (import : Addr × ℕ) → AreTreesOf place control vrfs (map as_wanted trees)
+      → first_told (import_at join) trees ≡ Some import → afi_of import.0 ≡ Ipv4
+  first_of_ipv4 place vrfs [] import are h = absurd cc
+  first_of_ipv4 place [] (tree ∷ trees) import are h = absurd are
+  first_of_ipv4 place (own ∷ vrfs) (tree ∷ trees) import are h = by (import_at join tree) refl h
+    where
+      by : (o : Option (Addr × ℕ)) → import_at join tree ≡ o → (elim o [ None ↦ first_told (import_at join) trees | Some y ↦ Some y ]) ≡ Some import → afi_of import.0 ≡ Ipv4
+      by None e g = first_of_ipv4 place vrfs trees import are.1 g
+      by (Some found) e g = of_tree place own tree import are.0 (e ∙ g)
+
+pub is_ipv4 : (kept : Kept) (core : Core) → IsSound kept → HaveIpv4Imports (control_of kept) → (join : TreeJoin) (import : Addr × ℕ)
+    → first_told (import_at join) kept.trees ≡ Some import → afi_of import.0 ≡ Ipv4
+is_ipv4 kept core sound ipv4 join import h =
+    first_of_ipv4 (control_of kept) ipv4 join (place_of kept.home core) (own_vrfs (place_of kept.home core)) kept.trees import (are_trees kept core sound) h
+
+-- where the edge has no VRF there is no import
+pub no_vrf : (kept : Kept) (core : Core) → IsSound kept → own_vrfs (place_of kept.home core) ≡ [] → (join : TreeJoin) → first_told (import_at join) kept.trees ≡ None
+no_vrf kept core sound none join =
+    by kept.trees (subst (λ (vrfs : List OwnVrf). AreTreesOf (place_of kept.home core) (control_of kept) vrfs (map as_wanted kept.trees)) none (are_trees kept core sound))
+  where
+    by : (trees : List TreeData) → AreTreesOf (place_of kept.home core) (control_of kept) [] (map as_wanted trees) → first_told (import_at join) trees ≡ None
+    by [] h = refl
+    by (tree ∷ trees) h = absurd h

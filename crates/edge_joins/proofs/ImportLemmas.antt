@@ -55,15 +55,17 @@ module _ (place : EdgePlace) (join : TreeJoin) where
   told_one : (tree : TreeData) → join_of place join.edge join.rd join.source_as (flow_in join) (as_wanted tree) ≡ option_map (value_by place) (import_at join tree)
   told_one tree = tells (upstream_of (maps.get tree.vrf.flows (flow_in join)))
 
+  told_next : (tree : TreeData) (trees : List TreeData) (rest : Option Value) (more : Option (Addr × ℕ)) → rest ≡ option_map (value_by place) more
+      → (elim (join_of place join.edge join.rd join.source_as (flow_in join) (as_wanted tree)) [ None ↦ rest | Some y ↦ Some y ])
+      ≡ option_map (value_by place) (elim (import_at join tree) [ None ↦ more | Some y ↦ Some y ])
+  told_next tree trees rest more h = ap (λ (o : Option Value). elim o [ None ↦ rest | Some y ↦ Some y ]) (told_one tree) ∙ by (import_at join tree)
+    where
+      by : (o : Option (Addr × ℕ)) → (elim (option_map (value_by place) o) [ None ↦ rest | Some y ↦ Some y ]) ≡ option_map (value_by place) (elim o [ None ↦ more | Some y ↦ Some y ])
+      by None = h
+      by (Some import) = refl
+
   pub values_told : (trees : List TreeData) → first_told (join_of place join.edge join.rd join.source_as (flow_in join)) (map as_wanted trees)
       ≡ option_map (value_by place) (first_told (import_at join) trees)
   values_told [] = refl
   values_told (tree ∷ trees) =
-      ap (λ (o : Option Value). elim o [ None ↦ first_told (join_of place join.edge join.rd join.source_as (flow_in join)) (map as_wanted trees) | Some y ↦ Some y ]) (told_one tree)
-      ∙ by (import_at join tree)
-    where
-      by : (o : Option (Addr × ℕ))
-          → (elim (option_map (value_by place) o) [ None ↦ first_told (join_of place join.edge join.rd join.source_as (flow_in join)) (map as_wanted trees) | Some y ↦ Some y ])
-          ≡ option_map (value_by place) (elim o [ None ↦ first_told (import_at join) trees | Some y ↦ Some y ])
-      by None = values_told trees
-      by (Some import) = refl
+      told_next tree trees (first_told (join_of place join.edge join.rd join.source_as (flow_in join)) (map as_wanted trees)) (first_told (import_at join) trees) (values_told trees)

@@ -33,8 +33,9 @@ fn hold_one(
         HoldAllBut place (control_of control.now) but tables.new) }
     ensures told { AreToldAlike tables.old tables.new }
 {
+    let vrfs = control.home().vrfs();
     match remote(join, first_import(join, control.trees())) {
-        Some(upstream) => match control.home().vrfs().first() {
+        Some(upstream) => match vrfs.first() {
             // The join says the address of the edge, as each of its VRFs has it.
             Some(own) => hold_join(tables, own, join.edge, &upstream, join.source, join.group),
             None => unreachable!(),

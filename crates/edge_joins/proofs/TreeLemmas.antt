@@ -6,8 +6,10 @@ use Rattle.std.proofs.lemmas.Option.{cond_some, same_Some}
 use Rattle.mv_base.specs.Number.{◌>>?◌, only_if}
 use Rattle.mv_base.specs.declared.addr.Addr.{Addr}
 use Rattle.mv_base.specs.declared.addr.Addr.TheVariants.{V4, V6}
+use Rattle.mv_base.specs.declared.ids.NodeId.{NodeId}
 use Rattle.mvpn_nlri.specs.declared.route.Afi.{Afi}
 use Rattle.mvpn_nlri.specs.declared.route.Afi.TheVariants.{Ipv4, Ipv6}
+use Rattle.bgp_attributes.specs.declared.key.Key.{Key}
 use Rattle.bgp_update.specs.Written.{afi_of}
 use Rattle.core_walks.specs.Core.{Core}
 use Rattle.umh_select.specs.declared.route.Choice.{Choice}
@@ -136,6 +138,14 @@ not_ipv4 : (join : TreeJoin) (addr : Addr) (number : ℕ) → remote_by join (ad
 not_ipv4 join (V4 addr) number h k = absurd cc
 not_ipv4 join (V6 addr) number h k = absurd cc
 
+-- the key of the join that is found is that of the join
+pub found_key : (join : TreeJoin) (o : Option (Addr × ℕ)) (up : RemoteUpstream) → (o >>? remote_by join) ≡ Some up
+    → key_of join ≡ (join.edge, join_key (afi_of join.source) up.rd up.source_as (flow_in join))
+found_key join o up h =
+    let found = chained o (remote_by join) up h in
+    let is = is_remote join found.0.0 found.0.1 up found.2 in
+    λ i. (join.edge, join_key (afi_of join.source) (sym is.distinguisher i) (sym is.system i) (flow_in join))
+
 module _ (kept : Kept) (core : Core) (sound : IsSound kept) (join : TreeJoin) where
   abbrev place : EdgePlace
   place = place_of kept.home core
@@ -145,11 +155,12 @@ module _ (kept : Kept) (core : Core) (sound : IsSound kept) (join : TreeJoin) wh
 
   -- the edge holds the join that is found
   pub found_held : AreOfVrfs place (control_of kept) → (up : RemoteUpstream) → (first_told (import_at join) kept.trees >>? remote_by join) ≡ Some up
-      → held ≡ Some (value_towards place (as_import up.import))
+      → maps.get (held_for place (control_of kept) join.edge) (join_key (afi_of join.source) up.rd up.source_as (flow_in join)) ≡ Some (value_towards place (as_import up.import))
   found_held of_vrfs up h =
       let found = chained (first_told (import_at join) kept.trees) (remote_by join) up h in
       let is = is_remote join found.0.0 found.0.1 up found.2 in
-      held_by_trees kept core sound of_vrfs join ∙ ap (option_map (value_by place)) found.1 ∙ ap (λ (i : Import). Some (value_towards place i)) (sym is.names)
+      ap (λ (k : NodeId × Key). maps.get (held_for place (control_of kept) join.edge) k.1) (sym (found_key join (first_told (import_at join) kept.trees) up h))
+      ∙ held_by_trees kept core sound of_vrfs join ∙ ap (option_map (value_by place)) found.1 ∙ ap (λ (i : Import). Some (value_towards place i)) (sym is.names)
 
   -- and none where none is found
   pub none_held : AreOfVrfs place (control_of kept) → HaveIpv4Imports (control_of kept) → (first_told (import_at join) kept.trees >>? remote_by join) ≡ None → held ≡ None
@@ -167,14 +178,6 @@ module _ (kept : Kept) (core : Core) (sound : IsSound kept) (join : TreeJoin) wh
       let empty : own_vrfs place ≡ [] = ap (λ (h : Home). own_vrfs (place_of h core)) (sym same) ∙ sym (are.vrfs core) in
       let nothing : (first_told (import_at join) kept.trees >>? remote_by join) ≡ None = ap (λ (o : Option (Addr × ℕ)). o >>? remote_by join) (no_vrf kept core sound empty join) in
       let bad : None ≡ Some up = sym nothing ∙ h in cc
-
--- the key of the join that is found is that of the join
-pub found_key : (join : TreeJoin) (o : Option (Addr × ℕ)) (up : RemoteUpstream) → (o >>? remote_by join) ≡ Some up
-    → key_of join ≡ (join.edge, join_key (afi_of join.source) up.rd up.source_as (flow_in join))
-found_key join o up h =
-    let found = chained o (remote_by join) up h in
-    let is = is_remote join found.0.0 found.0.1 up found.2 in
-    λ i. (join.edge, join_key (afi_of join.source) (sym is.distinguisher i) (sym is.system i) (flow_in join))
 
 -- the first VRF of the edge says its address
 pub first_at : (kept : Kept) (core : Core) (home : Home) (vrfs : List homes.OwnVrf) (own : homes.OwnVrf) → home ≡ kept.home → AreOwn home vrfs → slice_get vrfs 0 ≡ Some own

@@ -1,9 +1,10 @@
 -- One join after another, and tables with each of them made or taken back.
-use Rattle.std.proofs.Common.{◌≡◌, ◌≢◌, ℕ, ◌+◌, ◌<◌, ◌≤◌, ◌==◌, Bool, true, false, inl, inr, List, [], ◌∷◌, map, drop, get_or, length, Option, Some, None, option_map, Result, Ok, Err, OnOk, OnErr, refl, sym, ap, subst, ◌∙◌}
+use Rattle.std.proofs.Common.{◌≡◌, ◌≢◌, ℕ, zero, suc, ◌+◌, ◌<◌, ◌≤◌, ◌==◌, Bool, true, false, inl, inr, List, [], ◌∷◌, map, drop, get_or, length, Option, Some, None, option_map, Result, Ok, Err, OnOk, OnErr, refl, sym, ap, subst, ◌∙◌}
 use Rattle.std.specs.FinMap as maps
 use Rattle.std.specs.FinMap.{get, insert, remove}
 use Rattle.std.proofs.lemmas.Bool.{cases_Bool, eqb-true, eq-eqb}
 use Rattle.std.proofs.lemmas.List.{drop_all, drop_more}
+use Rattle.mv_base.specs.Lists.{Among}
 use Rattle.mv_base.specs.declared.addr.Addr.TheVariants.{V4}
 use Rattle.mv_base.specs.declared.ids.NodeId.{NodeId}
 use Rattle.bgp_attributes.specs.declared.key.Key.{Key}
@@ -78,6 +79,18 @@ pub alike_either : {X E : Type 0} (result : Result X E) (change : Table → Tabl
 alike_either (Ok x) change peer old new h k = alike_at change peer old new h
 alike_either (Err e) change peer old new h k = subst (λ (t : Tables). EachPeer IsToldAlike old t) (sym k) (all_alike old)
 
+-- ---- joins of a list
+
+among_left : (joins : List TreeJoin) (i : ℕ) (key : NodeId × Key) → Among key (keys_of (drop i joins)) → Among key (keys_of joins)
+among_left joins zero key a = a
+among_left [] (suc i) key a = a
+among_left (join ∷ joins) (suc i) key a = inr (among_left joins i key a)
+
+-- more of them may be left
+all_but_more : (place : EdgePlace) (control : Control) (joins : List TreeJoin) (i : ℕ) (t : Tables) → HoldAllBut place control (keys_of (drop i joins)) t → HoldAllBut place control (keys_of joins) t
+all_but_more place control joins i t hold =
+    record { elsewhere = λ peer table key at apart. hold.elsewhere peer table key at (λ a. apart (among_left joins i (peer, key) a)) }
+
 -- ---- one join more
 
 -- what is read behind the end of a list
@@ -112,3 +125,9 @@ module _ (kept : Kept) where
   way_end joins i le s t way core of_vrfs ipv4 hold =
       ended (place_of kept.home core) (control_of kept) t
       (subst (λ (l : List (NodeId × Key)). HoldAllBut (place_of kept.home core) (control_of kept) l t) (ap keys_of (drop_all i joins le)) (way core of_vrfs ipv4 hold))
+
+  pub way_cut : (joins : List TreeJoin) (i : ℕ) (s t u : Tables) → Way joins i s t → u ≡ t → (core : Core) → AreOfVrfs (place_of kept.home core) (control_of kept) → HaveIpv4Imports (control_of kept)
+      → HoldAllBut (place_of kept.home core) (control_of kept) (keys_of joins) s → HoldAllBut (place_of kept.home core) (control_of kept) (keys_of joins) u
+  way_cut joins i s t u way same core of_vrfs ipv4 hold =
+      subst (HoldAllBut (place_of kept.home core) (control_of kept) (keys_of joins)) (sym same)
+      (all_but_more (place_of kept.home core) (control_of kept) joins i t (way core of_vrfs ipv4 hold))

@@ -1,5 +1,5 @@
 //! The joins of flows in the tables of peers (RFC 6514 section 11.1.3).
-ghost use Rattle.std.specs.Prelude.{◌∷◌, List, All, OnOk};
+ghost use Rattle.std.specs.Prelude.{◌≡◌, ◌∷◌, List, All, OnOk, OnErr};
 ghost use Rattle.mv_base.specs.declared.ids.NodeId.{NodeId};
 ghost use Rattle.mvpn_nlri.specs.Spelling.{IsGroup};
 ghost use Rattle.bgp_attributes.specs.declared.key.Key.{Key};
@@ -31,6 +31,7 @@ fn hold_one(
         AreOfVrfs place (control_of control.now) → HaveIpv4Imports (control_of control.now) →
         HoldAllBut place (control_of control.now) (key_of join.now ∷ but) tables.old →
         HoldAllBut place (control_of control.now) but tables.new) }
+    ensures unchanged { OnErr result (tables.new ≡ tables.old) }
     ensures told { AreToldAlike tables.old tables.new }
 {
     let vrfs = control.home().vrfs();
@@ -52,7 +53,8 @@ fn hold_one(
 }
 
 /// Each peer is to have the joins of the flows as they are: of those that are listed each one is made that is still the join of a flow's
-/// first VRF, and each other one is taken back (RFC 6514 section 11.1.3). Where memory runs out, some of them are done.
+/// first VRF, and each other one is taken back (RFC 6514 section 11.1.3). Where memory runs out, some of them are done, and no other one
+/// is still to be changed.
 pub fn hold_joins(
     tables: &mut EdgeTables,
     control: &EdgeControl,
@@ -63,6 +65,10 @@ pub fn hold_joins(
         AreOfVrfs place (control_of control.now) → HaveIpv4Imports (control_of control.now) →
         HoldAllBut place (control_of control.now) (keys_of joins.now) tables.old →
         HoldAll place (control_of control.now) tables.new) }
+    ensures left { OnErr result ((core : Core) → let place = place_of control.now.home core in
+        AreOfVrfs place (control_of control.now) → HaveIpv4Imports (control_of control.now) →
+        HoldAllBut place (control_of control.now) (keys_of joins.now) tables.old →
+        HoldAllBut place (control_of control.now) (keys_of joins.now) tables.new) }
     ensures told { AreToldAlike tables.old tables.new }
 {
     for join in joins {

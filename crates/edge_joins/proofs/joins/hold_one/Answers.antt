@@ -17,7 +17,7 @@ use Rattle.held_tables.proofs.Witness.{is_at, place_for}
 use Rattle.vrf_trees.specs.Changes.{flow_in}
 use Rattle.edge_joins.specs.Keys.{key_of}
 use Rattle.edge_joins.specs.Upstreams.{import_at, remote_by}
-use Rattle.edge_joins.proofs.TreeLemmas.{first_at, found_held, no_core, none_held, some_vrf}
+use Rattle.edge_joins.proofs.TreeLemmas.{first_at, found_held, found_key, no_core, none_held, some_vrf}
 use Rattle.edge_joins.proofs.TurnLemmas.{alike_either}
 use Rattle.edge_joins.proofs.joins.hold_one.Goals as goal
 
@@ -27,8 +27,8 @@ unreachable-requires c =
     let kept = c.args.control.now in
     let some : (first_told (import_at join) kept.trees >>? remote_by join) ≡ Some c.in-Some.upstream =
     sym (c.remote.ensures ∙ ap (λ (o : Option (Addr × ℕ)). o >>? remote_by join) (c.first_import.ensures ∙ ap (first_told (import_at join)) c.trees.ensures)) ∙ c.in-Some.is in
-    let none : slice_get c.vrfs.result.now 0 ≡ None = sym c.in-None-first.ensures.value in
-    some_vrf kept no_core c.home.ensures.sound join c.home.result.now c.vrfs.result.now c.home.ensures.home c.vrfs.ensures.vrfs none c.in-Some.upstream some
+    let none : slice_get c.vrfs-vrfs.result.now 0 ≡ None = sym c.in-None-first.ensures.value in
+    some_vrf kept no_core c.home.ensures.sound join c.home.result.now c.vrfs-vrfs.result.now c.home.ensures.home c.vrfs-vrfs.ensures.vrfs none c.in-Some.upstream some
 
 pub returns-in-Some-first-clause-held : goal.returns-in-Some-first-clause-held
 returns-in-Some-first-clause-held c =
@@ -39,9 +39,10 @@ returns-in-Some-first-clause-held c =
     sym (c.remote.ensures ∙ ap (λ (o : Option (Addr × ℕ)). o >>? remote_by join) (c.first_import.ensures ∙ ap (first_told (import_at join)) c.trees.ensures)) ∙ c.in-Some.is in
     on_ok_weaker c.hold_join.result (λ done core but of_vrfs ipv4 hold.
     done (place_of kept.home core) (control_of kept) but
-    (first_at kept core c.home.result.now c.vrfs.result.now c.in-Some-first.own.now c.home.ensures.home c.vrfs.ensures.vrfs (sym c.in-Some-first.ensures.value))
+    (first_at kept core c.home.result.now c.vrfs-vrfs.result.now c.in-Some-first.own.now c.home.ensures.home c.vrfs-vrfs.ensures.vrfs (sym c.in-Some-first.ensures.value))
     (found_held kept core c.home.ensures.sound join of_vrfs up some)
-    hold) c.hold_join.ensures.held
+    (subst (λ (k : NodeId × Key). HoldAllBut (place_of kept.home core) (control_of kept) (k ∷ but) c.args.tables.now) (found_key join (first_told (import_at join) kept.trees) up some) hold))
+    c.hold_join.ensures.held
 
 pub returns-in-Some-first-clause-told : goal.returns-in-Some-first-clause-told
 returns-in-Some-first-clause-told c =

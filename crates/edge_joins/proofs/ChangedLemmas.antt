@@ -1,18 +1,17 @@
 -- The joins that a refresh lists, as the joins at which flows changed.
-use Rattle.std.proofs.Common.{◌≡◌, ℕ, ◌==◌, ◌&&◌, nat_eq, Bool, true, false, ◌⊎◌, inl, inr, List, map, Option, Some, None, refl, sym, ap, subst, ◌∙◌}
+use Rattle.std.proofs.Common.{◌≡◌, ℕ, ◌==◌, ◌&&◌, nat_eq, ◌⊎◌, inl, inr, List, Option, Some, None, refl, sym, ap, subst, ◌∙◌}
 use Rattle.std.specs.FinMap.{FinMap, get}
 use Rattle.std.specs.Cmp.Lexicographic.{bytes_decides, pointwise}
 use Rattle.std.proofs.lemmas.Bool.{and_parts, eqb-true}
 use Rattle.std.proofs.lemmas.Option.{cond_some, same_Some}
 use Rattle.mv_base.specs.Lists.{Among}
-use Rattle.mv_base.specs.Number.{only_if}
 use Rattle.mv_base.specs.declared.ids.NodeId.{NodeId}
 use Rattle.mv_base.specs.declared.ids.VrfId.{VrfId}
 use Rattle.mv_base.specs.declared.rd.Rd.{Rd}
 use Rattle.bgp_attributes.specs.declared.key.Key.{Key}
 use Rattle.bgp_update.specs.Written.{afi_of}
 use Rattle.tree_defs.specs.declared.flow.Flow.{Flow}
-use Rattle.edge_defs.specs.Edge.{Control, Import, Remote, Site, Upstream, VrfFlow, flow_cmp}
+use Rattle.edge_defs.specs.Edge.{Control, Remote, Site, Upstream, flow_cmp}
 use Rattle.edge_defs.specs.Keys.{Value}
 use Rattle.edge_defs.specs.Place.{EdgePlace}
 use Rattle.calm_laws.proofs.Lists.{among_map}
@@ -21,7 +20,7 @@ use Rattle.tree_laws.specs.TreeOf.{flow_in}
 use Rattle.held_tables.specs.Joins.{AreOthersAlike, join_to, value_towards, with_flows}
 use Rattle.vrf_trees.specs.declared.changes.TreeJoin.{TreeJoin}
 use Rattle.edge_joins.specs.Keys.{key_of, keys_of}
-use Rattle.edge_joins.specs.Refreshing.{AreChanged, join_at}
+use Rattle.edge_control.specs.Refreshing.{AreChanged, join_at}
 
 module _ (place : EdgePlace) (peer : NodeId) (rd : Rd) (source_as : ℕ) (flow : Flow) (vrf : VrfId) where
   -- a flow that has something of the join has a join of that key

@@ -1,8 +1,7 @@
 -- The first of the VRFs whose upstream a join is towards, and what the join says by it.
 use Rattle.std.proofs.Common.{◌≡◌, ℕ, ◌<◌, ◌≤◌, ◌+◌, Bool, true, false, List, [], ◌∷◌, map, drop, get_or, length, is_some, Option, Some, None, option_map, refl, sym, ap, ◌∙◌}
 use Rattle.std.specs.FinMap as maps
-use Rattle.std.proofs.lemmas.List.{drop_all}
-use Rattle.std.proofs.lemmas.List.{drop_more}
+use Rattle.std.proofs.lemmas.List.{drop_all, drop_more}
 use Rattle.mv_base.specs.Number.{◌>>?◌, only_if}
 use Rattle.mv_base.specs.declared.addr.Addr.{Addr}
 use Rattle.tree_defs.specs.declared.flow.Upstream.{Upstream}

@@ -1,5 +1,5 @@
 -- The imports of the upstreams of flows that were refreshed.
-use Rattle.std.proofs.Common.{◌≡◌, ℕ, ◌&&◌, nat_eq, Bool, true, false, inl, inr, List, [], ◌∷◌, take, Option, Some, None, refl, sym, ap, subst, ◌∙◌}
+use Rattle.std.proofs.Common.{◌≡◌, ℕ, ◌&&◌, nat_eq, inl, List, [], ◌∷◌, take, Some, sym, ap, ◌∙◌}
 use Rattle.std.specs.FinMap as maps
 use Rattle.std.specs.Cmp.Lexicographic.{pointwise}
 use Rattle.std.proofs.lemmas.Option.{cond_some, same_Some}
@@ -9,17 +9,15 @@ use Rattle.mv_base.specs.Number.{◌>>?◌, only_if}
 use Rattle.mv_base.specs.declared.addr.Addr.{Addr}
 use Rattle.mv_base.specs.declared.ids.NodeId.{NodeId}
 use Rattle.mv_base.specs.declared.rd.Rd.{Rd}
-use Rattle.mvpn_nlri.specs.declared.route.Afi.{Afi}
 use Rattle.mvpn_nlri.specs.declared.route.Afi.TheVariants.{Ipv4}
 use Rattle.route_targets.specs.declared.communities.ExtComm.{ExtComm}
 use Rattle.bgp_attributes.specs.declared.key.Key.TheVariants.{Unicast}
 use Rattle.bgp_update.specs.Written.{afi_of}
 use Rattle.choice_defs.specs.Choice.{best_route}
-use Rattle.choice_defs.specs.declared.known_route.KnownRoute.{KnownRoute}
 use Rattle.choice_defs.specs.declared.origin.Origin.{Origin}
 use Rattle.choice_defs.specs.declared.origin.Origin.TheVariants as origins
 use Rattle.mv_base.specs.declared.prefix.Prefix.{Prefix}
-use Rattle.edge_defs.specs.Edge.{Control, Import, Remote, Upstream, VrfFlow}
+use Rattle.edge_defs.specs.Edge.{Control, Import, Remote}
 use Rattle.edge_defs.specs.Imported.{JoinBy, found_in, import_in, join_by, only_one, source_as_in, taken_from}
 use Rattle.edge_defs.specs.Keys.{Value}
 use Rattle.edge_defs.specs.Place.{EdgePlace, OwnVrf}
@@ -43,10 +41,10 @@ import_ipv4 comm import h =
 join_ipv4 : (peer : Addr) (value : Value) (by : JoinBy) → join_by peer value ≡ Some by → afi_of by.import.addr ≡ Ipv4
 join_ipv4 peer value by h =
     let first = chained (only_one (found_in import_in value.comms)) (λ import.
-        only_one (found_in source_as_in value.comms) >>? λ source_as.
-        only_if (same_addr import.addr peer && same_addr value.next_hop peer) (record { import = import; source_as = source_as })) by h in
+    only_one (found_in source_as_in value.comms) >>? λ source_as.
+    only_if (same_addr import.addr peer && same_addr value.next_hop peer) (record { import = import; source_as = source_as })) by h in
     let second = chained (only_one (found_in source_as_in value.comms)) (λ source_as.
-        only_if (same_addr first.0.addr peer && same_addr value.next_hop peer) (record { import = first.0; source_as = source_as })) by first.2 in
+    only_if (same_addr first.0.addr peer && same_addr value.next_hop peer) (record { import = first.0; source_as = source_as })) by first.2 in
     let made : JoinBy = record { import = first.0; source_as = second.0 } in
     let passed = cond_some (same_addr first.0.addr peer && same_addr value.next_hop peer) made by second.2 in
     let comm = found_among import_in first.0 value.comms (one_among (found_in import_in value.comms) first.0 first.1) in

@@ -7,13 +7,10 @@ use Rattle.mv_base.specs.Number.{◌>>?◌, only_if}
 use Rattle.mv_base.specs.declared.addr.Addr.{Addr}
 use Rattle.mv_base.specs.declared.addr.Addr.TheVariants.{V4, V6}
 use Rattle.mv_base.specs.declared.ids.NodeId.{NodeId}
-use Rattle.mvpn_nlri.specs.declared.route.Afi.{Afi}
-use Rattle.mvpn_nlri.specs.declared.route.Afi.TheVariants.{Ipv4, Ipv6}
+use Rattle.mvpn_nlri.specs.declared.route.Afi.TheVariants.{Ipv4}
 use Rattle.bgp_attributes.specs.declared.key.Key.{Key}
 use Rattle.bgp_update.specs.Written.{afi_of}
 use Rattle.core_walks.specs.Core.{Core}
-use Rattle.umh_select.specs.declared.route.Choice.{Choice}
-use Rattle.umh_select.specs.declared.route.Choice.TheVariants as choices
 use Rattle.tree_defs.specs.declared.flow.Upstream as uppers
 use Rattle.tree_defs.specs.Flows.{upstream_of}
 use Rattle.tree_defs.specs.Trees.{TreeData}

@@ -1,7 +1,6 @@
 -- One join after another, and tables with each of them made or taken back.
-use Rattle.std.proofs.Common.{◌≡◌, ◌≢◌, ℕ, zero, suc, ◌+◌, ◌<◌, ◌≤◌, ◌==◌, Bool, true, false, inl, inr, List, [], ◌∷◌, map, drop, get_or, length, Option, Some, None, option_map, Result, Ok, Err, OnOk, OnErr, refl, sym, ap, subst, ◌∙◌}
-use Rattle.std.specs.FinMap as maps
-use Rattle.std.specs.FinMap.{get, insert, remove}
+use Rattle.std.proofs.Common.{◌≡◌, ℕ, zero, suc, ◌+◌, ◌<◌, ◌≤◌, ◌==◌, true, false, inl, inr, List, [], ◌∷◌, drop, get_or, length, Option, Some, None, Result, Ok, Err, OnOk, OnErr, refl, sym, ap, subst, ◌∙◌}
+use Rattle.std.specs.FinMap.{get}
 use Rattle.std.proofs.lemmas.Bool.{cases_Bool, eqb-true, eq-eqb}
 use Rattle.std.proofs.lemmas.List.{drop_all, drop_more}
 use Rattle.mv_base.specs.Lists.{Among}
@@ -10,9 +9,9 @@ use Rattle.mv_base.specs.declared.ids.NodeId.{NodeId}
 use Rattle.bgp_attributes.specs.declared.key.Key.{Key}
 use Rattle.core_walks.specs.Core.{Core}
 use Rattle.edge_defs.specs.Edge.{Control}
-use Rattle.edge_defs.specs.Keys.{Table, Value}
+use Rattle.edge_defs.specs.Keys.{Table}
 use Rattle.edge_defs.specs.Place.{EdgePlace}
-use Rattle.edge_home.specs.Home.{Home, place_of}
+use Rattle.edge_home.specs.Home.{place_of}
 use Rattle.edge_tables.specs.Tables.{AtPeer, Both, EachPeer, PeerTable, Tables}
 use Rattle.tree_laws.specs.Joins.{AreOfVrfs}
 use Rattle.control_laws.specs.Control.{Kept, control_of}

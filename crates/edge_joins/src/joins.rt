@@ -21,11 +21,7 @@ use mv_base::NoMemory;
 use vrf_trees::TreeJoin;
 
 /// The peer of the join is to have it where it is still the join of a flow's first VRF, and else not.
-fn hold_one(
-    tables: &mut EdgeTables,
-    control: &EdgeControl,
-    join: &TreeJoin,
-) -> Result<(), NoMemory>
+fn hold_one(tables: &mut EdgeTables, control: &EdgeControl, join: &TreeJoin) -> Result<(), NoMemory>
     requires { IsGroup (afi_of join.now.source) join.now.group }
     ensures held { OnOk result ((core : Core) (but : List (NodeId × Key)) → let place = place_of control.now.home core in
         AreOfVrfs place (control_of control.now) → HaveIpv4Imports (control_of control.now) →

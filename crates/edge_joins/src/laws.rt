@@ -9,7 +9,7 @@ ghost use Rattle.tree_laws.specs.Joins.{AreOfVrfs};
 ghost use Rattle.vrf_trees.specs.declared.changes.TreeJoin.{TreeJoin};
 ghost use Rattle.held_tables.specs.Holding.{HoldAll};
 ghost use Rattle.held_tables.specs.Joins.{HoldAllBut, with_flows};
-ghost use Rattle.edge_joins.specs.Refreshing.{AreChanged};
+ghost use Rattle.edge_control.specs.Refreshing.{AreChanged};
 ghost use Rattle.edge_joins.specs.Keys.{keys_of};
 ghost use Rattle.edge_joins.specs.Upstreams.{HaveIpv4Imports};
 

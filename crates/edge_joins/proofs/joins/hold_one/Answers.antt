@@ -1,5 +1,4 @@
-use Rattle.std.proofs.Common.{◌≡◌, ◌∷◌, ℕ, List, Option, Some, None, slice_get, sym, ap, subst, ◌∙◌}
-use Rattle.std.specs.Option.{option_copied}
+use Rattle.std.proofs.Common.{◌≡◌, ◌∷◌, ℕ, Option, Some, None, slice_get, sym, ap, subst, ◌∙◌}
 use Rattle.std.specs.FinMap.{insert, remove}
 use Rattle.std.proofs.lemmas.Result.{on_ok_weaker}
 use Rattle.mv_base.specs.Number.{◌>>?◌}

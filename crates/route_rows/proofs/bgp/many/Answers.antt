@@ -2,7 +2,7 @@ use Rattle.std.proofs.Common.{[], ◌∷◌, List, refl, sym, subst, ◌∙◌}
 use Rattle.route_targets.specs.declared.communities.ExtComm.{ExtComm}
 use Rattle.bgp_attributes.specs.Spelling.{AreComms}
 use Rattle.bgp_update.proofs.Appending.{alike}
-use Rattle.part_rows.proofs.bgp.many.Goals as goal
+use Rattle.route_rows.proofs.bgp.many.Goals as goal
 
 pub returns : goal.returns
 returns c =

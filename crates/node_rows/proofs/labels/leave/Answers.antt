@@ -1,6 +1,6 @@
 use Rattle.std.proofs.Common.{◌∙◌, sym}
 use Rattle.label_uses.proofs.SeenLemmas.{found_mapped}
-use Rattle.part_rows.proofs.labels.leave.Goals as goal
+use Rattle.node_rows.proofs.labels.leave.Goals as goal
 
 pub leave-requires : goal.leave-requires
 leave-requires g c =

@@ -2,7 +2,7 @@
 ghost use Rattle.std.specs.Prelude.{◌≡◌, ◌<◌, IfOk, IfSome};
 ghost use Rattle.core_walks.specs.Topology.{IsTopology};
 ghost use Rattle.mldp_node.specs.Parts.{IsSpelled};
-ghost use Rattle.part_rows.specs.Sites.{three_addrs, IsTree};
+ghost use Rattle.node_rows.specs.Sites.{three_addrs, IsTree};
 
 use core_paths::Core;
 use mldp_fec::{Fec, FecKind, decode};
@@ -127,7 +127,7 @@ struct Site {
 
 impl Model for Site {
     ghost use Rattle.mldp_node.specs.NodeData.{NodeData, node_code};
-    ghost use Rattle.part_rows.specs.Sites.{IsSite};
+    ghost use Rattle.node_rows.specs.Sites.{IsSite};
 
     ghost Value = { NodeData };
 

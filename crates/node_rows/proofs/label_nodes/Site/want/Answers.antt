@@ -1,7 +1,7 @@
 use Rattle.std.proofs.Common.{refl, sym, ap, ◌∙◌}
 use Rattle.mv_base.specs.declared.ids.NodeId.{NodeId}
 use Rattle.label_defs.specs.Node.{node_at}
-use Rattle.part_rows.proofs.label_nodes.Site.want.Goals as goal
+use Rattle.node_rows.proofs.label_nodes.Site.want.Goals as goal
 
 pub want-requires-clause-tree : goal.want-requires-clause-tree
 want-requires-clause-tree c =

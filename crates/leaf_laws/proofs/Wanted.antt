@@ -1,5 +1,5 @@
 -- Each tree of which an edge is to be a leaf is one that its label part may want.
-use Rattle.std.proofs.Common.{◌≡◌, true, inl, inr, ◌⊎◌, is_some, Option, Some, refl, sym, ap, subst, ◌∙◌}
+use Rattle.std.proofs.Common.{◌≡◌, true, inl, inr, is_some, Option, Some, sym, ap, subst, ◌∙◌}
 use Rattle.std.specs.FinMap as maps
 use Rattle.std.specs.FinSet as sets
 use Rattle.std.proofs.lemmas.Option.{same_Some}

@@ -1,8 +1,9 @@
 -- Looking through the table of a tunnel's root says whether a VRF imports an inclusive route of the tunnel.
-use Rattle.std.proofs.Common.{◌≡◌, ◌↔◌, ◌<◌, ◌&&◌, ◌||◌, Bool, true, false, List, [], ◌∷◌, map, length, is_some, Option, Some, None, refl, sym, ap, subst, ◌∙◌}
+use Rattle.std.proofs.Common.{◌≡◌, ◌↔◌, ℕ, ◌+◌, ◌<◌, ◌&&◌, ◌||◌, Bool, true, false, List, [], ◌∷◌, map, take, get_or, length, Option, Some, None, refl, sym, ap, subst, ◌∙◌}
 use Rattle.std.specs.List.{list_any}
 use Rattle.std.specs.FinMap as maps
 use Rattle.std.proofs.lemmas.Bool.{and_parts}
+use Rattle.std.proofs.lemmas.List.Folds.{list_any_at, list_any_more}
 use Rattle.std.proofs.lemmas.Option.{cond_some}
 use Rattle.mv_base.specs.Address.{same_addr, same_addr_equal}
 use Rattle.mv_base.specs.Number.{◌>>?◌, only_if}
@@ -52,6 +53,15 @@ inclusive_root own addr key route fec h =
     let first = chained (inclusive_of key) (λ originator. only_if (is_admitted own.vrf route.value.comms) route.value >>? λ value. tunnel_by addr originator value) fec h in
     let second = chained (only_if (is_admitted own.vrf route.value.comms) route.value) (λ value. tunnel_by addr first.0 value) fec first.2 in
     root_by addr first.0 second.0 fec second.2
+
+-- ---- one VRF after another
+
+pub any_at : {X : Type 0} (p : X → Bool) (xs : List X) (n : ℕ) (x : X) (result : Bool) → n < length xs → x ≡ get_or xs n x → result ≡ p x → result ≡ true → true ≡ list_any p xs
+any_at p xs n x result within is e h = sym (list_any_at p xs n x within (ap p (sym is) ∙ sym e ∙ h))
+
+pub none_more : {X : Type 0} (p : X → Bool) (xs : List X) (n : ℕ) (x : X) (result : Bool) → n < length xs → x ≡ get_or xs n x → list_any p (take n xs) ≡ false → result ≡ p x → result ≡ false
+    → list_any p (take (n + 1) xs) ≡ false
+none_more p xs n x result within is before e h = list_any_more p xs n x within ∙ (λ i. before i || (ap p (sym is) ∙ sym e ∙ h) i)
 
 -- ---- all VRFs
 

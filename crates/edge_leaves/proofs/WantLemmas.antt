@@ -1,8 +1,9 @@
 -- What the trees of an edge want, and the inclusive routes that its VRFs import, are of what the edge is to be a leaf.
-use Rattle.std.proofs.Common.{◌≡◌, ◌↔◌, ◌⊎◌, inl, inr, ◌||◌, Bool, true, false, cond, List, [], ◌∷◌, ◌++◌, map, refl, sym, ap, subst, ◌∙◌}
+use Rattle.std.proofs.Common.{◌≡◌, ◌↔◌, ℕ, ◌+◌, ◌<◌, ◌⊎◌, inl, inr, ◌||◌, Bool, true, false, cond, List, [], ◌∷◌, ◌++◌, map, take, get_or, length, refl, sym, ap, subst, ◌∙◌, append-nil}
 use Rattle.std.specs.List.{AllByRecursion, filter, list_any}
 use Rattle.std.specs.FinSet as sets
 use Rattle.std.proofs.lemmas.Bool.{or_cases, or_left, or_right}
+use Rattle.std.proofs.lemmas.List.Elements.{filter_more}
 use Rattle.mv_base.specs.Lists.{Among}
 use Rattle.mldp_fec.specs.declared.fec.Fec.{Fec}
 use Rattle.core_walks.specs.Core.{Core}
@@ -62,6 +63,11 @@ module _ (kept : Kept) (trees : AreTrees kept) (core : Core) where
         let law = leaves_are place (control_of kept) kept.trees fec are_trees_of in
         either (inclusive || wanted) (sets.contains (leaves place (control_of kept)) fec) (λ h. law.1 (back h)) (λ h. told (law.0 h))
 
+-- one of which a VRF imports an inclusive route
+pub leaf_inclusive : (kept : Kept) → AreTrees kept → (core : Core) (fec : Fec) (inclusive : Bool) → inclusive ≡ true
+    → (inclusive ≡ true) ↔ IsInclusive (place_of kept.home core) (control_of kept) fec → inclusive ≡ sets.contains (leaves (place_of kept.home core) (control_of kept)) fec
+leaf_inclusive kept trees core fec inclusive h is = h ∙ sym ((leaves_are (place_of kept.home core) (control_of kept) kept.trees fec (are_trees_of kept trees core)).1 (inl (is.0 h)))
+
 -- ---- those that are wanted
 
 -- one of a list that passes is among those that do
@@ -78,3 +84,14 @@ listed p fecs fec h = either (list_any (same_fec fec) (filter p fecs)) (p fec) t
         let found = any_among (same_fec fec) fecs h in
         let same = same_fec_equal fec found.0 found.2 in
         any_from (same_fec fec) found.0 (filter p fecs) (among_filter p found.0 fecs (ap p (sym same) ∙ k) found.1) found.2
+
+-- one more of the list, where it is wanted and where it is not
+pub more_wanted : (p : Fec → Bool) (fecs found new : List Fec) (n : ℕ) (fec : Fec) (passes : Bool) → n < length fecs → fec ≡ get_or fecs n fec → found ≡ filter p (take n fecs) → passes ≡ p fec
+    → passes ≡ true → new ≡ found ++ fec ∷ [] → new ≡ filter p (take (n + 1) fecs)
+more_wanted p fecs found new n fec passes within is before e so added =
+    added ∙ (λ i. before i ++ is i ∷ []) ∙ ap (λ (b : Bool). filter p (take n fecs) ++ cond b (get_or fecs n fec ∷ []) []) (sym so ∙ e ∙ ap p is) ∙ sym (filter_more p fecs n fec within)
+
+pub none_wanted : (p : Fec → Bool) (fecs found new : List Fec) (n : ℕ) (fec : Fec) (passes : Bool) → n < length fecs → fec ≡ get_or fecs n fec → found ≡ filter p (take n fecs) → passes ≡ p fec
+    → passes ≡ false → new ≡ found → new ≡ filter p (take (n + 1) fecs)
+none_wanted p fecs found new n fec passes within is before e so same =
+    same ∙ before ∙ sym (append-nil (filter p (take n fecs))) ∙ ap (λ (b : Bool). filter p (take n fecs) ++ cond b (get_or fecs n fec ∷ []) []) (sym so ∙ e ∙ ap p is) ∙ sym (filter_more p fecs n fec within)

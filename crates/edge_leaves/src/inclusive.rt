@@ -24,7 +24,7 @@ fn is_route_of(own: &OwnVrf, addr: Addr, fec: &Fec, key: &Key, entry: &TakenEntr
 {
     match imported_inclusive(own.local.vrf(), addr, key, &entry.value()) {
         None => false,
-        Some(own) => own == *fec,
+        Some(tunnel) => tunnel == *fec,
     }
 }
 

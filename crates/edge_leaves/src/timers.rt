@@ -14,7 +14,6 @@ fn tree_due(tree: &VrfTree, now: u64) -> u64
 
 /// How many timers are due at the clock: of entries, of selections, and of selective routes that VRFs import. It is the greatest number of
 /// 64 bits where there are more.
-#[tactic(auto, using(crate::proofs::DueLemmas::due_more))]
 pub fn due(control: &EdgeControl, now: u64) -> u64
     ensures { result ≡ min (sum_by (tree_due now) control.now.trees) 18446744073709551615 }
 {

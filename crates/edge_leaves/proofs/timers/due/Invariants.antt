@@ -5,4 +5,4 @@ use Rattle.edge_leaves.proofs.DueLemmas.{most}
 use Rattle.edge_leaves.proofs.timers.due.Given as goal
 
 abbrev pub invariant-loop-tree : goal.invariant-loop-tree
-invariant-loop-tree l = l.count ≡ min (sum_by (tree_due l.now) (take l.tree-index l.control.trees)) most
+invariant-loop-tree l = l.count ≡ min (sum_by (tree_due l.now) (take l.tree-index l.tree-items)) most

@@ -50,10 +50,8 @@ fn is_route_of(own: &OwnVrf, addr: Addr, fec: &Fec, key: &Key, entry: &TakenEntr
         result ≡ is_route_of place (as_own own.now) peer fec.now (key.now, entry.now) }
 {
     let value = entry.value();
-    is_tunnel(
-        imported_inclusive(own.local.vrf(), addr, key, &value),
-        fec,
-    ) || is_tunnel(selective_tunnel(own, addr, key, &value), fec)
+    is_tunnel(imported_inclusive(own.local.vrf(), addr, key, &value), fec)
+        || is_tunnel(selective_tunnel(own, addr, key, &value), fec)
 }
 
 /// Whether the VRF imports one of these routes of the peer of that address, and it is one of the tunnel.

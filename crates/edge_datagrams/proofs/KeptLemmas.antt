@@ -62,7 +62,7 @@ module _ (kept : Kept) (sound : IsSound kept) (octets : AreOfOctets kept) (walks
   are_whole own = prefixes_whole place control own sound.home.rules octets.sites have_spellings
 
   -- the tree of a VRF of the edge
-  pub tree_is : (vrf : VrfId) (tree : TreeData) (own : OwnVrf) → IsTreeAt kept vrf tree → Among own (own_vrfs place) → own.id ≡ vrf → IsTreeOf place control own (as_wanted tree)
+  tree_is : (vrf : VrfId) (tree : TreeData) (own : OwnVrf) → IsTreeAt kept vrf tree → Among own (own_vrfs place) → own.id ≡ vrf → IsTreeOf place control own (as_wanted tree)
   tree_is vrf tree own at a e =
       let other : Among at.it.own (own_vrfs place) = subst (Among at.it.own) (sound_full kept sound).all (among_map (λ (it : OwnTree). it.own) at.it (trees_of kept) at.among) in
       let same : own ≡ at.it.own = one_number place own at.it.own a other (ap (λ (v : VrfId). v.0) (e ∙ sym at.id)) in

@@ -45,10 +45,10 @@ one_behind f [] n x e = absurd cc
 one_behind f (y ∷ ys) zero x e = (let same : y ≡ x = cc in append-nil (f y) ∙ ap f same)
 one_behind f (y ∷ ys) (suc n) x e = ap (λ zs. f y ++ zs) (one_behind f ys n x e) ∙ sym (append_assoc (f y) (flat_map f (take n ys)) (f x))
 
-pub one_more : {X Y : Type 0} (f : X → List Y) (xs : List X) (n : ℕ) (x : X) → slice_get xs n ≡ Some x → flat_map f (take (n + 1) xs) ≡ flat_map f (take n xs) ++ f x
+one_more : {X Y : Type 0} (f : X → List Y) (xs : List X) (n : ℕ) (x : X) → slice_get xs n ≡ Some x → flat_map f (take (n + 1) xs) ≡ flat_map f (take n xs) ++ f x
 one_more f xs n x e = ap (λ (m : ℕ). flat_map f (take m xs)) (add-one n) ∙ one_behind f xs n x e
 
-pub none_told : {X Y : Type 0} (f : X → List Y) (xs : List X) → ((x : X) → f x ≡ []) → flat_map f xs ≡ []
+none_told : {X Y : Type 0} (f : X → List Y) (xs : List X) → ((x : X) → f x ≡ []) → flat_map f xs ≡ []
 none_told f [] h = refl
 none_told f (x ∷ xs) h = ap (λ ys. ys ++ flat_map f xs) (h x) ∙ none_told f xs h
 

@@ -96,7 +96,7 @@ pub fn leaving(
     now: u64,
     core: &Core,
 ) -> Result<IfaceList, NoMemory>
-    requires { core.now.nodes ≡ length control.now.home.scenario.nodes }
+    requires core { core.now.nodes ≡ length control.now.home.scenario.nodes }
     ensures { (walks : Walks) → IsCoreOf core.now.nodes core.now.links walks → IfOk result (λ outs. outs
         ≡ flat_map (outs_at (place_of control.now.home walks) now (control_of control.now) fec.now source group)
         (own_vrfs (place_of control.now.home walks))) }

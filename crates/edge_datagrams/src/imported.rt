@@ -78,9 +78,9 @@ pub(crate) fn imports_at(control: &EdgeControl, own: &OwnVrf, edge: NodeId, fec:
     }
 }
 
-/// Whether the VRF of that number imports a route of the tunnel from the edge.
+/// Whether the VRF of that number imports a route of the tunnel from the edge (RFC 6514 sections 9.1.2 and 12.3).
 pub fn imports(control: &EdgeControl, vrf: VrfId, edge: NodeId, fec: &Fec) -> bool
-    requires { is_own_vrf control.now.home vrf ≡ true }
+    requires own { is_own_vrf control.now.home vrf ≡ true }
     ensures { (core : Core) (own : places.OwnVrf) → Among own (own_vrfs (place_of control.now.home core)) → own.id ≡ vrf →
         result ≡ imports (place_of control.now.home core) (control_of control.now) own edge fec.now }
 {

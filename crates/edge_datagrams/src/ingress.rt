@@ -73,11 +73,12 @@ pub fn entering(
 ) -> Result<Entering, NoMemory>
     requires own { is_own_vrf control.now.home vrf ≡ true }
     requires core { core.now.nodes ≡ length control.now.home.scenario.nodes }
-    ensures outs { (walks : Walks) (own : OwnVrf) (part : LabelData) → IsCoreOf core.now.nodes core.now.links walks →
-        Among own (own_vrfs (place_of control.now.home walks)) → own.id ≡ vrf → IfOk result (λ fate. fate.outs
+    ensures outs { (walks : Walks) → IsCoreOf core.now.nodes core.now.links walks → (own : OwnVrf) →
+        Among own (own_vrfs (place_of control.now.home walks)) → own.id ≡ vrf → (part : LabelData) → IfOk result (λ fate. fate.outs
         ≡ (entering_fate (place_of control.now.home walks) now (edge_with control.now part) own site source group).outs) }
-    ensures tunnel { (walks : Walks) (own : OwnVrf) (part : LabelData) → IsCoreOf core.now.nodes core.now.links walks →
-        Among own (own_vrfs (place_of control.now.home walks)) → own.id ≡ vrf → IfOk result (λ fate. branches_on part fate.tunnel
+    ensures tunnel { (walks : Walks) → IsCoreOf core.now.nodes core.now.links walks → (own : OwnVrf) →
+        Among own (own_vrfs (place_of control.now.home walks)) → own.id ≡ vrf → (part : LabelData) →
+        IfOk result (λ fate. branches_on part fate.tunnel
         ≡ (entering_fate (place_of control.now.home walks) now (edge_with control.now part) own site source group).branches) }
 {
     are_of_octets(control);

@@ -33,6 +33,6 @@ pub(crate) fn are_of_octets(control: &EdgeControl)
     ensures { AreOfOctets control.now }
 {
     let home = control.home();
-    let _scenario = home.scenario();
-    let _entries = control.taken().entries(home.me());
+    let _ = home.scenario();
+    let _ = control.taken().entries(home.me());
 }

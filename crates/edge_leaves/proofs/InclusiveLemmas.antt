@@ -66,7 +66,7 @@ none_more p xs n x result within is before e h = list_any_more p xs n x within �
 -- ---- all VRFs
 
 -- the VRFs of the edge, as it has them
-pub any_own : (p : OwnVrf → Bool) (vrfs : List home_vrfs.OwnVrf) → list_any (λ own. p (as_own own)) vrfs ≡ list_any p (map as_own vrfs)
+any_own : (p : OwnVrf → Bool) (vrfs : List home_vrfs.OwnVrf) → list_any (λ own. p (as_own own)) vrfs ≡ list_any p (map as_own vrfs)
 any_own p [] = refl
 any_own p (own ∷ vrfs) = ap (λ (b : Bool). p (as_own own) || b) (any_own p vrfs)
 

@@ -6,6 +6,6 @@ use Rattle.edge_datagrams.proofs.nodes.are_of_octets.Goals as goal
 
 pub returns : goal.returns
 returns c = record {
-  sites = subst (λ (home : Home). HasPrefixes home.scenario) c.home-home.ensures.home c.scenario-scenario.ensures.octets;
-  taken = subst AreSpelled c.taken.ensures c.entries-entries.ensures.spelled;
+  sites = subst (λ (home : Home). HasPrefixes home.scenario) c.home-home.ensures.home c.scenario.ensures.octets;
+  taken = subst AreSpelled c.taken.ensures c.entries.ensures.spelled;
 }

@@ -1,5 +1,5 @@
 -- What an edge learned is of nodes of its core, and the costs that it knows are least.
-use Rattle.std.proofs.Common.{◌≡◌, ◌<◌, ℕ, length, slice_get, is_some, Option, Some, ap, subst, sym, ◌∙◌}
+use Rattle.std.proofs.Common.{◌≡◌, ◌<◌, ℕ, length, slice_get, is_some, Option, Some, ap, subst, sym}
 use Rattle.std.specs.FinMap as maps
 use Rattle.std.proofs.lemmas.Option.{slice_get_within}
 use Rattle.mv_base.specs.Lists.{Among}

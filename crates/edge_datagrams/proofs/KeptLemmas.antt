@@ -1,14 +1,11 @@
 -- What is kept of a VRF says where its datagrams go.
-use Rattle.std.proofs.Common.{◌≡◌, ℕ, ◌&&◌, Bool, true, false, cond, is_some, List, [], Option, Some, None, refl, sym, ap, subst, ◌∙◌}
-use Rattle.std.specs.FinMap as maps
+use Rattle.std.proofs.Common.{◌≡◌, ℕ, ◌&&◌, Bool, true, false, cond, is_some, [], Option, Some, None, refl, sym, ap, subst, ◌∙◌}
 use Rattle.mv_base.specs.Lists.{Among}
-use Rattle.mv_base.specs.declared.ids.IfaceId.{IfaceId}
 use Rattle.mv_base.specs.declared.ids.SiteId.{SiteId}
 use Rattle.mv_base.specs.declared.ids.VrfId.{VrfId}
 use Rattle.mldp_fec.specs.declared.fec.Fec.{Fec}
 use Rattle.core_walks.specs.Core.{Core}
 use Rattle.label_defs.specs.LabelData.{LabelData, branches_of}
-use Rattle.label_defs.specs.declared.branch.Branch.{Branch}
 use Rattle.label_defs.proofs.KeyLemmas.{node_cmp_total}
 use Rattle.tree_defs.specs.declared.flow.Flow.{Flow}
 use Rattle.tree_defs.specs.declared.flow.Origin.TheVariants as origins

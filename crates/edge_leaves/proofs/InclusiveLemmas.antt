@@ -19,7 +19,7 @@ use Rattle.edge_defs.specs.Imported.{imported_inclusive, inclusive_of, is_admitt
 use Rattle.edge_defs.specs.Keys.{Value}
 use Rattle.edge_defs.specs.Place.{EdgePlace, OwnVrf, addr_of, node_with, own_vrfs}
 use Rattle.edge_defs.proofs.KeyLemmas.{key_exact, key_total}
-use Rattle.edge_home.specs.Home.{AreOwn, Home, as_own, place_of}
+use Rattle.edge_home.specs.Home.{AreOwn, as_own, place_of}
 use Rattle.edge_home.specs.declared.own_vrf.OwnVrf as home_vrfs
 use Rattle.calm_laws.proofs.Lists.{any_among, any_from}
 use Rattle.calm_laws.proofs.Maps.{entry_get, get_entry}

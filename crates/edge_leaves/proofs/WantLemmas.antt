@@ -1,14 +1,13 @@
 -- What the trees of an edge want, and the inclusive routes that its VRFs import, are of what the edge is to be a leaf.
-use Rattle.std.proofs.Common.{◌≡◌, ◌↔◌, ℕ, ◌+◌, ◌<◌, ◌⊎◌, inl, inr, ◌||◌, Bool, true, false, cond, List, [], ◌∷◌, ◌++◌, map, take, get_or, length, refl, sym, ap, subst, ◌∙◌, append-nil}
+use Rattle.std.proofs.Common.{◌≡◌, ◌↔◌, ℕ, ◌+◌, ◌<◌, ◌⊎◌, inl, inr, ◌||◌, Bool, true, false, cond, List, [], ◌∷◌, ◌++◌, map, take, get_or, length, sym, ap, ◌∙◌, append-nil}
 use Rattle.std.specs.List.{AllByRecursion, filter, list_any}
 use Rattle.std.specs.FinSet as sets
 use Rattle.std.proofs.lemmas.Bool.{or_cases, or_left, or_right}
 use Rattle.std.proofs.lemmas.List.Elements.{filter_more}
-use Rattle.mv_base.specs.Lists.{Among}
 use Rattle.mldp_fec.specs.declared.fec.Fec.{Fec}
 use Rattle.core_walks.specs.Core.{Core}
 use Rattle.label_defs.specs.LabelData.{same_fec}
-use Rattle.label_defs.proofs.KeyLemmas.{same_fec_equal, same_fec_from}
+use Rattle.label_defs.proofs.KeyLemmas.{same_fec_equal}
 use Rattle.tree_defs.specs.Trees.{TreeData}
 use Rattle.edge_defs.specs.Edge.{Control}
 use Rattle.edge_defs.specs.Place.{EdgePlace, OwnVrf, own_vrfs}

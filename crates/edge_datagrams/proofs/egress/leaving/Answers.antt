@@ -1,5 +1,4 @@
-use Rattle.std.proofs.Common.{◌≡◌, Option, Some, sym, ap, ◌∙◌}
-use Rattle.mv_base.specs.declared.ids.NodeId.{NodeId}
+use Rattle.std.proofs.Common.{sym, ap, ◌∙◌}
 use Rattle.scenario_defs.specs.declared.scenario.Scenario.{Scenario}
 use Rattle.edge_defs.specs.Place.{node_with}
 use Rattle.edge_home.specs.Home.{Home}

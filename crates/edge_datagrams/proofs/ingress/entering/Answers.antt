@@ -1,6 +1,5 @@
 use Rattle.std.proofs.Common.{ap, ◌∙◌}
 use Rattle.mv_base.specs.declared.ids.NodeId.{NodeId}
-use Rattle.label_defs.specs.LabelData.{LabelData}
 use Rattle.edge_home.specs.Home.{Home}
 use Rattle.tree_defs.specs.declared.flow.Origin.TheVariants as origins
 use Rattle.tree_defs.specs.Flows.{outgoing}

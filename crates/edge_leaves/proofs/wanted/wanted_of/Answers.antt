@@ -1,4 +1,4 @@
-use Rattle.std.proofs.Common.{Bool, List, Vec, Global, ap, ◌∙◌, arith}
+use Rattle.std.proofs.Common.{Bool, Vec, Global, ap, ◌∙◌, arith}
 use Rattle.std.specs.List.{filter, list_any}
 use Rattle.std.specs.FinSet as sets
 use Rattle.std.proofs.lemmas.List.{take_all}

@@ -1,4 +1,4 @@
-use Rattle.std.proofs.Common.{◌||◌, Bool, true, false, List, refl, sym, ap, ◌∙◌}
+use Rattle.std.proofs.Common.{◌||◌, Bool, List, sym, ap, ◌∙◌}
 use Rattle.std.specs.List.{list_any}
 use Rattle.std.specs.FinSet as sets
 use Rattle.tree_defs.specs.Trees.{TreeData}

@@ -1,0 +1,2 @@
+pub mod TunnelLemmas
+pub mod TakenLemmas

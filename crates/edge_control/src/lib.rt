@@ -19,3 +19,4 @@ mod trees;
 
 pub use control::EdgeControl;
 pub use fault::ControlFault;
+pub use places::{own_of_iface, own_of_vrf};

@@ -1,9 +1,14 @@
 //! Which of the edge's VRFs an interface or a number names.
 ghost use Rattle.std.specs.Prelude.{◌≡◌, ◌==◌, true, position};
+ghost use Rattle.mv_base.specs.Lists.{Among};
+ghost use Rattle.core_walks.specs.Core.{Core};
 ghost use Rattle.edge_defs.specs.Originated.{is_iface_of};
-ghost use Rattle.edge_defs.specs.Place as places;
+ghost use Rattle.edge_defs.specs.Place.{own_vrfs};
+ghost use Rattle.edge_home.specs.Home.{as_own, place_of};
+ghost use Rattle.edge_routes.specs.Local.{IsAt};
 ghost use Rattle.edge_control.specs.Places.{IsPlace, is_own_iface, is_own_vrf};
 
+use crate::each::own_at;
 use edge_home::{EdgeHome, OwnVrf};
 use mv_base::{IfaceId, VrfId};
 use scenario_defs::Scenario;
@@ -53,4 +58,24 @@ pub(crate) fn place_of_vrf(home: &EdgeHome, vrf: VrfId) -> usize
         Some(place) => place,
         None => unreachable!(),
     }
+}
+
+/// The VRF of the edge to which the interface belongs.
+pub fn own_of_iface(home: &EdgeHome, iface: IfaceId) -> &OwnVrf
+    requires { is_own_iface home.now iface ≡ true }
+    ensures among { (core : Core) → Among (as_own result.now) (own_vrfs (place_of home.now core)) }
+    ensures at { (core : Core) → IsAt (place_of home.now core) result.now.local }
+    ensures of { is_iface_of home.now.scenario result.now.id iface ≡ true }
+{
+    own_at(home, place_of_iface(home, iface))
+}
+
+/// The VRF of the edge of that number.
+pub fn own_of_vrf(home: &EdgeHome, vrf: VrfId) -> &OwnVrf
+    requires { is_own_vrf home.now vrf ≡ true }
+    ensures among { (core : Core) → Among (as_own result.now) (own_vrfs (place_of home.now core)) }
+    ensures at { (core : Core) → IsAt (place_of home.now core) result.now.local }
+    ensures of { result.now.id ≡ vrf }
+{
+    own_at(home, place_of_vrf(home, vrf))
 }

@@ -18,23 +18,44 @@ fn copied<T: Copy>(alloc: Global, list: &Seq<T>) -> Result<Seq<T>, NoMemory>
     Ok(Seq::from_vec(copy))
 }
 
+/// Shows that the prefix is of octets.
+fn has_octets(prefix: &Prefix)
+    ensures { IsOctets (addr_octets prefix.now.addr) }
+{
+    are_octets(prefix.addr.octets());
+}
+
 /// Shows that the prefixes are of octets.
 fn have_octets(prefixes: &[Prefix])
     ensures { All (λ prefix. IsOctets (addr_octets prefix.addr)) prefixes.now }
 {
     for prefix in prefixes {
-        are_octets(prefix.addr.octets());
+        has_octets(prefix);
+    }
+}
+
+/// Shows that the prefixes of the site are of octets.
+fn site_has_octets(site: &Site)
+    ensures { All (λ prefix. IsOctets (addr_octets prefix.addr)) site.now.prefixes }
+{
+    have_octets(site.prefixes.as_slice());
+}
+
+/// Shows that the prefixes of all sites are of octets.
+fn sites_have_octets(sites: &[Site])
+    ensures { All (λ site. All (λ prefix. IsOctets (addr_octets prefix.addr)) site.prefixes) sites.now }
+{
+    for site in sites {
+        site_has_octets(site);
     }
 }
 
 /// A copy of the sites.
 fn copied_sites(alloc: Global, sites: &[Site]) -> Result<Sites, NoMemory>
-    ensures copy { IfOk result (λ copy. copy ≡ sites.now) }
-    ensures octets { OnOk result (All (λ site. All (λ prefix. IsOctets (addr_octets prefix.addr)) site.prefixes) sites.now) }
+    ensures { IfOk result (λ copy. copy ≡ sites.now) }
 {
     let mut copy = Seq::new(alloc);
     for site in sites {
-        have_octets(site.prefixes.as_slice());
         let prefixes = copied(alloc, &site.prefixes)?;
         copy.push(Site {
             name: site.name,
@@ -49,6 +70,7 @@ pub(crate) fn copied_scenario(alloc: Global, scenario: &Scenario) -> Result<Scen
     ensures copy { IfOk result (λ copy. copy ≡ scenario.now) }
     ensures octets { OnOk result (HasPrefixes scenario.now) }
 {
+    sites_have_octets(scenario.sites.as_slice());
     Ok(Scenario {
         life: scenario.life,
         delay: scenario.delay,

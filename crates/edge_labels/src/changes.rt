@@ -17,11 +17,18 @@ pub struct LeafChange {
     pub wanted: bool,
 }
 
+/// Whether both are one tree.
+fn is_same(own: &Fec, other: &Fec) -> bool
+    ensures { result ≡ same_fec other.now own.now }
+{
+    *own == *other
+}
+
 /// Whether the tree is one of these.
 fn is_among(fec: &Fec, fecs: &[Fec]) -> bool
     ensures { result ≡ list_any (same_fec fec.now) fecs.now }
 {
-    fecs.iter().any(|own| own == fec)
+    fecs.iter().any(|own| is_same(own, fec))
 }
 
 /// Appends the change of the tree, where there is one.

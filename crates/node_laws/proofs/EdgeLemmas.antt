@@ -81,7 +81,7 @@ module _ (me : NodeId) where
       let octets : List ℕ = waiting_at waiting session ++ (update_unit change).octets in
       one_stays to more (maps.insert waiting session octets) peer ∙ waiting_then waiting session (label_session peer) octets
 
-  each_stays : (told : NodeId → List (Change Key Value)) (peers : List NodeId) (waiting : FinMap peer_cmp (List ℕ)) (peer : NodeId)
+  pub each_stays : (told : NodeId → List (Change Key Value)) (peers : List NodeId) (waiting : FinMap peer_cmp (List ℕ)) (peer : NodeId)
       → waiting_at (with_puts (flat_map (λ to. map (bgp_put me to) (told to)) peers) waiting) (label_session peer) ≡ waiting_at waiting (label_session peer)
   each_stays told [] waiting peer = refl
   each_stays told (to ∷ more) waiting peer =
@@ -94,16 +94,16 @@ bgp_stays place old new waiting own same = λ peer. each_stays place.me (put_to 
 -- ---- a step
 
 module _ (place : EdgePlace) (now : ℕ) (call : Call) where
-  abbrev after : EdgeState → EdgeStepped → EdgeState
+  abbrev pub after : EdgeState → EdgeStepped → EdgeState
   after old new = record (prepared call old) { edge = new.edge; waiting = with_puts (edge_puts place now old.edge new) (prepared call old).waiting }
 
-  edge_called : (old : EdgeState) (o : Option EdgeStepped) → old.spent ≡ None → edge_step place now old.edge call ≡ o → called place now old call ≡ behind place now (prepared call old) o
+  pub edge_called : (old : EdgeState) (o : Option EdgeStepped) → old.spent ≡ None → edge_step place now old.edge call ≡ o → called place now old call ≡ behind place now (prepared call old) o
   edge_called old o e h =
       (λ i. called_unless (e i) place now old call)
       ∙ (λ i. stepped_unless ((edge_spent call old ∙ e) i) place now (prepared call old) call)
       ∙ (λ i. behind place now (prepared call old) ((ap (λ (d : EdgeData). edge_step place now d call) (edge_data call old) ∙ h) i))
 
-  edge_after : (old : EdgeState) (new : EdgeStepped) → old.spent ≡ None → edge_step place now old.edge call ≡ Some new → called place now old call ≡ after old new
+  pub edge_after : (old : EdgeState) (new : EdgeStepped) → old.spent ≡ None → edge_step place now old.edge call ≡ Some new → called place now old call ≡ after old new
   edge_after old new e h = edge_called old (Some new) e h
       ∙ (λ i. record (prepared call old) { edge = new.edge; waiting = with_puts (edge_puts place now (edge_data call old i) new) (prepared call old).waiting })
 

@@ -2,3 +2,5 @@ pub mod PlaceLemmas
 pub mod OctetLemmas
 pub mod RowLemmas
 pub mod EdgeLemmas
+pub mod PeerLemmas
+pub mod TakenLemmas

@@ -21,12 +21,12 @@ use Rattle.node_defs.specs.EdgeState.{waiting_at, with_puts}
 use Rattle.node_defs.specs.Puts.{label_put}
 use Rattle.node_laws.specs.Places.{AreLabelOctets, label_session}
 
-peer_total : IsTotalOrder peer_cmp
+pub peer_total : IsTotalOrder peer_cmp
 peer_total = on_total (λ (session : PeerSession). kind_number session.kind ∷ session.peer.0 ∷ []) nat_list_cmp_total
 
 -- ---- one session
 
-then_equal : (o : Ordering) → is_eq (ordering_then o Equal) ≡ is_eq o
+pub then_equal : (o : Ordering) → is_eq (ordering_then o Equal) ≡ is_eq o
 then_equal Less = refl
 then_equal Equal = refl
 then_equal Greater = refl

@@ -6,7 +6,7 @@ ghost use Rattle.bgp_attributes.specs.declared.update.Change.TheVariants.{Reach,
 ghost use Rattle.bgp_update.specs.Table.{announced, unannounced};
 ghost use Rattle.bgp_update.specs.Written.{IsWritableAdvert, IsWritableKey};
 ghost use Rattle.edge_streams.specs.Spelled.{SaysWritable};
-ghost use Rattle.edge_defs.specs.Steps.{Update, effect};
+ghost use Rattle.edge_defs.specs.Steps as steps;
 ghost use Rattle.edge_home.specs.Home.{place_of};
 ghost use Rattle.control_laws.specs.Control.{control_of};
 ghost use Rattle.edge_updates.specs.Inclusive.{AreTunnels};
@@ -138,7 +138,7 @@ pub fn take_update(
 ) -> Result<Vec<Fec>, NoMemory>
     requires writable { SaysWritable message }
     ensures taken { (core : Core) → OnOk result (
-        control_of control.new ≡ effect (place_of control.old.home core) now (control_of control.old) (Update peer message)) }
+        control_of control.new ≡ steps.effect (place_of control.old.home core) now (control_of control.old) (steps.Update peer message)) }
     ensures home { control.new.home ≡ control.old.home }
     ensures tunnels { (core : Core) → IfOk result (λ fecs.
         AreTunnels (place_of control.old.home core) (control_of control.old) (control_of control.new) fecs.items) }

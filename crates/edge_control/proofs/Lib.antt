@@ -1,3 +1,6 @@
+pub mod RefreshJoins
+pub mod RefreshTrees
+pub mod RefreshMade
 pub mod PeerTurns
 pub mod PeerKinds
 pub mod PeerSound
@@ -6,6 +9,7 @@ pub mod PeerTaken
 pub mod PeerAnnounced
 pub mod CountLemmas
 pub mod SoundLemmas
+pub mod WantLemmas
 pub mod PlaceLemmas
 pub mod CallLemmas
 pub mod SelectLemmas

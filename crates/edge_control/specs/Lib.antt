@@ -3,3 +3,4 @@ pub mod Taking
 pub mod Places
 pub mod Start
 pub mod Timers
+pub mod Refreshing

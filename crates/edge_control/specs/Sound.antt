@@ -1,11 +1,12 @@
 -- What is kept of customers and peers, its code, and what holds of it.
-use Rattle.std.specs.Prelude.{◌≡◌, ◌<◌, true, List, length, is_some, refl}
+use Rattle.std.specs.Prelude.{◌≡◌, ◌<◌, true, List, length, map, is_some, refl}
 use Rattle.std.specs.Coded.{Coded, code_by, coded×, coded_list}
 use Rattle.std.specs.List.{AllByRecursion}
 use Rattle.std.specs.FinMap as maps
 use Rattle.std.specs.FinMap.{FinMap}
+use Rattle.std.specs.FinSet.{FinSet}
 use Rattle.mv_base.specs.declared.ids.NodeId.{NodeId}
-use Rattle.label_defs.specs.Keys.{node_cmp}
+use Rattle.label_defs.specs.Keys.{fec_cmp, node_cmp}
 use Rattle.edge_defs.specs.Edge.{Taken}
 use Rattle.edge_home.specs.Home.{Home, home_code, IsHome}
 use Rattle.tree_defs.specs.Trees.{TreeData}
@@ -21,6 +22,10 @@ kept_of home trees peers = record { home = home; trees = trees; peers = peers }
 abbrev pub kept_code : Coded Kept
 kept_code = code_by (Home × (List TreeData × FinMap node_cmp Taken)) (coded× home_code (coded× (coded_list tree_code) tables_code))
     (λ k. (k.home, (k.trees, k.peers))) (λ p. record { home = p.0; trees = p.1.0; peers = p.1.1 }) (λ _. refl)
+
+-- the tunnels that each of the trees wants
+abbrev pub wants_of : List TreeData → List (FinSet fec_cmp)
+wants_of trees = map (λ tree. tree.wants) trees
 
 -- no pattern is selected twice in the VRF
 abbrev pub IsSingle : TreeData → Type 0

@@ -7,6 +7,7 @@ ghost use Rattle.edge_defs.specs.Steps.{Timers, effect, peers_run};
 ghost use Rattle.edge_home.specs.Home.{place_of};
 ghost use Rattle.edge_home.specs.declared.own_vrf.OwnVrf.{OwnVrf};
 ghost use Rattle.control_laws.specs.Control.{control_of};
+ghost use Rattle.edge_control.specs.Sound.{wants_of};
 ghost use Rattle.edge_control.specs.Timers.{all_run};
 
 use crate::control::EdgeControl;
@@ -68,6 +69,7 @@ impl EdgeControl {
         ensures run { (core : Core) → OnOk result (control_of self.new
             ≡ effect (place_of self.old.home core) now (control_of self.old) Timers) }
         ensures home { self.new.home ≡ self.old.home }
+        ensures wants { wants_of self.new.trees ≡ wants_of self.old.trees }
         ensures unchanged { OnErr result (self.new ≡ self.old) }
     {
         run_taken(&mut self.taken, self.alloc, &self.home, now)?;

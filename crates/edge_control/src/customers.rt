@@ -7,6 +7,7 @@ ghost use Rattle.edge_defs.specs.Steps.{Active, Idle, Pim, effect};
 ghost use Rattle.edge_home.specs.Home.{place_of};
 ghost use Rattle.control_laws.specs.Control.{control_of};
 ghost use Rattle.edge_control.specs.Places.{IsPlace, is_note_too_many, is_own_iface, note_limit};
+ghost use Rattle.edge_control.specs.Sound.{wants_of};
 ghost use Rattle.edge_control.specs.declared.fault.ControlFault.TheVariants as ControlFault;
 
 use crate::control::EdgeControl;
@@ -59,6 +60,7 @@ impl EdgeControl {
         ensures taken { (core : Core) → OnOk result (control_of self.new
             ≡ effect (place_of self.old.home core) now (control_of self.old) (Pim iface message.now)) }
         ensures home { self.new.home ≡ self.old.home }
+        ensures wants { wants_of self.new.trees ≡ wants_of self.old.trees }
         ensures memory { OnErr result (result ≡ Err ControlFault.NoMemory) }
         ensures unchanged { OnErr result (self.new ≡ self.old) }
     {
@@ -77,6 +79,7 @@ impl EdgeControl {
         ensures taken { (core : Core) → OnOk result (control_of self.new
             ≡ effect (place_of self.old.home core) now (control_of self.old) (Pim iface message.now)) }
         ensures home { self.new.home ≡ self.old.home }
+        ensures wants { wants_of self.new.trees ≡ wants_of self.old.trees }
         ensures fits { OnOk result (are_too_many (applied (control_of self.old).entries iface message.now now) ≡ false) }
         ensures full { result ≡ Err ControlFault.Full →
             are_too_many (applied (control_of self.old).entries iface message.now now) ≡ true }
@@ -112,6 +115,7 @@ impl EdgeControl {
         ensures noted { (core : Core) (now : ℕ) → OnOk result (control_of self.new
             ≡ effect (place_of self.old.home core) now (control_of self.old) (Active iface source group)) }
         ensures home { self.new.home ≡ self.old.home }
+        ensures wants { wants_of self.new.trees ≡ wants_of self.old.trees }
         ensures memory { OnErr result (result ≡ Err ControlFault.NoMemory) }
         ensures unchanged { OnErr result (self.new ≡ self.old) }
     {
@@ -124,6 +128,7 @@ impl EdgeControl {
         ensures noted { (core : Core) (now : ℕ) → OnOk result (control_of self.new
             ≡ effect (place_of self.old.home core) now (control_of self.old) (Active iface source group)) }
         ensures home { self.new.home ≡ self.old.home }
+        ensures wants { wants_of self.new.trees ≡ wants_of self.old.trees }
         ensures fits { OnOk result (is_note_too_many (control_of self.old) iface source group ≡ false) }
         ensures full { result ≡ Err ControlFault.Full → is_note_too_many (control_of self.old) iface source group ≡ true }
         ensures unchanged { OnErr result (self.new ≡ self.old) }
@@ -141,6 +146,7 @@ impl EdgeControl {
         ensures unnoted { (core : Core) (now : ℕ) → control_of self.new
             ≡ effect (place_of self.old.home core) now (control_of self.old) (Idle iface source group) }
         ensures home { self.new.home ≡ self.old.home }
+        ensures wants { wants_of self.new.trees ≡ wants_of self.old.trees }
     {
         let place = place_of_iface(&self.home, iface);
         unnote_at(&mut self.trees, place, iface, source, group);

@@ -8,6 +8,7 @@ ghost use Rattle.edge_defs.specs.Steps.{Select, Unselect, effect};
 ghost use Rattle.edge_home.specs.Home.{place_of};
 ghost use Rattle.control_laws.specs.Control.{control_of};
 ghost use Rattle.edge_control.specs.Places.{IsPlace, is_own_vrf, is_selection_too_many, number_behind, selection_limit, vrfs_of};
+ghost use Rattle.edge_control.specs.Sound.{wants_of};
 ghost use Rattle.edge_control.specs.declared.fault.ControlFault.TheVariants as ControlFault;
 
 use crate::control::EdgeControl;
@@ -68,6 +69,7 @@ impl EdgeControl {
         ensures number { (own : OwnVrf) → Among own (vrfs_of self.old.home) → own.id ≡ vrf →
             IfOk result (λ lsp. lsp ≡ tunnel_number own.vrf (number_behind (control_of self.old) vrf)) }
         ensures home { self.new.home ≡ self.old.home }
+        ensures wants { wants_of self.new.trees ≡ wants_of self.old.trees }
         ensures memory { OnErr result (result ≡ Err ControlFault.NoMemory) }
         ensures unchanged { OnErr result (self.new ≡ self.old) }
     {
@@ -85,6 +87,7 @@ impl EdgeControl {
         ensures number { (own : OwnVrf) → Among own (vrfs_of self.old.home) → own.id ≡ vrf →
             IfOk result (λ lsp. lsp ≡ tunnel_number own.vrf (number_behind (control_of self.old) vrf)) }
         ensures home { self.new.home ≡ self.old.home }
+        ensures wants { wants_of self.new.trees ≡ wants_of self.old.trees }
         ensures fits { OnOk result (is_selection_too_many (control_of self.old) ≡ false) }
         ensures full { result ≡ Err ControlFault.Full → is_selection_too_many (control_of self.old) ≡ true }
         ensures unchanged { OnErr result (self.new ≡ self.old) }
@@ -102,6 +105,7 @@ impl EdgeControl {
         ensures unselected { (core : Core) (now : ℕ) → control_of self.new
             ≡ effect (place_of self.old.home core) now (control_of self.old) (Unselect vrf pattern) }
         ensures home { self.new.home ≡ self.old.home }
+        ensures wants { wants_of self.new.trees ≡ wants_of self.old.trees }
     {
         let place = place_of_vrf(&self.home, vrf);
         unselect_at(&mut self.trees, place, pattern);

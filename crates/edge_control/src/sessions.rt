@@ -5,6 +5,7 @@ ghost use Rattle.scenario_defs.specs.declared.event.Kind.TheVariants.{Bgp};
 ghost use Rattle.edge_defs.specs.Steps.{Noticed, Raised, effect};
 ghost use Rattle.edge_home.specs.Home.{place_of};
 ghost use Rattle.control_laws.specs.Control.{control_of};
+ghost use Rattle.edge_control.specs.Sound.{wants_of};
 
 use crate::control::EdgeControl;
 use crate::lost::lose_in;
@@ -16,6 +17,7 @@ impl EdgeControl {
         ensures lost { (core : Core) (now : ℕ) →
             control_of self.new ≡ effect (place_of self.old.home core) now (control_of self.old) (Noticed Bgp peer) }
         ensures home { self.new.home ≡ self.old.home }
+        ensures wants { wants_of self.new.trees ≡ wants_of self.old.trees }
     {
         lose_in(&self.home, &mut self.trees, &self.taken, peer);
         self.taken.lose(peer);
@@ -30,6 +32,7 @@ impl EdgeControl {
         ensures lost { (core : Core) (now : ℕ) → OnErr result (
             control_of self.new ≡ effect (place_of self.old.home core) now (control_of self.old) (Noticed Bgp peer)) }
         ensures home { self.new.home ≡ self.old.home }
+        ensures wants { wants_of self.new.trees ≡ wants_of self.old.trees }
     {
         lose_in(&self.home, &mut self.trees, &self.taken, peer);
         self.taken.lose(peer);

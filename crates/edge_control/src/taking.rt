@@ -9,6 +9,7 @@ ghost use Rattle.edge_defs.specs.Steps.{taken_change};
 ghost use Rattle.taken_tables.specs.Routes.{handed};
 ghost use Rattle.taken_tables.specs.Tables.{changed_at, is_news, reach, route_at};
 ghost use Rattle.control_laws.specs.Control.{control_of};
+ghost use Rattle.edge_control.specs.Sound.{wants_of};
 ghost use Rattle.edge_control.specs.Taking.{coming, dropping, turned_all};
 
 use crate::control::EdgeControl;
@@ -94,6 +95,7 @@ impl EdgeControl {
           peers = changed_at peer (λ taken. taken_change now taken (Unreach key.now)) self.old.peers;
         } }
         ensures home { self.new.home ≡ self.old.home }
+        ensures wants { wants_of self.new.trees ≡ wants_of self.old.trees }
     {
         spelled(key);
         drop_in(&self.home, &mut self.trees, &self.taken, peer, key);
@@ -114,6 +116,7 @@ impl EdgeControl {
         }) }
         ensures unchanged { OnErr result (control_of self.new ≡ control_of self.old) }
         ensures home { self.new.home ≡ self.old.home }
+        ensures wants { wants_of self.new.trees ≡ wants_of self.old.trees }
     {
         spelled(key);
         match self.taken.learn(peer, *key, value, now) {
@@ -145,6 +148,7 @@ impl EdgeControl {
         }) }
         ensures news { OnErr result (is_news (handed value) (route_at self.old.peers peer key.now) ≡ true) }
         ensures home { self.new.home ≡ self.old.home }
+        ensures wants { wants_of self.new.trees ≡ wants_of self.old.trees }
     {
         if !is_news(&self.taken, peer, key, &value) {
             return Ok(());

@@ -107,7 +107,7 @@ module _ (place : EdgePlace) (now : ℕ) (call : Call) where
   edge_after old new e h = edge_called old (Some new) e h
       ∙ (λ i. record (prepared call old) { edge = new.edge; waiting = with_puts (edge_puts place now (edge_data call old i) new) (prepared call old).waiting })
 
-  abbrev made_by : EdgeState → List LabelStep → EdgeStepped
+  abbrev pub made_by : EdgeState → List LabelStep → EdgeStepped
   made_by old row = record { edge = record { control = control_step place now old.edge.control call; part = part_after old.edge.part row }; row = row }
 
   pub node_behind : (old : EdgeState) (node : LabelNode) (new : EdgeStepped) → IsLabelNode old node → old.spent ≡ None → edge_step place now old.edge call ≡ Some new

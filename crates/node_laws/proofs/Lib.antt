@@ -4,3 +4,4 @@ pub mod RowLemmas
 pub mod EdgeLemmas
 pub mod PeerLemmas
 pub mod TakenLemmas
+pub mod PartLemmas

@@ -51,9 +51,9 @@ is_news_at tables peer key value = elim (maps.get tables peer) [ None ↦ false 
 
 -- ---- keys
 
--- a key that has a spelling, and whose prefix is octets, as it is in any program
-abbrev pub IsSpelledKey : Key → Type 0
-IsSpelledKey key = IsWritableKey key × HasOctets key
+-- The key has a spelling, and its prefix is octets, as it is in any program.
+pub data IsSpelledKey (key : Key) : Type 0 where
+  Spelled : (writable : IsWritableKey key) → (octets : HasOctets key) → IsSpelledKey key
 
 -- each key is such a one
 abbrev pub IsSpelled : Taken → Type 0

@@ -12,7 +12,7 @@ use Rattle.tree_defs.specs.declared.flow.Flow.{Flow}
 use Rattle.tree_defs.specs.Keys.{same_flow}
 use Rattle.tree_defs.proofs.KeyLemmas.{same_flow_equal, same_flow_symmetric}
 use Rattle.vrf_flows.specs.declared.held.Held.{Held}
-use Rattle.vrf_flows.specs.Held.{touches, mark, marked, held_too, differ, lapsed, Now}
+use Rattle.vrf_flows.specs.Held.{touches, mark, marked, unknown, held_too, forgotten, differ, lapsed, Now}
 use Rattle.vrf_flows.specs.Plan.{put_at, puts, sets, replan, planned, gain, loss, settled, settled_by}
 
 -- ---- marks
@@ -37,27 +37,53 @@ marked-not (Some held) = ap (λ (s : Bool). Some (record { stale = s; kept = hel
 pub marks-more : {X : Type 0} (test : X → Bool) (xs : List X) (i : ℕ) (d : X) (old mid new : Option Held) → i < length xs → mid ≡ marked (list_any test (take i xs)) old → new ≡ marked (test (get_or xs i d)) mid → new ≡ marked (list_any test (take (i + 1) xs)) old
 marks-more test xs i d old mid new l m n = n ∙ (ap (marked (test (get_or xs i d))) m ∙ (marked-again (list_any test (take i xs)) (test (get_or xs i d)) old ∙ ap (λ (b : Bool). marked b old) (sym (list_any_more test xs i d l))))
 
--- ---- marks on all that a test passes
+-- ---- a change of all that is held
 
-abbrev pub mark_each : (Flow → Bool) → List (Flow × Held) → List (Flow × Held)
-mark_each test es = map (λ (e : Flow × Held). (e.0, mark (test e.0) e.1)) es
+abbrev pub change_each : (Flow → Held → Held) → List (Flow × Held) → List (Flow × Held)
+change_each change es = map (λ (e : Flow × Held). (e.0, change e.0 e.1)) es
 
-module _ {F : Type 0} (T : F → Flow → Held → Bool → Held → F → Type 0) (test : Flow → Bool) (f : F)
-    (says : (k : Flow) (v : Held) (b : Bool) (w : Held) (g : F) → T f k v b w g → (b ≡ true) × (w ≡ mark (test k) v) × (g ≡ f)) where
-  pub retained : (es kept : List (Flow × Held)) → RetainsPairs T f es kept → kept ≡ mark_each test es
+module _ {F : Type 0} (T : F → Flow → Held → Bool → Held → F → Type 0) (change : Flow → Held → Held) (f : F)
+    (says : (k : Flow) (v : Held) (b : Bool) (w : Held) (g : F) → T f k v b w g → (b ≡ true) × (w ≡ change k v) × (g ≡ f)) where
+  pub retained : (es kept : List (Flow × Held)) → RetainsPairs T f es kept → kept ≡ change_each change es
   retained [] kept h = h
   retained (e ∷ es) kept h =
       let s = says e.0 e.1 h.0 h.1 h.2 h.4 in
       let rest = retained es h.3 (subst (λ g. RetainsPairs T g es h.3) s.2 h.5) in
       h.6 ∙ (λ j. cond (s.0 j) ((e.0, s.1 j) ∷ rest j) (rest j))
 
-pub lookup-marked : (test : Flow → Bool) (es : List (Flow × Held)) (q : Flow) → lookup (same_flow q) (mark_each test es) ≡ marked (test q) (lookup (same_flow q) es)
-lookup-marked test [] q = refl
-lookup-marked test (e ∷ es) q = by (same_flow q e.0) refl (lookup-marked test es q)
+-- what a change makes of a flow that is held
+abbrev pub changed_by : (Flow → Held → Held) → Flow → Option Held → Option Held
+changed_by change q None = None
+changed_by change q (Some held) = Some (change q held)
+
+lookup-changed : (change : Flow → Held → Held) (es : List (Flow × Held)) (q : Flow) → lookup (same_flow q) (change_each change es) ≡ changed_by change q (lookup (same_flow q) es)
+lookup-changed change [] q = refl
+lookup-changed change (e ∷ es) q = by (same_flow q e.0) refl (lookup-changed change es q)
   where
-    by : (b : Bool) → same_flow q e.0 ≡ b → lookup (same_flow q) (mark_each test es) ≡ marked (test q) (lookup (same_flow q) es) → cond b (Some (mark (test e.0) e.1)) (lookup (same_flow q) (mark_each test es)) ≡ marked (test q) (cond b (Some e.1) (lookup (same_flow q) es))
-    by true h rest = ap (λ (k : Flow). Some (mark (test k) e.1)) (sym (same_flow_equal q e.0 h))
+    by : (b : Bool) → same_flow q e.0 ≡ b → lookup (same_flow q) (change_each change es) ≡ changed_by change q (lookup (same_flow q) es) →
+        cond b (Some (change e.0 e.1)) (lookup (same_flow q) (change_each change es)) ≡ changed_by change q (cond b (Some e.1) (lookup (same_flow q) es))
+    by true h rest = ap (λ (k : Flow). Some (change k e.1)) (sym (same_flow_equal q e.0 h))
     by false h rest = rest
+
+abbrev pub mark_by : (Flow → Bool) → Flow → Held → Held
+mark_by test q held = mark (test q) held
+
+pub lookup-marked : (test : Flow → Bool) (es : List (Flow × Held)) (q : Flow) → lookup (same_flow q) (change_each (mark_by test) es) ≡ marked (test q) (lookup (same_flow q) es)
+lookup-marked test es q = lookup-changed (mark_by test) es q ∙ by (lookup (same_flow q) es)
+  where
+    by : (o : Option Held) → changed_by (mark_by test) q o ≡ marked (test q) o
+    by None = refl
+    by (Some held) = refl
+
+abbrev pub forget_by : Flow → Held → Held
+forget_by q held = unknown
+
+pub lookup-forgotten : (es : List (Flow × Held)) (q : Flow) → lookup (same_flow q) (change_each forget_by es) ≡ forgotten (lookup (same_flow q) es)
+lookup-forgotten es q = lookup-changed forget_by es q ∙ by (lookup (same_flow q) es)
+  where
+    by : (o : Option Held) → changed_by forget_by q o ≡ forgotten o
+    by None = refl
+    by (Some held) = refl
 
 -- ---- rows of puts
 
@@ -140,6 +166,16 @@ sets-lookup {X} {Y} give (e ∷ es) old q h = by (same_flow q e.0) refl (sets-lo
 pub settle-end : (needed : Flow → Bool) (q : Flow) (next : Option Now) (old : Option Held) → given_or (λ flow now. settled_by (needed flow) now) q next old ≡ settled (needed q) next old
 settle-end needed q None old = refl
 settle-end needed q (Some now) old = refl
+
+-- A flow that is needed stays held where it is settled, or another one.
+pub settled-held : (needed : Flow → Bool) (flow q : Flow) (kept : Now) (old new : Option Held) → needed q ≡ true → is_some old ≡ true →
+    new ≡ cond (same_flow flow q) (settled_by (needed flow) kept) old → is_some new ≡ true
+settled-held needed flow q kept old new need held n = ap is_some n ∙ by (same_flow flow q) refl kept
+  where
+    by : (b : Bool) → same_flow flow q ≡ b → (kept : Now) → is_some (cond b (settled_by (needed flow) kept) old) ≡ true
+    by false s kept = held
+    by true s (Some kept) = refl
+    by true s None = ap (λ (b : Bool). is_some {T = Held} (cond b (Some (record { stale = false; kept = None })) None)) (ap needed (same_flow_equal flow q s) ∙ need)
 
 -- ---- one flow
 

@@ -1,9 +1,9 @@
 -- The state as plain data.
-use Rattle.std.proofs.Common.{◌≡◌, ℕ, Result, Ok, Err, OnErr, Bool, true, false, cond, ◌||◌, List, [], ◌∷◌, filter, Option, None, Some, refl, sym, ap, subst, ◌∙◌}
+use Rattle.std.proofs.Common.{◌≡◌, ℕ, is_some, Result, Ok, Err, OnErr, Bool, true, false, cond, ◌||◌, List, [], ◌∷◌, filter, Option, None, Some, refl, sym, ap, subst, ◌∙◌}
 use Rattle.std.specs.List.{list_any, AllByRecursion, IsDistinct}
 use Rattle.std.specs.Map.{lookup, keys_of}
 use Rattle.std.specs.FinMap as maps
-use Rattle.std.specs.FinMap.{find, from_entries, get-from_entries, same_map}
+use Rattle.std.specs.FinMap.{find, from_entries, get-empty, get-from_entries, same_map}
 use Rattle.std.proofs.lemmas.Bool.{or_parts}
 use Rattle.std.proofs.lemmas.Map.Keys.{IsDistinct-head, IsDistinct-tail}
 use Rattle.scenario_defs.specs.declared.event.IfaceEntry.{IfaceEntry}
@@ -25,7 +25,7 @@ use Rattle.tree_defs.proofs.KeyLemmas.{flow_total, flow_exact, flow_ties, same_f
 use Rattle.vrf_flows.specs.declared.held.Held.{Held}
 use Rattle.vrf_flows.specs.declared.held.Kept.{Kept}
 use Rattle.vrf_flows.specs.declared.state.State.{State}
-use Rattle.vrf_flows.specs.Held.{FlowTable, Now, is_stale, kept_of, lapsed, marked}
+use Rattle.vrf_flows.specs.Held.{FlowTable, Now, forgotten, is_stale, kept_of, lapsed, marked}
 use Rattle.vrf_flows.specs.Sight.{asking_of, flow_by, ifaces_of, is_sent}
 use Rattle.vrf_flows.specs.Plan.{choice_in}
 use Rattle.vrf_flows.specs.State.{IsSentBy, IsSound, Keeps, compares_costs, flows_in, given_at, needed_in, vrf_of}
@@ -143,6 +143,59 @@ mid-kept old held es now each q = kept-change _ _ _ (each q) ∙ kept-change (co
 -- the choice of a flow before, by what is kept of it
 pub before-flow : (old : State) (kept : Now) (q : Flow) → IsUnique same_flow old.flows → kept ≡ kept_of (get same_flow old.flows q) → choice_in kept ≡ maps.get (vrf_of old).flows q
 before-flow old kept q unique e = ap choice_in e ∙ sym (flows-got old.flows q unique)
+
+-- ---- want of memory
+
+some-marked : (touched : Bool) (held : Option Held) → is_some (marked touched held) ≡ is_some held
+some-marked touched None = refl
+some-marked touched (Some held) = refl
+
+-- A flow that is needed is held then.
+pub mid-held : (old : State) (held : Flow → Option Held) (es : List (IfaceEntry × Expiry)) (now : ℕ) → IsSound old →
+    ((q : Flow) → held q ≡ marked (list_any (lapsed old.clock now q) es) (marked (compares_costs old.rule) (get same_flow old.flows q))) → (q : Flow) → needed_in old q ≡ true → is_some (held q) ≡ true
+mid-held old held es now sound each q need =
+    ap is_some (each q)
+    ∙ (some-marked (list_any (lapsed old.clock now q) es) (marked (compares_costs old.rule) (get same_flow old.flows q))
+    ∙ (some-marked (compares_costs old.rule) (get same_flow old.flows q) ∙ sound.keeps.needed q need))
+
+some-forgotten : (held : Option Held) → is_some (forgotten held) ≡ is_some held
+some-forgotten None = refl
+some-forgotten (Some held) = refl
+
+none-kept : (held : Option Held) → kept_of (forgotten held) ≡ None
+none-kept None = refl
+none-kept (Some held) = refl
+
+-- Where nothing is kept there are no flows.
+pub no-flows : (old new : FlowTable) → IsUnique same_flow new → ((q : Flow) → get same_flow new q ≡ forgotten (get same_flow old q)) → from_entries {R = flow_cmp} (flows_in new.entries) ≡ maps.empty
+no-flows old new unique each = same_map flow_total flow_exact _ _ (λ q.
+    flows-got new q unique ∙ (ap (λ (held : Option Held). choice_in (kept_of held)) (each q) ∙ (ap choice_in (none-kept (get same_flow old q)) ∙ sym (get-empty flow_cmp q))))
+
+-- What is forgotten is not known, and what is needed stays held.
+forgotten-keeps : (held next : Flow → Option Held) (given : Flow → Now) (needs : Flow → Bool) → ((q : Flow) → needs q ≡ true → is_some (held q) ≡ true) → ((q : Flow) → next q ≡ forgotten (held q)) →
+    ((q : Flow) → needs q ≡ false → given q ≡ None) → Keeps next given needs
+forgotten-keeps held next given needs there each none = record {
+  fresh = λ q h. ap kept_of (each q) ∙ (none-kept (held q) ∙ sym (none q (unneeded (held q) (needs q) (ap is_stale (sym (each q)) ∙ h) (there q))));
+  needed = λ q h. ap is_some (each q) ∙ (some-forgotten (held q) ∙ there q h);
+}
+  where
+    unneeded : (held : Option Held) (need : Bool) → is_stale (forgotten held) ≡ false → (need ≡ true → is_some held ≡ true) → need ≡ false
+    unneeded (Some held) need fresh there = absurd cc
+    unneeded None false fresh there = refl
+    unneeded None true fresh there = sym (there refl)
+
+-- The state stays sound where all flows are forgotten, whatever was held, as long as the needed ones were.
+pub forgotten-sound : (old mid : State) (flows : FlowTable) → IsSound old → mid ≡ record old { flows = mid.flows; clock = mid.clock } →
+    ((q : Flow) → needed_in old q ≡ true → is_some (get same_flow mid.flows q) ≡ true) → IsUnique same_flow flows → ((q : Flow) → get same_flow flows q ≡ forgotten (get same_flow mid.flows q)) →
+    IsSound (record mid { flows = flows })
+forgotten-sound old mid flows sound rest there unique each = subst (λ (state : State). IsSound (record state { flows = flows })) (sym rest) (record {
+  unique = unique;
+  rule = sound.rule;
+  sent = sound.sent;
+  cost = sound.cost;
+  keeps = forgotten-keeps (get same_flow mid.flows) (get same_flow flows) (given_at old sound.cost mid.clock) (needed_in old) there each
+      (λ q h. absent-none old.ifaces old.entries old.sent.keys (chosen_for old.routes sound.cost) mid.clock q h);
+})
 
 -- ---- answers
 

@@ -64,10 +64,19 @@ abbrev pub marked : Bool → Option Held → Option Held
 marked touched None = None
 marked touched (Some held) = Some (mark touched held)
 
+-- what is held of a flow of which nothing is known
+abbrev pub unknown : Held
+unknown = record { stale = true; kept = None }
+
 -- what is held of a flow, where it is to be held too
 abbrev pub held_too : Bool → Option Held → Option Held
-held_too here None = if here then Some (record { stale = true; kept = None }) else None
+held_too here None = if here then Some unknown else None
 held_too here (Some held) = Some held
+
+-- what is held of a flow, once nothing of what it was is kept
+abbrev pub forgotten : Option Held → Option Held
+forgotten None = None
+forgotten (Some held) = Some unknown
 
 -- whether a source of a group joins the flow itself
 abbrev pub joins_flow : Addr → Flow → JpSource → Bool

@@ -242,13 +242,13 @@ impl VrfFlows {
 
     /// Brings the flows up to date at the clock, in the core as the edge `me` knows it: they are those for which some interface
     /// asks, each with its upstream. It answers what changed since the last refresh. After want of memory nothing is said of
-    /// what is kept.
+    /// the flows; all else is as it was.
     pub fn refresh(&mut self, now: u64, me: NodeId, core: &Core) -> Result<FlowChanges, NoMemory>
         requires me { me.0 < core.now.nodes }
         requires peers { AreOfCore core.now.nodes self.old.routes.learned }
         ensures flows { (cost : NodeId → ℕ) → AreCosts core.now me cost → (q : Flow) →
             OnOk result (maps.get self.new.flows q ≡ flow_of self.old cost now q) }
-        ensures rest { OnOk result (self.new ≡ record self.old { flows = self.new.flows }) }
+        ensures rest { self.new ≡ record self.old { flows = self.new.flows } }
         ensures joins { (cost : NodeId → ℕ) → AreCosts core.now me cost → (q : Flow) → IfOk result (λ changes. get same_flow changes.joins q
             ≡ gained (upstream_of (maps.get self.old.flows q)) (upstream_of (flow_of self.old cost now q))) }
         ensures leaves { (cost : NodeId → ℕ) → AreCosts core.now me cost → (q : Flow) →
@@ -257,6 +257,13 @@ impl VrfFlows {
         ensures once { IfOk result (λ changes. (IsUnique same_flow changes.joins) × (IsUnique same_flow changes.leaves)) }
     {
         self.state.refresh(now, me, core)
+    }
+
+    /// Forgets the flows; all else is as it was, and the next refresh computes them anew. It takes no memory.
+    pub fn forget_flows(&mut self)
+        ensures { self.new ≡ record self.old { flows = maps.empty } }
+    {
+        self.state.forget_flows();
     }
 
     /// The edge that was joined for the source and group at the last refresh, with what its route says. It takes no memory.

@@ -4,7 +4,7 @@ ghost use Rattle.std.specs.List.{list_any};
 ghost use Rattle.indexmap.specs.IndexMap.{get, IsUnique};
 ghost use Rattle.tree_defs.specs.declared.flow.Flow.{Flow};
 ghost use Rattle.tree_defs.specs.Keys.{same_flow};
-ghost use Rattle.vrf_flows.specs.Held.{concerns, mark, marked, names, names_in, lapses, ends, lapsed, ended, differ};
+ghost use Rattle.vrf_flows.specs.Held.{concerns, mark, marked, forgotten, unknown, names, names_in, lapses, ends, lapsed, ended, differ};
 
 use crate::held::{Cause, FlowTable, Held, cause_of};
 use indexmap::IndexMap;
@@ -153,4 +153,21 @@ pub(crate) fn mark_ended(flows: &mut FlowTable, entries: &IndexMap<IfaceEntry, E
     for (at, expiry) in entries.iter() {
         mark_end(flows, at, *expiry, now);
     }
+}
+
+/// Keeps nothing of what the flows were, and marks them all. It takes no memory.
+pub(crate) fn forget(flows: &mut FlowTable)
+    requires unique { IsUnique same_flow flows.old }
+    ensures each { (q : Flow) → get same_flow flows.new q ≡ forgotten (get same_flow flows.old q) }
+    ensures unique { IsUnique same_flow flows.new }
+{
+    flows.retain(
+        |_flow: &Flow, held: &mut Held| -> bool
+            ensures { (result ≡ true) × (held.new ≡ unknown) }
+        {
+            held.stale = true;
+            held.kept = None;
+            true
+        },
+    );
 }

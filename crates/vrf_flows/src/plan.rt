@@ -1,5 +1,5 @@
 //! Which flows are computed anew, and what changes by it.
-ghost use Rattle.std.specs.Prelude.{◌≡◌, ◌<◌, ℕ, None, IfOk, OnOk, if◌then◌else◌};
+ghost use Rattle.std.specs.Prelude.{◌≡◌, ◌<◌, ℕ, is_some, true, None, IfOk, OnOk, OnErr, if◌then◌else◌};
 ghost use Rattle.indexmap.specs.IndexMap.{get, IsUnique};
 ghost use Rattle.mv_base.specs.declared.ids.NodeId.{NodeId};
 ghost use Rattle.umh_select.specs.Routes.{AreCosts, AreOfCore};
@@ -209,6 +209,7 @@ fn settle_flow(
     requires held { IsUnique same_flow flows.old }
     ensures each { (q : Flow) →
         OnOk result (get same_flow flows.new q ≡ (if same_flow flow q then settled_by needed kept else get same_flow flows.old q)) }
+    ensures unchanged { (q : Flow) → OnErr result (get same_flow flows.new q ≡ get same_flow flows.old q) }
     ensures unique { IsUnique same_flow flows.new }
 {
     match kept {
@@ -229,6 +230,7 @@ fn settle_none(flows: &mut FlowTable, flow: Flow, needed: bool) -> Result<(), No
     requires held { IsUnique same_flow flows.old }
     ensures each { (q : Flow) →
         OnOk result (get same_flow flows.new q ≡ (if same_flow flow q then settled_by needed None else get same_flow flows.old q)) }
+    ensures unchanged { (q : Flow) → OnErr result (get same_flow flows.new q ≡ get same_flow flows.old q) }
     ensures unique { IsUnique same_flow flows.new }
 {
     if needed {
@@ -244,12 +246,14 @@ fn settle_none(flows: &mut FlowTable, flow: Flow, needed: bool) -> Result<(), No
     }
 }
 
-/// Holds what the plan says.
+/// Holds what the plan says. A flow that is needed stays held, also after want of memory.
 pub(crate) fn settle(flows: &mut FlowTable, plan: Plan, sight: &Sight<'_>) -> Result<(), NoMemory>
     requires unique { IsUnique same_flow plan }
     requires held { IsUnique same_flow flows.old }
     ensures each { (q : Flow) →
         OnOk result (get same_flow flows.new q ≡ settled (needs sight.now q) (get same_flow plan q) (get same_flow flows.old q)) }
+    ensures held { (q : Flow) → needs sight.now q ≡ true → is_some (get same_flow flows.old q) ≡ true →
+        is_some (get same_flow flows.new q) ≡ true }
     ensures unique { IsUnique same_flow flows.new }
 {
     for (flow, kept) in plan {

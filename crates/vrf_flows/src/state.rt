@@ -1,6 +1,6 @@
 //! What a VRF keeps, with its flows as the last refresh left them.
 ghost use Rattle.std.specs.Prelude.{◌≡◌, ◌<◌, ◌≤◌, ◌^◌, ◌||◌, ◌++◌, [], ◌∷◌, ℕ, filter, map, min, true, false, if◌then◌else◌, Err};
-ghost use Rattle.std.specs.Prelude.{IfOk, IfSome, OnOk, OnErr};
+ghost use Rattle.std.specs.Prelude.{is_some, IfOk, IfSome, OnOk, OnErr};
 ghost use Rattle.std.specs.FinMap as maps;
 ghost use Rattle.std.specs.FinSet as sets;
 ghost use Rattle.std.specs.List.{list_any};
@@ -14,10 +14,10 @@ ghost use Rattle.tree_defs.specs.Keys.{same_flow};
 ghost use Rattle.tree_defs.specs.Flows.{asking, chosen_for, flow_of, gained, lost, is_from, is_noted, is_outside, outgoing, upstream_of};
 ghost use Rattle.vrf_flows.specs.Held.{lapsed, marked};
 ghost use Rattle.vrf_flows.specs.Sight.{ifaces_of, is_sent};
-ghost use Rattle.vrf_flows.specs.State.{IsSound, iface_in, no_vrf, compares_costs, given_at, is_announced_in, is_noted_in, vrf_of};
+ghost use Rattle.vrf_flows.specs.State.{IsSound, iface_in, no_vrf, compares_costs, given_at, is_announced_in, is_noted_in, needed_in, vrf_of};
 
 use crate::held::{Cause, FlowTable, Kept, hold, hold_entries, hold_message};
-use crate::marks::{mark, mark_between, mark_ended, mark_message};
+use crate::marks::{forget, mark, mark_between, mark_ended, mark_message};
 use crate::plan::{Joins, joined_before, joins_of, leaves_of, plan, settle};
 use crate::sight::{Sight, asking_now};
 use core_paths::Core;
@@ -357,7 +357,7 @@ impl State {
         ensures sound { IsSound self.new }
         ensures flows { (cost : NodeId → ℕ) → AreCosts core.now me cost → (q : Flow) →
             OnOk result (maps.get (vrf_of self.new).flows q ≡ flow_of (vrf_of self.old) cost now q) }
-        ensures rest { OnOk result (vrf_of self.new ≡ record (vrf_of self.old) { flows = (vrf_of self.new).flows }) }
+        ensures rest { vrf_of self.new ≡ record (vrf_of self.old) { flows = (vrf_of self.new).flows } }
         ensures joins { (cost : NodeId → ℕ) → AreCosts core.now me cost → (q : Flow) → IfOk result (λ changes. get same_flow changes.joins q
             ≡ gained (upstream_of (maps.get (vrf_of self.old).flows q)) (upstream_of (flow_of (vrf_of self.old) cost now q))) }
         ensures leaves { (cost : NodeId → ℕ) → AreCosts core.now me cost → (q : Flow) →
@@ -368,13 +368,13 @@ impl State {
         match self.refreshed(now, me, core) {
             Ok(changes) => Ok(changes),
             Err(fault) => {
-                *self = State::of(self.alloc, self.rule);
+                forget(&mut self.flows);
                 Err(fault)
             }
         }
     }
 
-    /// The same, but after want of memory nothing is known of what is held.
+    /// The same, but after want of memory nothing is known of the flows that are held but that the needed ones are among them.
     fn refreshed(&mut self, now: u64, me: NodeId, core: &Core) -> Result<FlowChanges, NoMemory>
         requires me { me.0 < core.now.nodes }
         requires peers { AreOfCore core.now.nodes self.old.routes.learned }
@@ -382,7 +382,9 @@ impl State {
         ensures sound { OnOk result (IsSound self.new) }
         ensures flows { (cost : NodeId → ℕ) → AreCosts core.now me cost → (q : Flow) →
             OnOk result (maps.get (vrf_of self.new).flows q ≡ flow_of (vrf_of self.old) cost now q) }
-        ensures rest { OnOk result (vrf_of self.new ≡ record (vrf_of self.old) { flows = (vrf_of self.new).flows }) }
+        ensures unique { IsUnique same_flow self.new.flows }
+        ensures held { (q : Flow) → needed_in self.old q ≡ true → is_some (get same_flow self.new.flows q) ≡ true }
+        ensures rest { self.new ≡ record self.old { flows = self.new.flows; clock = self.new.clock } }
         ensures joins { (cost : NodeId → ℕ) → AreCosts core.now me cost → (q : Flow) → IfOk result (λ changes. get same_flow changes.joins q
             ≡ gained (upstream_of (maps.get (vrf_of self.old).flows q)) (upstream_of (flow_of (vrf_of self.old) cost now q))) }
         ensures leaves { (cost : NodeId → ℕ) → AreCosts core.now me cost → (q : Flow) →
@@ -409,6 +411,15 @@ impl State {
         settle(&mut self.flows, plan, &sight)?;
         self.clock = now;
         Ok(FlowChanges { joins, leaves })
+    }
+
+    /// Keeps nothing of what the flows were.
+    pub(crate) fn forget_flows(&mut self)
+        requires sound { IsSound self.old }
+        ensures sound { IsSound self.new }
+        ensures forgotten { vrf_of self.new ≡ record (vrf_of self.old) { flows = maps.empty } }
+    {
+        forget(&mut self.flows);
     }
 
     /// Whether the flow's upstream is where a datagram comes from.

@@ -21,7 +21,7 @@ use selective::LeafTunnels;
 use std::alloc::Global;
 use vrf_flows::VrfFlows;
 
-/// Brings the flows and what they want up to date. After want of memory nothing is known of either.
+/// Brings the flows and what they want up to date. After want of memory nothing is known of these; all else is as it was.
 pub(crate) fn refresh(
     alloc: Global,
     flows: &mut VrfFlows,
@@ -37,7 +37,7 @@ pub(crate) fn refresh(
     ensures sound { OnOk result (IsSound leaf.now flows.new.flows wants.new) }
     ensures flows { (cost : NodeId → ℕ) → AreCosts core.now me cost → (q : Flow) →
         OnOk result (maps.get flows.new.flows q ≡ flow_of flows.old cost now q) }
-    ensures rest { OnOk result (flows.new ≡ record flows.old { flows = flows.new.flows }) }
+    ensures rest { flows.new ≡ record flows.old { flows = flows.new.flows } }
     ensures wants { OnOk result (sets.from_list {R = fec_cmp} (tunnels_in wants.new.entries)
         ≡ sets.from_list (wanted_by leaf.now flows.new.flows)) }
     ensures joins { (cost : NodeId → ℕ) → AreCosts core.now me cost → IfOk result (λ changes. AreJoins changes.joins

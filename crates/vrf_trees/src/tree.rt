@@ -45,7 +45,6 @@ use vrf_flows::VrfFlows;
 #[derive(Drop)]
 pub struct VrfTree {
     alloc: Global,
-    rule: Rule,
     flows: VrfFlows,
     root: RootTunnels,
     leaf: LeafTunnels,
@@ -92,7 +91,6 @@ impl VrfTree {
     {
         VrfTree {
             alloc,
-            rule,
             flows: VrfFlows::of(alloc, rule),
             root: RootTunnels::of(alloc, number, delay),
             leaf: LeafTunnels::of(alloc, delay),
@@ -448,15 +446,14 @@ impl VrfTree {
 
     /// Brings the flows and the tunnels that they want up to date at the clock, in the core as the edge `me` knows it, and
     /// answers what changed since the last refresh. Between two refreshes a flow and what it wants stay as they are. After want
-    /// of memory nothing is said of what is kept.
+    /// of memory nothing is said of the flows and of what they want; all else is as it was.
     pub fn refresh(&mut self, now: u64, me: NodeId, core: &Core) -> Result<TreeChanges, NoMemory>
         requires me { me.0 < core.now.nodes }
         requires peers { AreOfCore core.now.nodes self.old.vrf.routes.learned }
         ensures flows { (cost : NodeId → ℕ) → AreCosts core.now me cost → (q : Flow) →
             OnOk result (maps.get self.new.vrf.flows q ≡ flow_of self.old.vrf cost now q) }
         ensures wants { OnOk result (self.new.wants ≡ sets.from_list (wanted_by self.old.leaf self.new.vrf.flows)) }
-        ensures rest { OnOk result (self.new
-            ≡ record self.old { vrf = record self.old.vrf { flows = self.new.vrf.flows }; wants = self.new.wants }) }
+        ensures rest { self.new ≡ record self.old { vrf = record self.old.vrf { flows = self.new.vrf.flows }; wants = self.new.wants } }
         ensures joins { (cost : NodeId → ℕ) → AreCosts core.now me cost → IfOk result (λ changes. AreJoins changes.joins
             (λ q. gained (upstream_of (maps.get self.old.vrf.flows q)) (upstream_of (flow_of self.old.vrf cost now q)))) }
         ensures leaves { (cost : NodeId → ℕ) → AreCosts core.now me cost → IfOk result (λ changes. AreJoins changes.leaves
@@ -476,7 +473,7 @@ impl VrfTree {
         match told {
             Ok(changes) => Ok(changes),
             Err(fault) => {
-                self.flows = VrfFlows::of(self.alloc, self.rule);
+                self.flows.forget_flows();
                 self.wants = IndexMap::new(self.alloc);
                 Err(fault)
             }

@@ -4,10 +4,10 @@ use Rattle.tree_defs.specs.declared.flow.Flow.{Flow}
 use Rattle.vrf_flows.specs.declared.held.Held.{Held}
 use Rattle.tree_defs.specs.Keys.{same_flow}
 use Rattle.vrf_flows.specs.Held.{concerns}
-use Rattle.vrf_flows.proofs.FlowLemmas.{retained, lookup-marked, mark_each}
+use Rattle.vrf_flows.proofs.FlowLemmas.{change_each, lookup-marked, mark_by, retained}
 use Rattle.vrf_flows.proofs.marks.mark_where.Goals as goal
 
 pub returns-clause-each : goal.returns-clause-each
 returns-clause-each c =
-    let kept : c.retain.new.self.entries ≡ mark_each (concerns c.args.cause.now) c.args.flows.now.entries = retained _ (concerns c.args.cause.now) _ (λ k v b w g call. search rules) _ _ c.retain.ensures.filtered in
+    let kept : c.retain.new.self.entries ≡ change_each (mark_by (concerns c.args.cause.now)) c.args.flows.now.entries = retained _ (mark_by (concerns c.args.cause.now)) _ (λ k v b w g call. search rules) _ _ c.retain.ensures.filtered in
     λ q. ap (λ (es : List (Flow × Held)). lookup (same_flow q) es) kept ∙ lookup-marked (concerns c.args.cause.now) c.args.flows.now.entries q

@@ -1,10 +1,28 @@
-use Rattle.std.proofs.Common.{rules, ◌≡◌, ◌∙◌}
+use Rattle.std.proofs.Common.{rules, ◌≡◌, Bool, cond, List, Option, ap, sym, ◌∙◌}
+use Rattle.std.proofs.lemmas.Map.Iter.{rest_more}
 use Rattle.indexmap.specs.IndexMap.{get}
+use Rattle.tree_defs.specs.declared.flow.Flow.{Flow}
 use Rattle.tree_defs.specs.Keys.{same_flow}
+use Rattle.vrf_flows.specs.declared.held.Held.{Held}
+use Rattle.vrf_flows.specs.Held.{Now}
 use Rattle.vrf_flows.specs.Sight.{needs}
 use Rattle.vrf_flows.specs.Plan.{sets, settled_by}
-use Rattle.vrf_flows.proofs.FlowLemmas.{sets-lookup, settle-end}
+use Rattle.vrf_flows.proofs.FlowLemmas.{sets-lookup, settle-end, settled-held}
 use Rattle.vrf_flows.proofs.plan.settle.Goals as goal
+
+pub loop-flow-preserved : goal.loop-flow-preserved
+loop-flow-preserved c =
+    let now : (q : Flow) → get same_flow c.settle_flow.new.flows q ≡ cond (same_flow c.in-Some.flow q) (settled_by (needs c.args.sight.now c.in-Some.flow) c.in-Some.kept) (get same_flow c.loop-flow.flows q) = λ q.
+    c.in_ok-settle_flow.ensures.each q ∙ ap (λ (b : Bool). cond (same_flow c.in-Some.flow q) (settled_by b c.in-Some.kept) (get same_flow c.loop-flow.flows q)) c.is_needed-needed.ensures in
+    record {
+      each = λ q.
+          let front = rest_more (λ p. p) _ _ c.next.result _ c.in-Some.is c.next.ensures.steps in
+          ap (λ (o : Option Held). sets (λ flow now. settled_by (needs c.args.sight.now flow) now) c.next.new.self o q) (now q)
+          ∙ (ap (λ (l : List (Flow × Now)). sets (λ flow now. settled_by (needs c.args.sight.now flow) now) l (get same_flow c.loop-flow.flows q) q) (sym front)
+          ∙ c.loop-flow.invariant.each q);
+      held = λ q need held. settled-held (needs c.args.sight.now) c.in-Some.flow q c.in-Some.kept (get same_flow c.loop-flow.flows q) (get same_flow c.settle_flow.new.flows q) need (c.loop-flow.invariant.held q need held) (now q);
+      unique = c.settle_flow.ensures.unique;
+    }
 
 pub returns-clause-each : goal.returns-clause-each
 returns-clause-each c = λ q.

@@ -1,4 +1,4 @@
-use Rattle.std.proofs.Common.{◌≡◌}
+use Rattle.std.proofs.Common.{◌≡◌, is_some, true}
 use Rattle.indexmap.specs.IndexMap.{get, IsUnique}
 use Rattle.tree_defs.specs.declared.flow.Flow.{Flow}
 use Rattle.tree_defs.specs.Keys.{same_flow}
@@ -9,5 +9,6 @@ use Rattle.vrf_flows.proofs.plan.settle.Given as goal
 abbrev pub invariant-loop-flow : goal.invariant-loop-flow
 invariant-loop-flow l = record {
   each : (q : Flow) → sets (λ flow now. settled_by (needs l.sight flow) now) l.flow-iterator (get same_flow l.flows q) q ≡ sets (λ flow now. settled_by (needs l.sight flow) now) l.fn.plan.entries (get same_flow l.initial.flows q) q;
+  held : (q : Flow) → needs l.sight q ≡ true → is_some (get same_flow l.initial.flows q) ≡ true → is_some (get same_flow l.flows q) ≡ true;
   unique : IsUnique same_flow l.flows;
 }

@@ -7,11 +7,15 @@ use Rattle.edge_defs.specs.Steps.{taken_change}
 use Rattle.taken_tables.specs.Routes.{handed}
 use Rattle.taken_tables.specs.Tables.{changed_at, reach, route_at}
 use Rattle.control_laws.specs.Control.{Kept, control_of}
-use Rattle.edge_control.specs.Sound.{IsSound, kept_of}
+use Rattle.edge_control.specs.Sound.{IsSound, kept_of, wants_of}
 use Rattle.edge_control.specs.Places.{vrfs_of}
 use Rattle.edge_control.specs.Taking.{coming, dropping, turned_all}
 use Rattle.edge_control.proofs.PeerSound.{as_many}
 use Rattle.edge_control.proofs.PeerAnnounced.{came, table_back, went}
+use Rattle.control_laws.proofs.Parts.{no_core}
+use Rattle.control_laws.proofs.PeersChange.{change_leaves}
+use Rattle.edge_home.specs.Home.{place_of}
+use Rattle.edge_control.proofs.WantLemmas.{turned_wants}
 use Rattle.edge_control.proofs.control.EdgeControl.announce_fresh.Goals as goal
 
 pub invariant_of-self-in-Ok-learn_said : goal.invariant_of-self-in-Ok-learn_said
@@ -55,3 +59,21 @@ returns-in-Err-learn_said-clause-unchanged c =
     (λ core. c.in-Err-learn_said.ensures.forgot core
     ∙ ap (λ (tables : FinMap node_cmp Taken). turned_all (dropping kept.home core c.args.peer c.args.now c.args.key.now (route_at tables c.args.peer c.args.key.now)) (vrfs_of kept.home) kept.trees) c.in-Ok.ensures.learned)).1
     ∙ ap control_of c.self.view_is
+
+pub returns-in-Ok-learn_said-clause-wants : goal.returns-in-Ok-learn_said-clause-wants
+returns-in-Ok-learn_said-clause-wants c =
+    let kept : Kept = kept_of c.self.inside.home c.self.inside.trees.items c.self.inside.taken in
+    let route = route_at c.learn.new.self c.args.peer c.args.key.now in
+    ap wants_of (c.in-Ok-learn_said.ensures.learned no_core)
+    ∙ turned_wants (coming kept.home no_core c.args.peer c.args.now c.args.key.now route) (λ own tree. (change_leaves (place_of kept.home no_core) own c.args.peer c.args.now c.args.key.now None route tree).1) (vrfs_of kept.home)
+    kept.trees (as_many kept c.self.invariant)
+    ∙ ap (λ (k : Kept). wants_of k.trees) c.self.view_is
+
+pub returns-in-Err-learn_said-clause-wants : goal.returns-in-Err-learn_said-clause-wants
+returns-in-Err-learn_said-clause-wants c =
+    let kept : Kept = kept_of c.self.inside.home c.self.inside.trees.items c.self.inside.taken in
+    let route = route_at c.learn.new.self c.args.peer c.args.key.now in
+    ap wants_of (c.in-Err-learn_said.ensures.forgot no_core)
+    ∙ turned_wants (dropping kept.home no_core c.args.peer c.args.now c.args.key.now route) (λ own tree. (change_leaves (place_of kept.home no_core) own c.args.peer c.args.now c.args.key.now route None tree).1) (vrfs_of kept.home)
+    kept.trees (as_many kept c.self.invariant)
+    ∙ ap (λ (k : Kept). wants_of k.trees) c.self.view_is

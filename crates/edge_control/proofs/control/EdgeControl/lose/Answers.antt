@@ -4,8 +4,15 @@ use Rattle.std.specs.FinMap.{FinMap}
 use Rattle.label_defs.specs.Keys.{node_cmp}
 use Rattle.edge_defs.specs.Edge.{Taken}
 use Rattle.control_laws.specs.Control.{Kept, control_of}
-use Rattle.edge_control.specs.Sound.{IsSound, kept_of}
+use Rattle.edge_control.specs.Sound.{IsSound, kept_of, wants_of}
 use Rattle.edge_control.proofs.PeerCalls.{lost_control, lost_sound}
+use Rattle.control_laws.proofs.Parts.{no_core}
+use Rattle.control_laws.proofs.PeersLost.{lost_leaves}
+use Rattle.edge_home.specs.Home.{place_of}
+use Rattle.edge_control.specs.Places.{vrfs_of}
+use Rattle.edge_control.specs.Taking.{losing, table_of}
+use Rattle.edge_control.proofs.PeerSound.{as_many}
+use Rattle.edge_control.proofs.WantLemmas.{turned_wants}
 use Rattle.edge_control.proofs.control.EdgeControl.lose.Goals as goal
 
 pub invariant_of-self : goal.invariant_of-self
@@ -20,3 +27,11 @@ returns-clause-lost c = λ core now.
     ap (λ (tables : FinMap node_cmp Taken). control_of (kept_of c.self.inside.home c.lose_in.new.trees.items tables)) c.lose.ensures
     ∙ lost_control kept c.self.invariant c.args.peer c.lose_in.new.trees.items c.lose_in.ensures
     ∙ ap (λ (k : Kept). record (control_of k) { peers = maps.remove k.peers c.args.peer }) c.self.view_is
+
+pub returns-clause-wants : goal.returns-clause-wants
+returns-clause-wants c =
+    let kept : Kept = kept_of c.self.inside.home c.self.inside.trees.items c.self.inside.taken in
+    ap wants_of (c.lose_in.ensures no_core)
+    ∙ turned_wants (losing kept.home no_core c.args.peer (table_of kept.peers c.args.peer)) (λ own tree. (lost_leaves (place_of kept.home no_core) own (control_of kept) c.args.peer tree).1) (vrfs_of kept.home)
+    kept.trees (as_many kept c.self.invariant)
+    ∙ ap (λ (k : Kept). wants_of k.trees) c.self.view_is

@@ -1,4 +1,4 @@
-use Rattle.std.proofs.Common.{List, sym, ap, subst, ◌∙◌}
+use Rattle.std.proofs.Common.{List, sym, ap, subst, ◌∙◌, refl}
 use Rattle.std.proofs.lemmas.Result.{on_ok_weaker}
 use Rattle.tree_defs.specs.Trees.{TreeData}
 use Rattle.edge_defs.specs.Originated.{is_iface_of}
@@ -7,9 +7,10 @@ use Rattle.edge_home.specs.Home.{place_of}
 use Rattle.control_laws.specs.Control.{Kept, control_of}
 use Rattle.control_laws.specs.Customers.{noted}
 use Rattle.control_laws.proofs.Parts.{no_core}
-use Rattle.edge_control.specs.Sound.{kept_of}
+use Rattle.edge_control.specs.Sound.{kept_of, wants_of}
 use Rattle.edge_control.specs.Places.{IsPlace, changed_at}
 use Rattle.edge_control.proofs.CallLemmas.{is_there, noted_made, sound_either}
+use Rattle.edge_control.proofs.WantLemmas.{changed_wants, wants_either}
 use Rattle.edge_control.proofs.control.EdgeControl.note_fitting.Goals as goal
 
 pub note_at-requires : goal.note_at-requires
@@ -33,3 +34,10 @@ returns-clause-noted c =
     ap (λ (trees : List TreeData). control_of (record kept { trees = trees })) e
     ∙ (noted_made kept c.self.invariant c.args.place c.args.iface place c.args.source c.args.group now core).is
     ∙ ap (λ (k : Kept). effect (place_of k.home core) now (control_of k) (Active c.args.iface c.args.source c.args.group)) c.self.view_is) c.note_at.ensures.noted
+
+pub returns-clause-wants : goal.returns-clause-wants
+returns-clause-wants c =
+    let kept : Kept = kept_of c.self.inside.home c.self.inside.trees.items c.self.inside.taken in
+    wants_either c.note_at.result kept.trees c.note_at.new.trees.items (changed_at c.args.place (noted c.args.iface c.args.source c.args.group) kept.trees) c.note_at.ensures.noted c.note_at.ensures.unchanged
+    (changed_wants (noted c.args.iface c.args.source c.args.group) (λ tree. refl) c.args.place kept.trees)
+    ∙ ap (λ (k : Kept). wants_of k.trees) c.self.view_is

@@ -1,4 +1,4 @@
-use Rattle.std.proofs.Common.{◌≡◌, ◌==◌, false, List, None, sym, ap, subst, ◌∙◌}
+use Rattle.std.proofs.Common.{◌≡◌, ◌==◌, false, List, None, sym, ap, subst, ◌∙◌, refl}
 use Rattle.std.specs.FinMap as maps
 use Rattle.std.proofs.lemmas.Result.{IfOk-weaker, on_ok_weaker}
 use Rattle.mv_base.specs.Lists.{Among}
@@ -9,10 +9,11 @@ use Rattle.edge_home.specs.Home.{place_of}
 use Rattle.control_laws.specs.Control.{Kept, control_of}
 use Rattle.control_laws.specs.Customers.{selected}
 use Rattle.control_laws.proofs.Parts.{no_core}
-use Rattle.edge_control.specs.Sound.{kept_of}
+use Rattle.edge_control.specs.Sound.{kept_of, wants_of}
 use Rattle.edge_control.specs.Places.{IsPlace, changed_at, is_selection_too_many, number_behind, vrfs_of}
 use Rattle.edge_control.proofs.CallLemmas.{is_there, sound_either}
 use Rattle.edge_control.proofs.SelectLemmas.{few_there, is_new, number_of, selected_made}
+use Rattle.edge_control.proofs.WantLemmas.{changed_wants, wants_either}
 use Rattle.edge_control.proofs.control.EdgeControl.select_fitting.Goals as goal
 
 pub select_at-requires-clause-there : goal.select_at-requires-clause-there
@@ -60,3 +61,10 @@ returns-clause-number c =
     is ∙ ap (λ (k : Kept). tunnel_number own.vrf (number_behind (control_of k) c.args.vrf)) c.self.view_is)
     (number_of kept c.self.invariant c.args.place c.args.vrf place c.args.pattern c.args.now c.select_at.result own
     (subst (λ (k : Kept). Among own (vrfs_of k.home)) (sym c.self.view_is) among) id c.select_at.ensures.number)
+
+pub returns-clause-wants : goal.returns-clause-wants
+returns-clause-wants c =
+    let kept : Kept = kept_of c.self.inside.home c.self.inside.trees.items c.self.inside.taken in
+    wants_either c.select_at.result kept.trees c.select_at.new.trees.items (changed_at c.args.place (selected c.args.pattern c.args.now) kept.trees) c.select_at.ensures.selected c.select_at.ensures.unchanged
+    (changed_wants (selected c.args.pattern c.args.now) (λ tree. refl) c.args.place kept.trees)
+    ∙ ap (λ (k : Kept). wants_of k.trees) c.self.view_is

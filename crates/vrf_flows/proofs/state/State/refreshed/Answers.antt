@@ -11,7 +11,7 @@ use Rattle.vrf_flows.specs.Plan.{choice_in, planned, settled}
 use Rattle.vrf_flows.specs.Sight.{flow_at, is_needed}
 use Rattle.vrf_flows.specs.State.{compares_costs, given_at, needed_in}
 use Rattle.vrf_flows.proofs.TreeLemmas.{gain-all, loss-all, settled-fresh, settled-keeps}
-use Rattle.vrf_flows.proofs.StateLemmas.{before-flow, flows-got, given-flow, mid-keeps, mid-kept}
+use Rattle.vrf_flows.proofs.StateLemmas.{before-flow, flows-got, given-flow, mid-held, mid-keeps, mid-kept}
 use Rattle.vrf_flows.proofs.CostLemmas.{least_costs}
 use Rattle.vrf_flows.proofs.state.State.refreshed.Goals as goal
 
@@ -81,3 +81,19 @@ returns-clause-leaves c = λ cost costs q.
     let keeps = mid-keeps old mid es c.args.now cost c.requires.sound c.expiries.ensures.entries each in
     c.in_ok-leaves.ensures.each q ∙ (loss-all (mid q) (get same_flow c.in_ok-plan.plan q) (given_at old cost c.args.now q) (plan cost costs q) (keeps.fresh q)
     ∙ (λ i. lost (upstream_of (before-flow old (kept_of (mid q)) q c.requires.sound.unique (mid-kept old mid es c.args.now each q) i)) (upstream_of (given-flow old cost c.args.now q c.requires.sound.sent i))))
+
+pub returns-in_err-settle-clause-held : goal.returns-in_err-settle-clause-held
+returns-in_err-settle-clause-held c = λ q need.
+    let old = c.args.self.now in
+    let each : (q : Flow) → get same_flow c.mark_between.new.flows q ≡ marked (list_any (lapsed c.args.self.now.clock c.args.now q) c.expiries.result.now.entries) (marked (compares_costs c.args.self.now.rule) (get same_flow c.args.self.now.flows q)) =
+    λ q. c.mark_between.ensures.each q ∙ ap (marked (list_any (lapsed c.args.self.now.clock c.args.now q) c.expiries.result.now.entries)) (c.mark_costs.ensures.each q) in
+    c.settle.ensures.held q ((λ i. is_needed (c.as_slice.ensures i) old.entries old.sent.keys q) ∙ need)
+    (mid-held old (get same_flow c.mark_between.new.flows) c.expiries.result.now.entries c.args.now c.requires.sound each q need)
+
+pub returns-clause-held : goal.returns-clause-held
+returns-clause-held c = λ q need.
+    let old = c.args.self.now in
+    let each : (q : Flow) → get same_flow c.mark_between.new.flows q ≡ marked (list_any (lapsed c.args.self.now.clock c.args.now q) c.expiries.result.now.entries) (marked (compares_costs c.args.self.now.rule) (get same_flow c.args.self.now.flows q)) =
+    λ q. c.mark_between.ensures.each q ∙ ap (marked (list_any (lapsed c.args.self.now.clock c.args.now q) c.expiries.result.now.entries)) (c.mark_costs.ensures.each q) in
+    c.settle.ensures.held q ((λ i. is_needed (c.as_slice.ensures i) old.entries old.sent.keys q) ∙ need)
+    (mid-held old (get same_flow c.mark_between.new.flows) c.expiries.result.now.entries c.args.now c.requires.sound each q need)

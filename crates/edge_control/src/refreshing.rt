@@ -1,0 +1,113 @@
+//! A refresh of all flows of an edge (RFC 7761 section 4.1.6; RFC 6513 section 5.1).
+ghost use Rattle.std.specs.Prelude.{◌≡◌, ◌<◌, ◌++◌, ℕ, length, IfOk, OnOk};
+ghost use Rattle.std.specs.List.{AllByRecursion, AllZip};
+ghost use Rattle.mv_base.specs.declared.ids.NodeId.{NodeId};
+ghost use Rattle.core_walks.specs.Core.{Core as Walks, IsCoreOf};
+ghost use Rattle.umh_select.specs.Routes.{AreCosts, AreOfCore};
+ghost use Rattle.tree_defs.specs.Trees.{TreeData};
+ghost use Rattle.edge_defs.specs.Place.{HasPrefixes};
+ghost use Rattle.edge_defs.specs.Steps.{refreshed};
+ghost use Rattle.edge_home.specs.Home.{place_of};
+ghost use Rattle.taken_tables.specs.Tables.{AreSpelled};
+ghost use Rattle.control_laws.specs.Between.{IsRefreshed};
+ghost use Rattle.control_laws.specs.Control.{AreTrees, control_of};
+ghost use Rattle.edge_control.specs.Refreshing.{AreAllMoved, AreChanged, AreTold, IsRestOf};
+
+use crate::control::EdgeControl;
+use core_paths::Core;
+use edge_home::EdgeHome;
+use mldp_fec::Fec;
+use mv_base::{NoMemory, NodeId};
+use std::alloc::Global;
+use taken_tables::TakenTables;
+use vrf_trees::{TreeChanges, TreeJoin, VrfTree};
+
+/// What a refresh of all flows changes: the joins of flows towards other edges that are made or left, and the selective tunnels
+/// that some VRF wants from now on, or wants no more. In no order; one may stand more than once.
+#[derive(Drop)]
+pub struct ControlChanges {
+    pub joins: Vec<TreeJoin>,
+    pub tunnels: Vec<Fec>,
+}
+
+/// Adds what the refresh of one tree changes.
+fn add(all: &mut ControlChanges, changes: &TreeChanges) -> Result<(), NoMemory>
+    ensures joins { OnOk result (all.new.joins.items ≡ (all.old.joins.items ++ changes.now.joins) ++ changes.now.leaves) }
+    ensures tunnels { OnOk result (all.new.tunnels.items ≡ (all.old.tunnels.items ++ changes.now.wants) ++ changes.now.unwants) }
+{
+    all.joins.extend_from_slice(changes.joins.as_slice())?;
+    all.joins.extend_from_slice(changes.leaves.as_slice())?;
+    all.tunnels.extend_from_slice(changes.wants.as_slice())?;
+    all.tunnels.extend_from_slice(changes.unwants.as_slice())?;
+    Ok(())
+}
+
+/// Refreshes each of the trees. Where memory runs out, each is as before, but for its flows and what they want.
+fn refresh_trees(
+    trees: &mut Vec<VrfTree>,
+    alloc: Global,
+    now: u64,
+    me: NodeId,
+    core: &Core,
+) -> Result<ControlChanges, NoMemory>
+    requires me { me.0 < core.now.nodes }
+    requires peers { AllByRecursion (λ (tree : TreeData). AreOfCore core.now.nodes tree.vrf.routes.learned) trees.old.items }
+    ensures refreshed { (cost : NodeId → ℕ) → AreCosts core.now me cost →
+        OnOk result (AllZip (IsRefreshed cost now) trees.old.items trees.new.items) }
+    ensures rest { AllZip IsRestOf trees.old.items trees.new.items }
+    ensures joins { (cost : NodeId → ℕ) → AreCosts core.now me cost →
+        IfOk result (λ changes. AreAllMoved trees.old.items trees.new.items changes.joins.items) }
+    ensures tunnels { IfOk result (λ changes. AreTold trees.old.items trees.new.items changes.tunnels.items) }
+{
+    let mut all = ControlChanges {
+        joins: Vec::new(alloc),
+        tunnels: Vec::new(alloc),
+    };
+    for place in 0..trees.len() {
+        let changes = trees[place].refresh(now, me, core)?;
+        add(&mut all, &changes)?;
+    }
+    Ok(all)
+}
+
+/// Shows that the core is one as nodes know it.
+fn known(core: &Core)
+    ensures { (own : Walks) × IsCoreOf core.now.nodes core.now.links own }
+{
+    let _ = core.nodes();
+}
+
+/// Shows that each key of the tables has a spelling, and is of octets.
+fn spelled(taken: &TakenTables)
+    ensures { AreSpelled taken.now }
+{
+    let _ = taken.entries(NodeId(0));
+}
+
+/// Shows that the prefixes of the scenario are of octets.
+fn have_octets(home: &EdgeHome)
+    ensures { HasPrefixes home.now.scenario }
+{
+    let _ = home.scenario();
+}
+
+impl EdgeControl {
+    /// Brings the flows of all VRFs up to date at the clock, in the core as the edge knows it (RFC 7761 section 4.1.6; RFC 6513
+    /// section 5.1). After want of memory nothing is known of the flows, and all else is as before.
+    pub fn refresh(&mut self, now: u64, core: &Core) -> Result<ControlChanges, NoMemory>
+        requires { core.now.nodes ≡ length self.old.home.scenario.nodes }
+        ensures refreshed { (own : Walks) → IsCoreOf core.now.nodes core.now.links own → OnOk result (
+            control_of self.new ≡ refreshed (place_of self.old.home own) now (control_of self.old)) }
+        ensures wanted { OnOk result (AreTrees self.new) }
+        ensures home { self.new.home ≡ self.old.home }
+        ensures rest { control_of self.new ≡ record (control_of self.old) { flows = (control_of self.new).flows } }
+        ensures joins { IfOk result (λ changes. AreChanged (control_of self.old).flows (control_of self.new).flows changes.joins.items) }
+        ensures tunnels { IfOk result (λ changes. AreTold self.old.trees self.new.trees changes.tunnels.items) }
+    {
+        known(core);
+        spelled(&self.taken);
+        have_octets(&self.home);
+        let me = self.home.me();
+        refresh_trees(&mut self.trees, self.alloc, now, me, core)
+    }
+}

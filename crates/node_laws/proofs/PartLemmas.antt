@@ -1,0 +1,74 @@
+-- An edge whose parts are kept apart, behind a call.
+use Rattle.std.proofs.Common.{◌≡◌, ◌≢◌, ◌∙◌, refl, sym, ap, subst, ℕ, List, ◌++◌, Option, None, Some}
+use Rattle.std.proofs.lemmas.Option.{none-some, same_Some}
+use Rattle.mv_base.specs.Lists.{Among}
+use Rattle.mv_base.specs.declared.ids.NodeId.{NodeId}
+use Rattle.label_defs.specs.Node.{LabelNode, LacksLabel}
+use Rattle.label_defs.proofs.SettleLemmas.{bind_some}
+use Rattle.mvpn_model.specs.Sessions.{edges}
+use Rattle.edge_defs.specs.Edge.{Control}
+use Rattle.edge_defs.specs.Held.{put_to}
+use Rattle.edge_defs.specs.Place.{EdgePlace}
+use Rattle.edge_defs.specs.Steps.{Call, EdgeStepped, control_step, edge_step, label_row}
+use Rattle.node_defs.specs.EdgeState.{EdgeState, called, waiting_at}
+use Rattle.node_laws.specs.Parts.{HasParts}
+use Rattle.node_laws.specs.Places.{node_place}
+use Rattle.node_laws.specs.Rows.{IsLabelNode, all_called, label_calls}
+use Rattle.node_laws.specs.Waits.{bgp_session, kept_for, update_octets}
+use Rattle.node_laws.proofs.EdgeLemmas.{both_lack, edge_after, made_by, node_behind}
+use Rattle.node_laws.proofs.PeerLemmas.{step_waits}
+
+module _ (place : EdgePlace) (now : ℕ) (call : Call) (state : EdgeState) where
+  step_control : (new : EdgeStepped) → edge_step place now state.edge call ≡ Some new → new.edge.control ≡ control_step place now state.edge.control call
+  step_control new h =
+      let made = bind_some (label_row place now state.edge.part (label_calls place now state.edge.control call)) (λ row. Some (made_by place now call state row)) new h in
+      ap (λ (x : EdgeStepped). x.edge.control) (sym (same_Some (made_by place now call state made.0) new made.2))
+
+  module _ (control : Control) (node : LabelNode) (waiting : NodeId → List ℕ) (has : HasParts place state control node waiting) where
+    calls_are : (c : Control) → state.edge.control ≡ c
+        → all_called (node_place place.scenario place.me) place.core now node (label_calls place now state.edge.control call) ≡ all_called (node_place place.scenario place.me) place.core now node (label_calls place now c call)
+    calls_are c e = ap (λ (x : Control). all_called (node_place place.scenario place.me) place.core now node (label_calls place now x call)) e
+
+    behind_is : (new : EdgeStepped) → edge_step place now state.edge call ≡ Some new
+        → IsLabelNode (called place now state call) (all_called (node_place place.scenario place.me) place.core now node (label_calls place now control call))
+    behind_is new h =
+        subst (λ (n : LabelNode). IsLabelNode (called place now state call) n) (calls_are control has.keeps) (node_behind place now call state node new has.label has.unspent h)
+
+    pub parts_lack : (all_called (node_place place.scenario place.me) place.core now node (label_calls place now control call)).spent ≡ Some LacksLabel → (called place now state call).spent ≡ Some LacksLabel
+    parts_lack h = by (edge_step place now state.edge call) refl
+      where
+        by : (o : Option EdgeStepped) → edge_step place now state.edge call ≡ o → (called place now state call).spent ≡ Some LacksLabel
+        by None e = (both_lack place now call state node has.label has.unspent e).0
+        by (Some new) e = sym (behind_is new e).spent ∙ h
+
+    module _ (new_control : Control) (new_node : LabelNode) (new_waiting : NodeId → List ℕ) (stepped : new_control ≡ control_step place now control call)
+        (made : new_node ≡ all_called (node_place place.scenario place.me) place.core now node (label_calls place now control call)) (unspent : new_node.spent ≡ None)
+        (puts : (peer : NodeId) → Among peer (edges place.scenario) → peer ≢ place.me → new_waiting peer ≡ kept_for call peer (waiting peer) ++ update_octets (put_to place control new_control peer)) where
+      control_behind : (new : EdgeStepped) → edge_step place now state.edge call ≡ Some new → (called place now state call).edge.control ≡ new_control
+      control_behind new h =
+          ap (λ (x : EdgeState). x.edge.control) (edge_after place now call state new has.unspent h)
+          ∙ (step_control new h ∙ (ap (λ (c : Control). control_step place now c call) has.keeps ∙ sym stepped))
+
+      waits_behind : (new : EdgeStepped) → edge_step place now state.edge call ≡ Some new → (peer : NodeId) → Among peer (edges place.scenario) → peer ≢ place.me
+          → waiting_at (called place now state call).waiting (bgp_session peer) ≡ new_waiting peer
+      waits_behind new h peer among other =
+          let same : new.edge.control ≡ new_control = step_control new h ∙ (ap (λ (c : Control). control_step place now c call) has.keeps ∙ sym stepped) in
+          step_waits place now call state new peer has.unspent h among
+          ∙ ((λ i. kept_for call peer (has.peers peer among other i) ++ update_octets (put_to place (has.keeps i) (same i) peer)) ∙ sym (puts peer among other))
+
+      pub parts_made : HasParts place (called place now state call) new_control new_node new_waiting
+      parts_made = by (edge_step place now state.edge call) refl
+        where
+          lacking : edge_step place now state.edge call ≡ None → new_node.spent ≡ Some LacksLabel
+          lacking e = ap (λ (n : LabelNode). n.spent) (made ∙ sym (calls_are control has.keeps)) ∙ (both_lack place now call state node has.label has.unspent e).1
+
+          by : (o : Option EdgeStepped) → edge_step place now state.edge call ≡ o → HasParts place (called place now state call) new_control new_node new_waiting
+          by None e = absurd (none-some LacksLabel (sym unspent ∙ lacking e))
+          by (Some new) e =
+              let label : IsLabelNode (called place now state call) new_node = subst (λ (n : LabelNode). IsLabelNode (called place now state call) n) (sym made) (behind_is new e) in
+              record {
+                unspent = sym label.spent ∙ unspent;
+                keeps = control_behind new e;
+                label = label;
+                peers = waits_behind new e;
+              }

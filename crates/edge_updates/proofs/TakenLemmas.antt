@@ -25,6 +25,7 @@ use Rattle.edge_defs.specs.Place.{EdgePlace, OwnVrf, addr_of, own_vrfs}
 use Rattle.edge_defs.specs.Steps.{taken_change, with_update}
 use Rattle.edge_defs.proofs.KeyLemmas.{key_exact, key_total}
 use Rattle.edge_home.specs.Home.{Home, place_of}
+use Rattle.edge_laws.proofs.Taken.{table_in}
 use Rattle.calm_laws.proofs.Lists.{among_flat_map, among_found, any_among, any_from, flat_map_among, found_among, not_both}
 use Rattle.calm_laws.proofs.Maps.{entry_get, get_entry}
 use Rattle.taken_tables.specs.Tables.{Tables, changed_at, route_at}
@@ -33,7 +34,7 @@ use Rattle.control_laws.specs.Control.{Kept, control_of}
 use Rattle.control_laws.proofs.PeersKinds.{tables_of}
 use Rattle.control_laws.proofs.PeersTables.{changed}
 use Rattle.control_laws.proofs.PeersTold.{Changes, Here}
-use Rattle.edge_control.specs.Places.{vrfs_of}
+use Rattle.edge_control.specs.Sound.{wants_of}
 use Rattle.edge_updates.specs.Changed.{AreListed, AreTaken, changed_by}
 use Rattle.edge_updates.specs.Inclusive.{AreTunnels, IsInclusiveFrom}
 use Rattle.edge_updates.specs.Told.{route_of, told_at, told_by, told_by_all}
@@ -94,7 +95,7 @@ module _ (home : Home) (core : Core) (peer : NodeId) where
 route_is : (control : Control) (peer : NodeId) (key : Key) → tables_of control peer key ≡ route_at control.peers peer key
 route_is control peer key = by (maps.get control.peers peer)
   where
-    by : (o : Option Taken) → maps.get (elim o [ None ↦ maps.empty | Some taken ↦ taken ]) key ≡ (o >>? λ taken. maps.get taken key)
+    by : (o : Option Taken) → maps.get (table_in o) key ≡ (o >>? λ taken. maps.get taken key)
     by None = get-empty key_cmp key
     by (Some taken) = refl
 
@@ -150,10 +151,11 @@ module _ (now : ℕ) (peer : NodeId) (change : Change) (home : Home) where
 
 -- A change is taken, where the tunnels of the old route and of the new one are listed.
 pub change_taken : (now : ℕ) (peer : NodeId) (change : Change) (old new : Kept) (before after : List Fec) → new.home ≡ old.home
-    → control_of new ≡ changed_by now peer (change ∷ []) (control_of old)
+    → wants_of new.trees ≡ wants_of old.trees → control_of new ≡ changed_by now peer (change ∷ []) (control_of old)
     → after ≡ (before ++ told_of now peer change old.home old.peers) ++ told_of now peer change old.home new.peers → AreTaken now peer (change ∷ []) old new before after
-change_taken now peer change old new before after home control is = record {
+change_taken now peer change old new before after home wants control is = record {
   home = home;
+  wants = wants;
   control = control;
   tunnels = λ core.
       subst (λ (fecs : List Fec). AreListed (place_of old.home core) (control_of old) before (control_of new) fecs) (sym is)
@@ -162,12 +164,12 @@ change_taken now peer change old new before after home control is = record {
 
 -- A withdrawal is taken, where those of the old route are.
 pub withdrawal_taken : (now : ℕ) (peer : NodeId) (key : Key) (old new : Kept) (before after : List Fec) → new.home ≡ old.home
-    → control_of new ≡ changed_by now peer (updates.Unreach key ∷ []) (control_of old)
+    → wants_of new.trees ≡ wants_of old.trees → control_of new ≡ changed_by now peer (updates.Unreach key ∷ []) (control_of old)
     → after ≡ before ++ told_at old.home peer key (route_at old.peers peer key) → AreTaken now peer (updates.Unreach key ∷ []) old new before after
-withdrawal_taken now peer key old new before after home control is =
+withdrawal_taken now peer key old new before after home wants control is =
     let gone : route_at new.peers peer key ≡ None = ap (λ (c : Control). route_at c.peers peer key) control ∙ withdrawn_route now peer key (control_of old) in
     let first = before ++ told_at old.home peer key (route_at old.peers peer key) in
-    change_taken now peer (updates.Unreach key) old new before after home control
+    change_taken now peer (updates.Unreach key) old new before after home wants control
     (is ∙ sym (append-nil first) ∙ ap (λ (route : Option TakenRoute). first ++ told_at old.home peer key route) (sym gone))
 
 -- ---- rows of changes
@@ -182,6 +184,7 @@ listed_then place a b c xs ys zs h k fec none =
 pub none_taken : (now : ℕ) (peer : NodeId) (kept : Kept) (fecs : List Fec) → AreTaken now peer [] kept kept fecs fecs
 none_taken now peer kept fecs = record {
   home = refl;
+  wants = refl;
   control = ap (λ (tables : Tables). record (control_of kept) { peers = tables }) (one_after_another now peer [] kept.peers);
   tunnels = λ core fec none. (none, ((λ is. is), (λ is. is)));
 }
@@ -199,6 +202,7 @@ pub taken_then : (now : ℕ) (peer : NodeId) (xs ys : List Change) (a b c : Kept
     → AreTaken now peer ys b c second third → AreTaken now peer (xs ++ ys) a c first third
 taken_then now peer xs ys a b c first second third h k = record {
   home = k.home ∙ h.home;
+  wants = k.wants ∙ h.wants;
   control = k.control ∙ ap (changed_by now peer ys) h.control ∙ changed_twice now peer xs ys (control_of a);
   tunnels = λ core.
       listed_then (place_of a.home core) (control_of a) (control_of b) (control_of c) first second third (h.tunnels core)

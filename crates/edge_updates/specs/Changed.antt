@@ -13,6 +13,7 @@ use Rattle.edge_words.specs.Leaf.{IsInclusive}
 use Rattle.edge_home.specs.Home.{place_of}
 use Rattle.taken_tables.specs.Tables.{changed_at}
 use Rattle.control_laws.specs.Control.{Kept, control_of}
+use Rattle.edge_control.specs.Sound.{wants_of}
 
 -- the changes of the peer are taken at the clock, one after another; where its session is down, nothing changes
 abbrev pub changed_by : ℕ → NodeId → List Change → Control → Control
@@ -24,8 +25,9 @@ AreListed place old before new after =
     (fec : Fec) → list_any (same_fec fec) after ≡ false →
     (list_any (same_fec fec) before ≡ false) × (IsInclusive place old fec ↔ IsInclusive place new fec)
 
--- The changes of the peer are taken at the clock, and the tunnels that may come or go by them are listed too.
+-- The changes of the peer are taken at the clock, the trees want what they wanted, and the tunnels that may come or go are listed too.
 pub record AreTaken (now : ℕ) (peer : NodeId) (changes : List Change) (old new : Kept) (before after : List Fec) : Type 0 where
   pub home : new.home ≡ old.home
+  pub wants : wants_of new.trees ≡ wants_of old.trees
   pub control : control_of new ≡ changed_by now peer changes (control_of old)
   pub tunnels : (core : Core) → AreListed (place_of old.home core) (control_of old) before (control_of new) after

@@ -9,6 +9,7 @@ ghost use Rattle.edge_streams.specs.Spelled.{SaysWritable};
 ghost use Rattle.edge_defs.specs.Steps as steps;
 ghost use Rattle.edge_home.specs.Home.{place_of};
 ghost use Rattle.control_laws.specs.Control.{control_of};
+ghost use Rattle.edge_control.specs.Sound.{wants_of};
 ghost use Rattle.edge_updates.specs.Inclusive.{AreTunnels};
 ghost use Rattle.edge_updates.specs.Changed.{AreTaken};
 
@@ -32,6 +33,7 @@ fn withdraw(
     ensures taken { (now : ℕ) → OnOk result (
         AreTaken now peer (Unreach key.now ∷ []) control.old control.new fecs.old.items fecs.new.items) }
     ensures home { control.new.home ≡ control.old.home }
+    ensures wants { wants_of control.new.trees ≡ wants_of control.old.trees }
 {
     let key = TableKey::of(*key);
     list_at(fecs, control, peer, &key)?;
@@ -50,6 +52,7 @@ fn announce(
     requires { IsWritableKey advert.key }
     ensures taken { OnOk result (AreTaken now peer (Reach advert ∷ []) control.old control.new fecs.old.items fecs.new.items) }
     ensures home { control.new.home ≡ control.old.home }
+    ensures wants { wants_of control.new.trees ≡ wants_of control.old.trees }
 {
     let Advert {
         key,
@@ -79,6 +82,7 @@ fn withdraw_all(
     ensures taken { (now : ℕ) → OnOk result (
         AreTaken now peer (unannounced keys.now) control.old control.new fecs.old.items fecs.new.items) }
     ensures home { control.new.home ≡ control.old.home }
+    ensures wants { wants_of control.new.trees ≡ wants_of control.old.trees }
 {
     for key in keys {
         withdraw(control, fecs, peer, key)?;
@@ -98,6 +102,7 @@ fn announce_all(
     ensures taken { OnOk result (
         AreTaken now peer (announced adverts.items) control.old control.new fecs.old.items fecs.new.items) }
     ensures home { control.new.home ≡ control.old.home }
+    ensures wants { wants_of control.new.trees ≡ wants_of control.old.trees }
 {
     for advert in adverts {
         announce(control, fecs, peer, advert, now)?;
@@ -118,6 +123,7 @@ fn take_parts(
     ensures taken { IfOk result (λ fecs.
         AreTaken now peer (unannounced update.unreach ++ announced update.reach) control.old control.new [] fecs.items) }
     ensures home { control.new.home ≡ control.old.home }
+    ensures wants { wants_of control.new.trees ≡ wants_of control.old.trees }
 {
     let Update { reach, unreach } = update;
     let mut fecs = Vec::new(alloc);
@@ -140,6 +146,7 @@ pub fn take_update(
     ensures taken { (core : Core) → OnOk result (
         control_of control.new ≡ steps.effect (place_of control.old.home core) now (control_of control.old) (steps.Update peer message)) }
     ensures home { control.new.home ≡ control.old.home }
+    ensures wants { wants_of control.new.trees ≡ wants_of control.old.trees }
     ensures tunnels { (core : Core) → IfOk result (λ fecs.
         AreTunnels (place_of control.old.home core) (control_of control.old) (control_of control.new) fecs.items) }
 {

@@ -32,3 +32,9 @@ returns-clause-taken c = λ now.
 
 pub returns-clause-home : goal.returns-clause-home
 returns-clause-home c = (c.loop-key.invariant 0).home
+
+pub returns-in_err-withdraw-clause-wants : goal.returns-in_err-withdraw-clause-wants
+returns-in_err-withdraw-clause-wants c = c.withdraw.ensures.wants ∙ (c.loop-key.invariant 0).wants
+
+pub returns-clause-wants : goal.returns-clause-wants
+returns-clause-wants c = (c.loop-key.invariant 0).wants

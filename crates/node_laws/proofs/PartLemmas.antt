@@ -6,10 +6,15 @@ use Rattle.mv_base.specs.declared.ids.NodeId.{NodeId}
 use Rattle.label_defs.specs.Node.{LabelNode, LacksLabel}
 use Rattle.label_defs.proofs.SettleLemmas.{bind_some}
 use Rattle.mvpn_model.specs.Sessions.{edges}
-use Rattle.edge_defs.specs.Edge.{Control}
+use Rattle.mv_base.specs.Number.{◌>>?◌}
+use Rattle.label_defs.specs.LabelData.{LabelData}
+use Rattle.label_defs.specs.Steps.{Call as Step}
+use Rattle.edge_defs.specs.Edge.{Control, EdgeData}
 use Rattle.edge_defs.specs.Held.{put_to}
 use Rattle.edge_defs.specs.Place.{EdgePlace}
-use Rattle.edge_defs.specs.Steps.{Call, EdgeStepped, control_step, edge_step, label_row}
+use Rattle.edge_defs.specs.Steps.{Call, EdgeStepped, LabelStep, control_step, edge_step, label_row, part_after}
+use Rattle.edge_defs.specs.Tunnels.{leaves}
+use Rattle.edge_defs.proofs.LeafSteps.{leaves_follow}
 use Rattle.node_defs.specs.EdgeState.{EdgeState, called, waiting_at}
 use Rattle.node_laws.specs.Parts.{HasParts}
 use Rattle.node_laws.specs.Places.{node_place}
@@ -17,6 +22,7 @@ use Rattle.node_laws.specs.Rows.{IsLabelNode, all_called, label_calls}
 use Rattle.node_laws.specs.Waits.{bgp_session, kept_for, update_octets}
 use Rattle.node_laws.proofs.EdgeLemmas.{both_lack, edge_after, made_by, node_behind}
 use Rattle.node_laws.proofs.PeerLemmas.{step_waits}
+use Rattle.node_laws.proofs.RowLemmas.{lacks_behind, part_behind}
 
 module _ (place : EdgePlace) (now : ℕ) (call : Call) (state : EdgeState) where
   step_control : (new : EdgeStepped) → edge_step place now state.edge call ≡ Some new → new.edge.control ≡ control_step place now state.edge.control call
@@ -72,3 +78,25 @@ module _ (place : EdgePlace) (now : ℕ) (call : Call) (state : EdgeState) where
                 label = label;
                 peers = waits_behind new e;
               }
+
+-- ---- leaves
+
+pub leaves_made : (place : EdgePlace) (now : ℕ) (call : Call) (control : Control) (node new_node : LabelNode) → node.spent ≡ None → node.part.leaves ≡ leaves place control
+    → new_node ≡ all_called (node_place place.scenario place.me) place.core now node (label_calls place now control call) → new_node.spent ≡ None
+    → new_node.part.leaves ≡ leaves place (control_step place now control call)
+leaves_made place now call control node new_node e same made unspent = by (label_row place now node.part calls) refl
+  where
+    calls : List Step
+    calls = label_calls place now control call
+
+    «data» : EdgeData
+    «data» = record { control = control; part = node.part }
+
+    by : (o : Option (List LabelStep)) → label_row place now node.part calls ≡ o → new_node.part.leaves ≡ leaves place (control_step place now control call)
+    by None h = absurd (none-some LacksLabel (sym unspent ∙ (ap (λ (n : LabelNode). n.spent) made ∙ lacks_behind place now node calls e h)))
+    by (Some row) h =
+        let stepped : EdgeStepped = record { edge = record { control = control_step place now control call; part = part_after node.part row }; row = row } in
+        let step : edge_step place now «data» call ≡ Some stepped =
+        ap (λ (o : Option (List LabelStep)). o >>? λ (row : List LabelStep). Some (record { edge = record { control = control_step place now control call; part = part_after node.part row }; row = row })) h in
+        let part : new_node.part ≡ part_after node.part row = ap (λ (n : LabelNode). n.part) made ∙ (part_behind place now node calls row e h).part in
+        ap (λ (p : LabelData). p.leaves) part ∙ leaves_follow place now «data» call stepped same step

@@ -8,6 +8,7 @@ ghost use Rattle.edge_defs.specs.Edge.{Control};
 ghost use Rattle.edge_defs.specs.Held.{put_to};
 ghost use Rattle.edge_defs.specs.Place.{EdgePlace};
 ghost use Rattle.edge_defs.specs.Steps.{Call, control_step};
+ghost use Rattle.edge_defs.specs.Tunnels.{leaves};
 ghost use Rattle.node_defs.specs.EdgeState.{EdgeState, called};
 ghost use Rattle.node_laws.specs.Parts.{HasParts};
 ghost use Rattle.node_laws.specs.Places.{node_place};
@@ -15,7 +16,8 @@ ghost use Rattle.node_laws.specs.Rows.{all_called, label_calls};
 ghost use Rattle.node_laws.specs.Waits.{kept_for, update_octets};
 
 /// An edge whose parts each make a call makes it: where what it keeps is that of the step, its label node is behind the calls of the step,
-/// and the UPDATE messages of the changes wait for each peer. Where the label node lacks a label, the edge does.
+/// and the UPDATE messages of the changes wait for each peer. Where the label node lacks a label, the edge does. Where the label node was
+/// a leaf of the trees of which the edge is to be one, it is so behind the calls.
 pub fn parts_make_a_step()
     ensures made { (place : EdgePlace) (now : ℕ) (call : Call) (state : EdgeState) (control new_control : Control) (node new_node : LabelNode)
         (waiting new_waiting : NodeId → List ℕ) → HasParts place state control node waiting →
@@ -29,4 +31,8 @@ pub fn parts_make_a_step()
         (waiting : NodeId → List ℕ) → HasParts place state control node waiting →
         (all_called (node_place place.scenario place.me) place.core now node (label_calls place now control call)).spent ≡ Some LacksLabel →
         (called place now state call).spent ≡ Some LacksLabel }
+    ensures leaves { (place : EdgePlace) (now : ℕ) (call : Call) (control : Control) (node new_node : LabelNode) →
+        node.spent ≡ None → node.part.leaves ≡ leaves place control →
+        new_node ≡ all_called (node_place place.scenario place.me) place.core now node (label_calls place now control call) →
+        new_node.spent ≡ None → new_node.part.leaves ≡ leaves place (control_step place now control call) }
 {}

@@ -1,4 +1,4 @@
-use Rattle.node_laws.proofs.PartLemmas.{parts_lack, parts_made}
+use Rattle.node_laws.proofs.PartLemmas.{leaves_made, parts_lack, parts_made}
 use Rattle.node_laws.proofs.parts.parts_make_a_step.Goals as goal
 
 pub returns-clause-made : goal.returns-clause-made
@@ -7,3 +7,6 @@ returns-clause-made c = λ place now call state control new_control node new_nod
 
 pub returns-clause-lacks : goal.returns-clause-lacks
 returns-clause-lacks c = λ place now call state control node waiting has h. parts_lack place now call state control node waiting has h
+
+pub returns-clause-leaves : goal.returns-clause-leaves
+returns-clause-leaves c = leaves_made

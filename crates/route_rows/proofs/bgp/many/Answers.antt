@@ -1,0 +1,11 @@
+use Rattle.std.proofs.Common.{[], ◌∷◌, List, refl, sym, subst, ◌∙◌}
+use Rattle.route_targets.specs.declared.communities.ExtComm.{ExtComm}
+use Rattle.bgp_attributes.specs.Spelling.{AreComms}
+use Rattle.bgp_update.proofs.Appending.{alike}
+use Rattle.route_rows.proofs.bgp.many.Goals as goal
+
+pub returns : goal.returns
+returns c =
+    let P : List ExtComm → Type 0 = λ comms. AreComms comms in
+    let comm : ExtComm = record { 0 = 1 ∷ 2 ∷ 192 ∷ 0 ∷ 2 ∷ 1 ∷ 0 ∷ 1 ∷ [] } in
+    subst P (sym (c.from_vec.ensures ∙ c.in_ok-from_array.ensures.items)) (alike 510 comm refl)

@@ -1,15 +1,13 @@
 -- What the refresh of one tree tells is what changed of it.
 use Rattle.std.proofs.Common.{◌≡◌, ◌⊎◌, ◌&&◌, not, Bool, true, false, cond, inl, inr, List, [], ◌∷◌, ◌++◌, map, option_map, Option, None, Some, refl, sym, ap, subst, ◌∙◌}
-use Rattle.std.specs.List.{AllByRecursion, IsDistinct, list_any}
+use Rattle.std.specs.List.{IsDistinct, list_any}
 use Rattle.std.specs.FinMap.{get}
 use Rattle.std.specs.FinSet as sets
-use Rattle.std.specs.FinSet.{FinSet}
-use Rattle.std.proofs.lemmas.Bool.{or_parts, true≢false}
+use Rattle.std.proofs.lemmas.Bool.{or_parts}
 use Rattle.std.proofs.lemmas.List.Folds.{list_any-append}
 use Rattle.std.proofs.lemmas.Map.Keys.{IsDistinct-head, IsDistinct-tail}
 use Rattle.mv_base.specs.Lists.{Among}
 use Rattle.mldp_fec.specs.declared.fec.Fec.{Fec}
-use Rattle.label_defs.specs.Keys.{fec_cmp}
 use Rattle.label_defs.specs.LabelData.{same_fec}
 use Rattle.umh_select.specs.declared.route.Choice.{Choice}
 use Rattle.tree_defs.specs.declared.flow.Flow.{Flow}

@@ -1,9 +1,8 @@
 -- What an edge keeps behind a refresh of its trees.
-use Rattle.std.proofs.Common.{◌≡◌, ◌⊎◌, ℕ, ◌<◌, ◌==◌, ◌||◌, Bool, true, false, cond, inl, inr, List, [], ◌∷◌, map, find, length, is_some, Option, None, Some, option_map, slice_get, refl, sym, ap, subst, ◌∙◌}
+use Rattle.std.proofs.Common.{◌≡◌, ◌⊎◌, ℕ, ◌<◌, ◌==◌, ◌||◌, true, false, cond, inl, inr, List, [], ◌∷◌, find, length, is_some, Option, None, Some, option_map, refl, sym, ap, subst, ◌∙◌}
 use Rattle.std.specs.List.{AllByRecursion, AllZip}
 use Rattle.std.specs.Option.{option_or}
 use Rattle.std.specs.FinMap as maps
-use Rattle.std.specs.FinMap.{FinMap}
 use Rattle.std.specs.FinSet as sets
 use Rattle.std.proofs.lemmas.Bool.{eqb-true}
 use Rattle.std.proofs.lemmas.Option.{slice_get_within}
@@ -15,23 +14,19 @@ use Rattle.core_walks.specs.Core.{Core, IsCoreOf}
 use Rattle.core_walks.specs.Topology.{Topology}
 use Rattle.bgp_attributes.specs.declared.key.Key.{Key}
 use Rattle.bgp_attributes.specs.declared.key.Key.TheVariants.{Unicast}
-use Rattle.label_defs.specs.Keys.{node_cmp}
 use Rattle.umh_select.specs.Routes.{AreCosts, AreOfCore, peer_of}
 use Rattle.umh_select.specs.declared.key.Place.{Place}
 use Rattle.umh_select.specs.declared.key.Place.TheVariants.{First, From, Here, Last}
-use Rattle.umh_select.specs.declared.key.RouteKey.{RouteKey}
 use Rattle.umh_select.specs.declared.route.Choice.{Choice}
 use Rattle.umh_select.specs.declared.route.Choice.TheVariants as choices
 use Rattle.umh_select.specs.declared.route.Held.{Held}
-use Rattle.tree_defs.specs.declared.flow.Flow.{Flow}
 use Rattle.tree_defs.specs.Flows.{upstream_of}
 use Rattle.tree_defs.specs.Trees.{TreeData}
 use Rattle.vrf_trees.specs.declared.changes.TreeJoin.{TreeJoin}
 use Rattle.vrf_trees.specs.Changes.{join_of}
 use Rattle.edge_defs.specs.Edge.{Control, Taken, TakenRoute, Upstream, VrfFlow}
-use Rattle.edge_defs.specs.Imported.{taken_from}
 use Rattle.edge_defs.specs.Keys.{key_cmp}
-use Rattle.edge_defs.specs.Place.{EdgePlace, HasPrefixes, OwnVrf, vrfs_from}
+use Rattle.edge_defs.specs.Place.{HasPrefixes, OwnVrf, vrfs_from}
 use Rattle.edge_defs.specs.Steps.{refreshed}
 use Rattle.edge_home.specs.Home.{place_of}
 use Rattle.taken_tables.specs.Tables.{AreSpelled, IsSpelled, IsSpelledKey}

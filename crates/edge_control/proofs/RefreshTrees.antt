@@ -1,14 +1,13 @@
 -- Trees that are refreshed one after another.
-use Rattle.std.proofs.Common.{◌≡◌, ◌⊎◌, ℕ, zero, suc, ◌+◌, ◌<◌, ◌≤◌, ◌||◌, false, inl, inr, List, [], ◌∷◌, ◌++◌, length, get_or, set, refl, sym, ap, subst, ◌∙◌, arith}
+use Rattle.std.proofs.Common.{◌≡◌, ◌⊎◌, ℕ, zero, suc, ◌+◌, ◌<◌, ◌≤◌, ◌||◌, inl, inr, List, [], ◌∷◌, ◌++◌, length, get_or, set, refl, sym, ap, subst, ◌∙◌, arith}
 use Rattle.std.specs.Prelude.{⊤}
-use Rattle.std.specs.List.{AllByRecursion, AllZip, list_any}
+use Rattle.std.specs.List.{AllByRecursion, AllZip}
 use Rattle.std.specs.FinMap.{get}
 use Rattle.std.specs.FinSet as sets
 use Rattle.mv_base.specs.Lists.{Among}
 use Rattle.mv_base.specs.declared.ids.NodeId.{NodeId}
 use Rattle.core_walks.specs.Topology.{Topology}
 use Rattle.mldp_fec.specs.declared.fec.Fec.{Fec}
-use Rattle.label_defs.specs.LabelData.{same_fec}
 use Rattle.umh_select.specs.Routes.{AreCosts}
 use Rattle.tree_defs.specs.declared.flow.Flow.{Flow}
 use Rattle.tree_defs.specs.Flows.{flow_of}
@@ -17,7 +16,7 @@ use Rattle.vrf_trees.specs.declared.changes.TreeJoin.{TreeJoin}
 use Rattle.vrf_trees.specs.Changes.{AreNew}
 use Rattle.calm_laws.proofs.Lists.{among_either}
 use Rattle.control_laws.specs.Between.{IsRefreshed}
-use Rattle.edge_control.specs.Refreshing.{AreAllMoved, AreMoved, AreTold, HasJoin, IsRestOf, tree_join}
+use Rattle.edge_control.specs.Refreshing.{AreAllMoved, AreMoved, AreTold, HasJoin, IsRestOf}
 use Rattle.edge_control.proofs.RefreshJoins.{Tells, moved_more, tells_more, told_here}
 
 -- ---- lists of which some elements are others

@@ -1,6 +1,5 @@
 -- The timers that each tree runs are those of all that is kept.
 use Rattle.std.proofs.Common.{◌≡◌, ◌∙◌, ℕ, zero, suc, ◌<◌, ◌+◌, ◌++◌, true, List, [], ◌∷◌, map, take, drop, set, length, get_or, Option, Some, None, is_some, option_map, slice_get, refl, sym, ap, subst, arith}
-use Rattle.std.specs.List.{AllByRecursion}
 use Rattle.std.specs.FinMap as maps
 use Rattle.std.specs.FinMap.{FinMap}
 use Rattle.std.proofs.lemmas.List.Edits.{map_over_more}
@@ -18,7 +17,7 @@ use Rattle.edge_home.specs.Home.{Home, AreOwn, as_own, place_of}
 use Rattle.edge_home.specs.declared.own_vrf.OwnVrf as own_vrfs
 use Rattle.taken_tables.specs.Running.{IsOf}
 use Rattle.control_laws.specs.Control.{Kept, OwnTree, AreTrees, control_of, trees_of, with_trees}
-use Rattle.control_laws.specs.Customers.{Makes, timers_run}
+use Rattle.control_laws.specs.Customers.{timers_run}
 use Rattle.control_laws.specs.Between.{AreTreesBetween, MakesBetween}
 use Rattle.control_laws.specs.Peers.{as_wanted, tree_run}
 use Rattle.control_laws.proofs.CustomersCounts.{single_run}

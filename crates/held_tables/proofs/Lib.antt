@@ -3,3 +3,4 @@ pub mod Witness
 pub mod JoinLemmas
 pub mod StartLemmas
 pub mod PrefixLemmas
+pub mod RunLemmas

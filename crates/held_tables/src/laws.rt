@@ -16,6 +16,7 @@ ghost use Rattle.edge_defs.specs.Edge.{Control, Upstream, VrfFlow, flow_cmp};
 ghost use Rattle.edge_defs.specs.Held.{held_for};
 ghost use Rattle.edge_defs.specs.Originated.{is_iface_of};
 ghost use Rattle.edge_defs.specs.Place.{EdgePlace, OwnVrf, own_vrfs};
+ghost use Rattle.edge_defs.specs.Steps.{selections_run, timed};
 ghost use Rattle.edge_tables.specs.Tables.{Tables, fresh};
 ghost use Rattle.tree_laws.specs.Joins.{AreOfVrfs, first_told, join_key};
 ghost use Rattle.tree_laws.specs.TreeOf.{flow_in};
@@ -75,4 +76,12 @@ pub fn joins_are_left_one_by_one()
 /// In fresh tables no peer is to have a route.
 pub fn fresh_tables_are_empty()
     ensures { (peers : List NodeId) → AreEmpty (maps.from_entries (map (λ peer. (peer, fresh)) peers)) }
+{}
+
+/// Delays of selections that are run change nothing of what peers are to have, and neither do all timers of customers and of BGP.
+pub fn run_delays_change_nothing()
+    ensures selections { (place : EdgePlace) (control : Control) (delay now : ℕ) (tables : Tables) → HoldAll place control tables →
+        HoldAll place (record control { selections = selections_run delay now control.selections }) tables }
+    ensures timers { (place : EdgePlace) (control : Control) (now : ℕ) (tables : Tables) → HoldAll place control tables →
+        HoldAll place (timed place now control) tables }
 {}

@@ -11,7 +11,7 @@ mod starting;
 pub use joins::{drop_join, hold_join};
 pub use laws::{
     another_note_holds, changed_flows_tell_joins, flows_change_joins_alone, fresh_tables_are_empty,
-    joins_are_left_one_by_one, joins_are_of_first_flows,
+    joins_are_left_one_by_one, joins_are_of_first_flows, run_delays_change_nothing,
 };
 pub use selections::{drop_selection, hold_selection};
 pub use sources::{drop_source, hold_source};

@@ -1,8 +1,7 @@
-use Rattle.std.proofs.Common.{◌≡◌, ◌<◌, List, length, sym, ap, subst, ◌∙◌}
+use Rattle.std.proofs.Common.{◌≡◌, ◌<◌, length, sym, ap, subst, ◌∙◌}
 use Rattle.std.proofs.lemmas.Result.{IfOk-weaker, on_ok_weaker}
 use Rattle.mv_base.specs.declared.ids.NodeId.{NodeId}
 use Rattle.umh_select.specs.Routes.{AreCosts}
-use Rattle.tree_defs.specs.Trees.{TreeData}
 use Rattle.edge_defs.specs.Edge.{Control}
 use Rattle.edge_defs.specs.Steps.{refreshed}
 use Rattle.edge_home.specs.Home.{place_of}

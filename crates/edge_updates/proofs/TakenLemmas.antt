@@ -142,11 +142,10 @@ module _ (now : ℕ) (peer : NodeId) (change : Change) (home : Home) where
       let first = route_at old.peers peer (key_of change) in
       let next = route_at new.peers peer (key_of change) in
       let changes =
-          subst (λ (c : Control). Changes (tables_of old) (tables_of c) peer (key_of change) first (route_at c.peers peer (key_of change))) (sym is) (one_changes now peer change old) in
-      (
+      subst (λ (c : Control). Changes (tables_of old) (tables_of c) peer (key_of change) first (route_at c.peers peer (key_of change))) (sym is) (one_changes now peer change old) in (
         inner.0,
         untold_stays (place_of home core) fec old new peer (key_of change) first next changes (untold home core peer (key_of change) first fec inner.1)
-        (untold home core peer (key_of change) next fec outer.1),
+            (untold home core peer (key_of change) next fec outer.1),
       )
 
 -- A change is taken, where the tunnels of the old route and of the new one are listed.

@@ -74,7 +74,8 @@ pub(crate) fn list_at(
     peer: NodeId,
     key: &TableKey,
 ) -> Result<(), NoMemory>
-    ensures { OnOk result (fecs.new.items ≡ fecs.old.items ++ told_at control.now.home peer key.now (route_at control.now.peers peer key.now)) }
+    ensures { OnOk result (fecs.new.items
+        ≡ fecs.old.items ++ told_at control.now.home peer key.now (route_at control.now.peers peer key.now)) }
 {
     let home = control.home();
     match control.taken().get(peer, key) {
@@ -101,7 +102,8 @@ fn list_entries(
 
 /// Appends those of all routes that were taken from the peer.
 fn list_table(fecs: &mut Vec<Fec>, control: &EdgeControl, peer: NodeId) -> Result<(), NoMemory>
-    ensures { OnOk result (fecs.new.items ≡ fecs.old.items ++ told_by_all control.now.home peer (maps.entries (table_of control.now.peers peer))) }
+    ensures { OnOk result (fecs.new.items
+        ≡ fecs.old.items ++ told_by_all control.now.home peer (maps.entries (table_of control.now.peers peer))) }
 {
     let home = control.home();
     match control.taken().entries(peer) {

@@ -22,4 +22,4 @@ returns-clause-taken c =
     on_ok_weaker c.list_at-2.result (λ e.
     subst (λ (k : Key). AreTaken c.args.now c.args.peer (reach k value ∷ []) old new before c.list_at-2.new.fecs.items) c.of-key.ensures
     (change_taken c.args.now c.args.peer (reach key value) old new before c.list_at-2.new.fecs.items c.announce.ensures.home c.announce.ensures.wants
-    c.in_ok-announce.ensures.announced     (e ∙ ap (λ fecs. fecs ++ next new.home) c.in_ok-list_at.ensures ∙ ap (λ home. (before ++ first) ++ next home) c.announce.ensures.home))) c.list_at-2.ensures
+    c.in_ok-announce.ensures.announced (e ∙ ap (λ fecs. fecs ++ next new.home) c.in_ok-list_at.ensures ∙ ap (λ home. (before ++ first) ++ next home) c.announce.ensures.home))) c.list_at-2.ensures

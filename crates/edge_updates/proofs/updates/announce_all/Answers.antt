@@ -21,11 +21,11 @@ loop-advert-preserved c =
     record {
       all = append_assoc at.yielded (advert ∷ []) _ ∙ rw (← steps) at.invariant.all;
       long = (
-        let was = at.invariant.long in
-            let gone = c.in-Some.ensures.steps.1 in
-            let short = ap length steps in
-            omega arith
-      );
+          let was = at.invariant.long in
+          let gone = c.in-Some.ensures.steps.1 in
+          let short = ap length steps in
+          omega arith
+          );
       taken =
           subst (λ changes. AreTaken c.args.now c.args.peer changes c.args.control.now c.announce.new.control c.args.fecs.now.items c.announce.new.fecs.items)
           (sym (map-append (λ (a : Advert). Reach a) at.yielded (advert ∷ [])))

@@ -24,7 +24,7 @@ use std::alloc::Global;
 use taken_tables::TableEntries;
 
 /// Appends the tunnel, where there is one.
-fn list(fecs: &mut Vec<Fec>, told: Option<Fec>) -> Result<(), NoMemory>
+fn append(fecs: &mut Vec<Fec>, told: Option<Fec>) -> Result<(), NoMemory>
     ensures { OnOk result (fecs.new.items ≡ fecs.old.items ++ listed told) }
 {
     match told {
@@ -37,7 +37,7 @@ fn list(fecs: &mut Vec<Fec>, told: Option<Fec>) -> Result<(), NoMemory>
 }
 
 /// Appends the tunnel of the route of that key and value for each of the VRFs that import it from the peer of that address.
-fn list_value(
+fn append_imported(
     fecs: &mut Vec<Fec>,
     vrfs: &[OwnVrf],
     peer: Addr,
@@ -47,13 +47,13 @@ fn list_value(
     ensures { OnOk result (fecs.new.items ≡ fecs.old.items ++ told_to peer key.now (value_of value.now) vrfs.now) }
 {
     for own in vrfs {
-        list(fecs, imported_inclusive(own.local.vrf(), peer, key, value))?;
+        append(fecs, imported_inclusive(own.local.vrf(), peer, key, value))?;
     }
     Ok(())
 }
 
 /// The same for each VRF of the edge.
-fn list_route(
+fn append_of_route(
     fecs: &mut Vec<Fec>,
     home: &EdgeHome,
     peer: NodeId,
@@ -64,11 +64,11 @@ fn list_route(
     ensures { OnOk result (fecs.new.items ≡ fecs.old.items ++ told_by home.now peer key.now (value_of value.now)) }
 {
     let addr = home.addr_of(peer);
-    list_value(fecs, home.vrfs(), addr, key, value)
+    append_imported(fecs, home.vrfs(), addr, key, value)
 }
 
 /// Appends the tunnels that VRFs of the edge import by the route of the key that was taken from the peer, where there is one.
-pub(crate) fn list_at(
+pub(crate) fn append_at(
     fecs: &mut Vec<Fec>,
     control: &EdgeControl,
     peer: NodeId,
@@ -80,12 +80,12 @@ pub(crate) fn list_at(
     let home = control.home();
     match control.taken().get(peer, key) {
         None => Ok(()),
-        Some(entry) => list_route(fecs, home, peer, key.key(), &entry.value()),
+        Some(entry) => append_of_route(fecs, home, peer, key.key(), &entry.value()),
     }
 }
 
 /// Appends those of all these routes of the peer.
-fn list_entries(
+fn append_of_entries(
     fecs: &mut Vec<Fec>,
     home: &EdgeHome,
     peer: NodeId,
@@ -95,20 +95,20 @@ fn list_entries(
     ensures { OnOk result (fecs.new.items ≡ fecs.old.items ++ told_by_all home.now peer entries.entry) }
 {
     for (key, entry) in entries {
-        list_route(fecs, home, peer, key.key(), &entry.value())?;
+        append_of_route(fecs, home, peer, key.key(), &entry.value())?;
     }
     Ok(())
 }
 
 /// Appends those of all routes that were taken from the peer.
-fn list_table(fecs: &mut Vec<Fec>, control: &EdgeControl, peer: NodeId) -> Result<(), NoMemory>
+fn append_of_table(fecs: &mut Vec<Fec>, control: &EdgeControl, peer: NodeId) -> Result<(), NoMemory>
     ensures { OnOk result (fecs.new.items
         ≡ fecs.old.items ++ told_by_all control.now.home peer (maps.entries (table_of control.now.peers peer))) }
 {
     let home = control.home();
     match control.taken().entries(peer) {
         None => Ok(()),
-        Some(entries) => list_entries(fecs, home, peer, entries),
+        Some(entries) => append_of_entries(fecs, home, peer, entries),
     }
 }
 
@@ -122,6 +122,6 @@ pub fn inclusive_from(
         IsInclusiveFrom (place_of control.now.home core) (control_of control.now) peer fec ↔ (list_any (same_fec fec) fecs.items ≡ true)) }
 {
     let mut fecs = Vec::new(alloc);
-    list_table(&mut fecs, control, peer)?;
+    append_of_table(&mut fecs, control, peer)?;
     Ok(fecs)
 }

@@ -13,7 +13,7 @@ ghost use Rattle.edge_control.specs.Sound.{wants_of};
 ghost use Rattle.edge_updates.specs.Inclusive.{AreTunnels};
 ghost use Rattle.edge_updates.specs.Changed.{AreTaken};
 
-use crate::inclusive::list_at;
+use crate::inclusive::append_at;
 use bgp_attributes::{Advert, Key, Message, Update};
 use edge_control::EdgeControl;
 use mldp_fec::Fec;
@@ -36,7 +36,7 @@ fn withdraw(
     ensures wants { wants_of control.new.trees ≡ wants_of control.old.trees }
 {
     let key = TableKey::of(*key);
-    list_at(fecs, control, peer, &key)?;
+    append_at(fecs, control, peer, &key)?;
     control.withdraw(peer, &key);
     Ok(())
 }
@@ -61,14 +61,14 @@ fn announce(
         pmsi,
     } = advert;
     let key = TableKey::of(key);
-    list_at(fecs, control, peer, &key)?;
+    append_at(fecs, control, peer, &key)?;
     let value = RouteValue {
         next_hop,
         comms,
         pmsi,
     };
     control.announce(peer, &key, value, now)?;
-    list_at(fecs, control, peer, &key)
+    append_at(fecs, control, peer, &key)
 }
 
 /// The peer withdraws the routes of the keys, one after another.
@@ -132,7 +132,7 @@ fn take_parts(
     Ok(fecs)
 }
 
-/// Takes an UPDATE message of the peer: its withdrawals first, and then its advertisements (RFC 4271 section 3.1). A peer whose session
+/// Takes an UPDATE message of the peer: its withdrawals first, and then its advertisements (RFC 4271 section 4.3). A peer whose session
 /// is down changes nothing. It answers the inclusive tunnels that may come or go by it, in no order; one may stand more than once. Where
 /// memory runs out, some first ones of the changes are made, and the route of the next one may be withdrawn.
 pub fn take_update(

@@ -3,7 +3,7 @@ use Rattle.edge_defs.specs.Imported.{imported_inclusive}
 use Rattle.edge_routes.specs.Judged.{value_of}
 use Rattle.edge_updates.specs.Told.{listed, route_of, told_to}
 use Rattle.edge_updates.proofs.ListLemmas.{told_more}
-use Rattle.edge_updates.proofs.inclusive.list_value.Goals as goal
+use Rattle.edge_updates.proofs.inclusive.append_imported.Goals as goal
 
 pub loop-own-preserved : goal.loop-own-preserved
 loop-own-preserved c =
@@ -12,7 +12,7 @@ loop-own-preserved c =
     let lt : c.loop-own.own-index < length c.args.vrfs.now = omega arith in
     let told : c.imported_inclusive.result ≡ imported_inclusive own.local.vrf c.args.peer (c.args.key.now, route_of value) =
     c.imported_inclusive.ensures (route_of value) refl ∙ ap (λ vrf. imported_inclusive vrf c.args.peer (c.args.key.now, route_of value)) c.vrf.ensures.vrf in
-    c.in_ok-list.ensures
+    c.in_ok-append.ensures
     ∙ ap (λ fecs. fecs ++ listed c.imported_inclusive.result) c.loop-own.invariant
     ∙ append_assoc c.args.fecs.now.items (told_to c.args.peer c.args.key.now value (take c.loop-own.own-index c.args.vrfs.now)) (listed c.imported_inclusive.result)
     ∙ ap (λ fecs. c.args.fecs.now.items ++ fecs)

@@ -4,7 +4,7 @@ use Rattle.edge_defs.specs.Edge.{Taken}
 use Rattle.taken_tables.specs.Tables.{Tables}
 use Rattle.edge_control.proofs.PeerCalls.{no_table}
 use Rattle.edge_updates.specs.Told.{told_by_all}
-use Rattle.edge_updates.proofs.inclusive.list_table.Goals as goal
+use Rattle.edge_updates.proofs.inclusive.append_of_table.Goals as goal
 
 pub returns-in-None : goal.returns-in-None
 returns-in-None c =

@@ -2,9 +2,9 @@
 use Rattle.std.proofs.Common.{◌≡◌, ◌↔◌, ℕ, true, false, List, [], ◌∷◌, ◌++◌, fold, Option, Some, None, refl, sym, ap, subst, ◌∙◌}
 use Rattle.std.proofs.lemmas.List.Sums.{fold-append}
 use Rattle.std.proofs.lemmas.List.{append-nil}
-use Rattle.std.specs.List.{flat_map, list_any}
+use Rattle.std.specs.List.{list_any}
 use Rattle.std.specs.FinMap as maps
-use Rattle.std.specs.FinMap.{FinMap, get-empty}
+use Rattle.std.specs.FinMap.{get-empty}
 use Rattle.core_walks.specs.Core.{Core}
 use Rattle.mv_base.specs.Lists.{Among}
 use Rattle.mv_base.specs.Number.{◌>>?◌}
@@ -15,7 +15,6 @@ use Rattle.bgp_attributes.specs.declared.update.Change.{Change}
 use Rattle.bgp_attributes.specs.declared.update.Change.TheVariants as updates
 use Rattle.bgp_attributes.specs.declared.update.Message.{Message}
 use Rattle.bgp_update.specs.Table.{changes_of, key_of}
-use Rattle.label_defs.specs.Keys.{node_cmp}
 use Rattle.label_defs.specs.LabelData.{same_fec}
 use Rattle.label_defs.proofs.KeyLemmas.{same_fec_equal, same_fec_itself}
 use Rattle.edge_defs.specs.Edge.{Control, Taken, TakenRoute}

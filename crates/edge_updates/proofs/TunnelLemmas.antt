@@ -1,5 +1,5 @@
 -- Which inclusive tunnels may come or go where routes of the peers become others.
-use Rattle.std.proofs.Common.{◌≡◌, ◌↔◌, ℕ, ◌||◌, ◌⊎◌, Bool, true, false, inl, inr, List, ◌++◌, Option, Some, None, option_map, refl, sym, ap, ◌∙◌}
+use Rattle.std.proofs.Common.{◌≡◌, ◌↔◌, ℕ, ◌||◌, Bool, true, false, inl, inr, List, ◌++◌, Option, Some, None, option_map, refl, sym, ap, ◌∙◌}
 use Rattle.std.proofs.lemmas.List.Folds.{list_any-append}
 use Rattle.std.specs.List.{list_any}
 use Rattle.std.specs.FinMap as maps
@@ -14,7 +14,6 @@ use Rattle.label_defs.proofs.KeyLemmas.{node_cases}
 use Rattle.edge_defs.specs.Edge.{Control, Taken, TakenRoute}
 use Rattle.edge_defs.specs.Imported.{imported_inclusive}
 use Rattle.edge_defs.specs.Place.{EdgePlace, OwnVrf, addr_of, own_vrfs}
-use Rattle.edge_defs.specs.Steps.{peers_run}
 use Rattle.edge_laws.proofs.Taken.{run_at, table_in}
 use Rattle.calm_laws.proofs.Lists.{not_both}
 use Rattle.edge_words.specs.Leaf.{IsInclusive}

@@ -46,7 +46,7 @@ use Rattle.edge_defs.specs.Place.{OwnVrf, vrfs_from}
 use Rattle.edge_home.specs.Home.{Home, AreOwn, IsHome, as_own, place_of}
 use Rattle.edge_home.specs.declared.own_vrf.OwnVrf as own_vrfs
 use Rattle.tree_laws.specs.TreeOf.{IsAttachedAt, site_ifaces, start_tree}
-use Rattle.control_laws.specs.Control.{Kept, OwnTree, own_trees, control_of}
+use Rattle.control_laws.specs.Control.{AreTrees, Kept, OwnTree, own_trees, control_of}
 use Rattle.control_laws.specs.Customers.{Makes}
 use Rattle.control_laws.specs.Start.{IsFirst}
 use Rattle.control_laws.proofs.Parts.{no_core}
@@ -277,3 +277,6 @@ module _ (home : Home) (is_home : IsHome home.scenario home.me) where
 
   pub control_first : (trees : List TreeData) (peers : FinMap node_cmp Taken) → trees ≡ map make (vrfs_of home) → peers ≡ maps.empty → control_of (kept_of home trees peers) ≡ no_control
   control_first trees peers is none = ap control_of (λ i. kept_of home (is i) (none i)) ∙ made.is
+
+  pub wanted_first : (trees : List TreeData) (peers : FinMap node_cmp Taken) → trees ≡ map make (vrfs_of home) → peers ≡ maps.empty → AreTrees (kept_of home trees peers)
+  wanted_first trees peers is none = subst AreTrees (λ i. kept_of home (sym is i) (sym none i)) made.trees

@@ -2,7 +2,7 @@
 ghost use Rattle.std.specs.Prelude.{◌≡◌, true, IfOk};
 ghost use Rattle.edge_defs.specs.Edge.{no_control};
 ghost use Rattle.edge_home.specs.Home.{IsHome, home_of};
-ghost use Rattle.control_laws.specs.Control.{control_of};
+ghost use Rattle.control_laws.specs.Control.{AreTrees, control_of};
 ghost use Rattle.edge_control.specs.Places.{IsTreeAt, is_own_vrf};
 ghost use Rattle.edge_control.specs.Sound.{IsSound};
 
@@ -45,6 +45,7 @@ impl EdgeControl {
         requires { IsHome scenario.now me }
         ensures home { IfOk result (λ edge. edge.home ≡ home_of scenario.now me) }
         ensures nothing { IfOk result (λ edge. control_of edge ≡ no_control) }
+        ensures wanted { IfOk result AreTrees }
     {
         let home = EdgeHome::of(alloc, scenario, me)?;
         let trees = first_trees(alloc, &home)?;

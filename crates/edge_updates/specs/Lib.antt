@@ -1,0 +1,3 @@
+pub mod Inclusive
+pub mod Told
+pub mod Changed

@@ -1,0 +1,12 @@
+pub mod Between
+pub mod Leaves
+pub mod Finish
+pub mod Flows
+pub mod Calls
+pub mod CustomerCalls
+pub mod Notes
+pub mod PeerNumbers
+pub mod PeerCalls
+pub mod StillTrees
+pub mod Selections
+pub mod First

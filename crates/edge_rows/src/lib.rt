@@ -3,16 +3,8 @@
 #![tactic(auto)]
 
 #[cfg(test)]
-mod control;
-#[cfg(test)]
 mod customers;
-#[cfg(test)]
-mod held;
-#[cfg(test)]
-mod leaves;
 #[cfg(test)]
 mod trees;
 #[cfg(test)]
 mod tunnels;
-#[cfg(test)]
-mod two_edges;

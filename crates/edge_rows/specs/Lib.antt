@@ -1,2 +1,0 @@
-pub mod FirstEdge
-pub mod Leaf

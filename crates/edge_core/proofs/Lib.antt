@@ -1,0 +1,12 @@
+pub mod PeerLemmas
+pub mod UpLemmas
+pub mod StepLemmas
+pub mod SessionLemmas
+pub mod SelectionLemmas
+pub mod HandedLemmas
+pub mod DrainLemmas
+pub mod TakingLemmas
+pub mod FateLemmas
+pub mod DueLemmas
+pub mod FirstLemmas
+pub mod CallLemmas

@@ -1,0 +1,321 @@
+-- Messages of a session are taken one after another, and octets that spell them.
+use Rattle.std.proofs.Common.{◌≡◌, ◌∙◌, refl, sym, ap, subst, arith, ℕ, inl, inr, Bool, true, false, cond, List, [], ◌∷◌, map, length, Option, None, Some, Result, Ok, Err, OnOk, is_some}
+use Rattle.std.specs.Ordering.{eq_by_cmp}
+use Rattle.std.specs.FinMap as maps
+use Rattle.std.specs.FinMap.{FinMap}
+use Rattle.std.proofs.lemmas.Option.{none-some}
+use Rattle.mv_base.specs.Lists.{Among}
+use Rattle.mv_base.specs.declared.ids.NodeId.{NodeId}
+use Rattle.core_walks.specs.Core.{Core}
+use Rattle.core_walks.specs.Topology.{Topology}
+use Rattle.framing.specs.Feed.{fed, fed_unless}
+use Rattle.label_defs.specs.Node.{LacksLabel}
+use Rattle.scenario_defs.specs.declared.event.Kind.{Kind}
+use Rattle.session_defs.specs.Message.{SessionFault, SessionMessage, front_of}
+use Rattle.session_defs.specs.Octets.{Stream}
+use Rattle.session_defs.specs.PeerSession.{PeerSession, fault_at, peer_cmp, stream_at}
+use Rattle.edge_defs.specs.Place.{EdgePlace}
+use Rattle.edge_home.specs.Home.{place_of}
+use Rattle.table_laws.proofs.CompareLemmas.{one_key}
+use Rattle.node_defs.specs.EdgeState.{EdgeState, all_taken, call_of, called, took, took_unless}
+use Rattle.node_laws.proofs.TakenLemmas.{message_called, spent_takes}
+use Rattle.edge_streams.specs.Kept.{session}
+use Rattle.edge_streams.specs.Streams.{with_octets}
+use Rattle.edge_streams.proofs.SessionMaps.{peer_cmp_exact, peer_cmp_total}
+use Rattle.edge_core.specs.declared.fault.EdgeFault.{EdgeFault}
+use Rattle.edge_core.specs.declared.fault.EdgeFault.TheVariants as faults
+use Rattle.edge_core.specs.declared.parts.Parts.{Parts}
+use Rattle.edge_core.specs.Answers.{Makes, spent_by}
+use Rattle.edge_core.specs.Called.{Settles, SettlesCall, behind, going, spent_after}
+use Rattle.edge_core.specs.State.{IsIn, IsLive, is_up}
+use Rattle.edge_core.specs.Taking.{AnswersOctets, IsSessionFault, taken_by, took_by}
+use Rattle.edge_core.proofs.DrainLemmas.{put_again, put_same, put_there, stream_or, stream_put}
+use Rattle.edge_core.proofs.StepLemmas.{one_fault}
+
+-- ---- messages
+
+-- Some first ones of the messages were taken from the first parts on, and others are left: what taking these answers is what taking all of
+-- them does.
+pub record AreLeft (core : Topology) (now : ℕ) (peer : NodeId) (all left : List SessionMessage) (first parts : Parts) : Type 0 where
+  pub home : parts.routing.control.home ≡ first.routing.control.home
+  pub live : IsLive parts.routing parts.labels parts.streams
+  pub whole : (new : Parts) (result : Result (Unit {0}) EdgeFault) → Settles core (taken_by (going parts) now peer left) (going parts) new result
+      → Settles core (taken_by (going first) now peer all) (going first) new result
+
+map_ok : {P Q : Type 0} (result : Result (Unit {0}) EdgeFault) → (P → Q) → OnOk result P → OnOk result Q
+map_ok (Ok done) f h = f h
+map_ok (Err fault) f h = tt
+
+give_ok : {P : Type 0} (result : Result (Unit {0}) EdgeFault) → P → OnOk result P
+give_ok (Ok done) h = h
+give_ok (Err fault) h = tt
+
+pub all_left : (core : Topology) (now : ℕ) (peer : NodeId) (all : List SessionMessage) (parts : Parts) → IsLive parts.routing parts.labels parts.streams → AreLeft core now peer all all parts parts
+all_left core now peer all parts live = record { home = refl; live = live; whole = λ new result h. h }
+
+module _ (core : Topology) (now : ℕ) (peer : NodeId) (message : SessionMessage) (more : List SessionMessage) (parts : Parts) where
+  -- taking a message is its call
+  then_is : (is : Core) (state : EdgeState)
+      → all_taken (place_of parts.routing.control.home is) now peer more (called (place_of parts.routing.control.home is) now state (call_of peer message)) ≡ taken_by (going parts) now peer (message ∷ more) is state
+  then_is is state =
+      ap (λ (s : EdgeState). all_taken (place_of parts.routing.control.home is) now peer more s) (sym (message_called (place_of parts.routing.control.home is) now peer message state))
+
+  -- the first message was taken, and then the others
+  pub then_taken : (mid new : Parts) (result : Result (Unit {0}) EdgeFault) → SettlesCall core now (call_of peer message) (going parts) mid (Ok tt)
+      → Settles core (taken_by (going mid) now peer more) (going mid) new result → Settles core (taken_by (going parts) now peer (message ∷ more)) (going parts) new result
+  then_taken mid new result h k = record {
+    answers = record {
+      home = k.answers.home ∙ h.answers.home;
+      before = λ spent e. absurd (none-some spent e);
+      unspent = give_ok result refl;
+      made = map_ok result (λ (made : Makes core (taken_by (going mid) now peer more) (going mid) (behind new result)) is told_so state in_old.
+          subst (λ (s : EdgeState). IsIn s (behind new result)) (along is state) (made is told_so (called (place_of parts.routing.control.home is) now state (call_of peer message)) (h.answers.made is told_so state in_old))) k.answers.made;
+      goes_on = k.answers.goes_on;
+      lacks = λ e none is told_so state in_old.
+          ap (λ (s : EdgeState). s.spent) (sym (along is state)) ∙ k.answers.lacks e refl is told_so (called (place_of parts.routing.control.home is) now state (call_of peer message)) (h.answers.made is told_so state in_old);
+      spends = λ fault e none. k.answers.spends fault e refl;
+    };
+    live = k.live;
+  }
+    where
+      along : (is : Core) (state : EdgeState)
+          → all_taken (place_of mid.routing.control.home is) now peer more (called (place_of parts.routing.control.home is) now state (call_of peer message)) ≡ taken_by (going parts) now peer (message ∷ more) is state
+      along is state =
+          (λ i. all_taken (place_of (h.answers.home i) is) now peer more (called (place_of parts.routing.control.home is) now state (call_of peer message))) ∙ then_is is state
+
+  -- the first message made the edge spent
+  pub stopped : (new : Parts) (fault : EdgeFault) → SettlesCall core now (call_of peer message) (going parts) new (Err fault)
+      → Settles core (taken_by (going parts) now peer (message ∷ more)) (going parts) new (Err fault)
+  stopped new fault h = record {
+    answers = record {
+      home = h.answers.home;
+      before = h.answers.before;
+      unspent = tt;
+      made = tt;
+      goes_on = tt;
+      lacks = λ e none is told_so state in_old.
+          let lacking = h.answers.lacks e none is told_so state in_old in
+          ap (λ (s : EdgeState). s.spent) (sym (then_is is state)
+          ∙ spent_takes (place_of parts.routing.control.home is) now peer more (called (place_of parts.routing.control.home is) now state (call_of peer message)) LacksLabel lacking) ∙ lacking;
+      spends = h.answers.spends;
+    };
+    live = h.live;
+  }
+
+  module _ (all : List SessionMessage) (first : Parts) (are : AreLeft core now peer all (message ∷ more) first parts) where
+    pub one_less : (mid : Parts) → SettlesCall core now (call_of peer message) (going parts) mid (Ok tt) → AreLeft core now peer all more first mid
+    one_less mid h = record {
+      home = h.answers.home ∙ are.home;
+      live = h.live refl;
+      whole = λ new result k. are.whole new result (then_taken mid new result h k);
+    }
+
+    pub stopped_at : (new : Parts) (fault : EdgeFault) → SettlesCall core now (call_of peer message) (going parts) new (Err fault)
+        → Settles core (taken_by (going first) now peer all) (going first) new (Err fault)
+    stopped_at new fault h = are.whole new (Err fault) (stopped new fault h)
+
+pub none_left : (core : Topology) (now : ℕ) (peer : NodeId) (all left : List SessionMessage) (first parts : Parts) → left ≡ [] → AreLeft core now peer all left first parts
+    → Settles core (taken_by (going first) now peer all) (going first) parts (Ok tt)
+none_left core now peer all left first parts e are =
+    are.whole parts (Ok tt) (subst (λ (ms : List SessionMessage). Settles core (taken_by (going parts) now peer ms) (going parts) parts (Ok tt)) (sym e) (record {
+      answers = record {
+        home = refl;
+        before = λ spent s. absurd (none-some spent s);
+        unspent = refl;
+        made = λ is told_so state in_old. in_old;
+        goes_on = refl;
+        lacks = λ k. absurd cc;
+        spends = λ fault k. absurd cc;
+      };
+      live = λ none. are.live;
+    }))
+
+-- ---- octets
+
+pub map_none : {X Y : Type 0} (f : X → Y) (xs : List X) → length xs ≡ 0 → map f xs ≡ []
+map_none f [] e = refl
+map_none f (x ∷ xs) e = absurd (omega (arith, e))
+
+-- a session whose end is up has a stream
+pub up_there : (kind : Kind) (peer : NodeId) (parts : Parts) → IsLive parts.routing parts.labels parts.streams → is_up (going parts) kind peer ≡ true → is_some (maps.get parts.streams (session kind peer)) ≡ true
+up_there kind peer parts live up = live.up kind peer ∙ up
+
+module _ (own : PeerSession) (octets : List ℕ) (old streams : FinMap peer_cmp Stream) (up : is_some (maps.get old own) ≡ true) (quiet : (other : PeerSession) → (stream_at old other).waiting ≡ [])
+    (fed_so : streams ≡ with_octets own octets old) where
+  abbrev now_fed : Stream
+  now_fed = fed (front_of own.kind) (stream_at old own) octets
+
+  -- the octets go to the stream that is there
+  pub fed_is : streams ≡ maps.insert old own now_fed
+  fed_is = fed_so ∙ by (maps.get old own) refl up
+    where
+      by : (o : Option Stream) → maps.get old own ≡ o → is_some o ≡ true → (elim o as (λ _. FinMap peer_cmp Stream) [ None ↦ old | Some stream ↦ maps.insert old own (fed (front_of own.kind) stream octets) ]) ≡ maps.insert old own now_fed
+      by None e h = absurd cc
+      by (Some stream) e h = ap (λ (s : Stream). maps.insert old own (fed (front_of own.kind) s octets)) (stream_is stream e)
+        where
+          stream_is : (s : Stream) → maps.get old own ≡ Some s → s ≡ stream_at old own
+          stream_is s k = sym (ap stream_or k)
+
+  pub stream_fed : stream_at streams own ≡ now_fed
+  stream_fed = ap (λ (s : FinMap peer_cmp Stream). stream_at s own) fed_is ∙ stream_put old own now_fed
+
+  pub fed_there : is_some (maps.get streams own) ≡ true
+  fed_there = put_there old streams own now_fed fed_is
+
+  -- once the messages are taken out
+  pub drained_is : (drained : FinMap peer_cmp Stream) → drained ≡ maps.insert streams own (record (stream_at streams own) { waiting = [] }) → drained ≡ maps.insert old own (record now_fed { waiting = [] })
+  drained_is drained is =
+      is ∙ ((λ i. maps.insert (fed_is i) own (record (stream_fed i) { waiting = [] })) ∙ put_again old own now_fed (record now_fed { waiting = [] }))
+
+  -- the edge of the definitions takes them so
+  pub took_is : (place : EdgePlace) (now : ℕ) (state : EdgeState) → state.spent ≡ None → state.streams ≡ old
+      → all_taken place now own.peer now_fed.waiting (record state { streams = maps.insert old own (record now_fed { waiting = [] }) }) ≡ took place now own octets state
+  took_is place now state unspent are = by (fault_at old own) refl
+    where
+      by : (fault : Option (ℕ × SessionFault)) → fault_at old own ≡ fault
+          → all_taken place now own.peer now_fed.waiting (record state { streams = maps.insert old own (record now_fed { waiting = [] }) }) ≡ took place now own octets state
+      by None e =
+          sym ((λ i. took_unless (unspent i) ((ap (λ (s : FinMap peer_cmp Stream). fault_at s own) are ∙ e) i) place now own octets state)
+          ∙ (λ i. all_taken place now own.peer (fed (front_of own.kind) (stream_at (are i) own) octets).waiting
+          (record state { streams = maps.insert (are i) own (record (fed (front_of own.kind) (stream_at (are i) own) octets) { waiting = [] }) })))
+      by (Some fault) e =
+          let d = stream_at old own in
+          let same : now_fed ≡ d = λ i. fed_unless (front_of own.kind) (e i) d octets in
+          (λ i. all_taken place now own.peer (same i).waiting (record state { streams = maps.insert old own (record (same i) { waiting = [] }) }))
+          ∙ ((λ i. all_taken place now own.peer (quiet own i) (record state { streams = maps.insert old own (record d { waiting = sym (quiet own) i }) }))
+          ∙ ((λ i. record state { streams = put_same old own up i })
+          ∙ ((λ i. record state { streams = sym are i })
+          ∙ sym (λ i. took_unless (unspent i) ((ap (λ (s : FinMap peer_cmp Stream). fault_at s own) are ∙ e) i) place now own octets state))))
+
+-- the answer where the octets were fed, and all messages that wait then are taken
+module _ (core : Topology) (now : ℕ) (kind : Kind) (peer : NodeId) (octets : List ℕ) (old new : Parts) (streams drained : FinMap peer_cmp Stream)
+    (live : IsLive old.routing old.labels old.streams) (up : is_some (maps.get old.streams (session kind peer)) ≡ true) (fed_so : streams ≡ with_octets (session kind peer) octets old.streams)
+    (drained_so : drained ≡ maps.insert streams (session kind peer) (record (stream_at streams (session kind peer)) { waiting = [] })) where
+  abbrev own : PeerSession
+  own = session kind peer
+
+  abbrev whole : Stream
+  whole = now_fed own octets old.streams streams up live.quiet fed_so
+
+  abbrev mid : Parts
+  mid = record old { streams = drained }
+
+  are_drained : drained ≡ maps.insert old.streams own (record whole { waiting = [] })
+  are_drained = drained_is own octets old.streams streams up live.quiet fed_so drained drained_so
+
+  pub mid_live : IsLive old.routing old.labels drained
+  mid_live = record {
+    step = live.step;
+    place = live.place;
+    unspent = live.unspent;
+    leaves = live.leaves;
+    up = λ other_kind other.
+        ap (λ (s : FinMap peer_cmp Stream). is_some (maps.get s (session other_kind other))) are_drained
+        ∙ (ap (λ (o : Option Stream). is_some o) (maps.get-insert peer_cmp_total old.streams own (record whole { waiting = [] }) (session other_kind other))
+        ∙ (still_there (session other_kind other) (eq_by_cmp peer_cmp (session other_kind other) own) refl ∙ live.up other_kind other));
+    quiet = λ other. ap (λ (s : FinMap peer_cmp Stream). (stream_at s other).waiting) are_drained
+        ∙ (ap (λ (o : Option Stream). (stream_or o).waiting) (maps.get-insert peer_cmp_total old.streams own (record whole { waiting = [] }) other)
+        ∙ still_quiet other (eq_by_cmp peer_cmp other own));
+  }
+    where
+      still_there : (q : PeerSession) (b : Bool) → eq_by_cmp peer_cmp q own ≡ b → is_some (cond b (Some (record whole { waiting = [] })) (maps.get old.streams q)) ≡ is_some (maps.get old.streams q)
+      still_there q true e = sym (ap (λ (s : PeerSession). is_some (maps.get old.streams s)) (one_key peer_cmp_exact q own e) ∙ up)
+      still_there q false e = refl
+
+      still_quiet : (q : PeerSession) (b : Bool) → (stream_or (cond b (Some (record whole { waiting = [] })) (maps.get old.streams q))).waiting ≡ []
+      still_quiet q true = refl
+      still_quiet q false = live.quiet q
+
+  in_mid : (state : EdgeState) → IsIn state (going old) → IsIn (record state { streams = maps.insert old.streams own (record whole { waiting = [] }) }) (going mid)
+  in_mid state in_old = record {
+    parts = λ any.
+        let has = in_old.parts any in
+        record { unspent = has.unspent; keeps = has.keeps; label = record { part = has.label.part; waiting = has.label.waiting; spent = has.label.spent }; peers = has.peers };
+    streams = sym are_drained;
+  }
+
+  took_so : (is : Core) (state : EdgeState) → IsIn state (going old)
+      → taken_by (going mid) now peer whole.waiting is (record state { streams = maps.insert old.streams own (record whole { waiting = [] }) }) ≡ took_by (going old) now own octets is state
+  took_so is state in_old = took_is own octets old.streams streams up live.quiet fed_so (place_of old.routing.control.home is) now state (in_old.parts is).unspent in_old.streams
+
+  octets_made : Makes core (taken_by (going mid) now peer whole.waiting) (going mid) (going new) → Makes core (took_by (going old) now own octets) (going old) (going new)
+  octets_made made is told_so state in_old =
+      subst (λ (s : EdgeState). IsIn s (going new)) (took_so is state in_old)
+      (made is told_so (record state { streams = maps.insert old.streams own (record whole { waiting = [] }) }) (in_mid state in_old))
+
+  module _ (messages : List SessionMessage) (are : messages ≡ (stream_at streams own).waiting) where
+    whole_is : messages ≡ whole.waiting
+    whole_is = are ∙ ap (λ (s : Stream). s.waiting) (stream_fed own octets old.streams streams up live.quiet fed_so)
+
+    settled_whole : (result : Result (Unit {0}) EdgeFault) → Settles core (taken_by (going mid) now peer messages) (going mid) new result → Settles core (taken_by (going mid) now peer whole.waiting) (going mid) new result
+    settled_whole result h = subst (λ (ms : List SessionMessage). Settles core (taken_by (going mid) now peer ms) (going mid) new result) whole_is h
+
+    spends_some : (fault : EdgeFault) → Among fault (faults.NoLabel ∷ faults.NoMemory ∷ []) → spent_after (Err fault) ≡ None → ⊥
+    spends_some fault (inl e) none = absurd (let k = sym (ap spent_by e) ∙ none in cc)
+    spends_some fault (inr (inl e)) none = absurd (let k = sym (ap spent_by e) ∙ none in cc)
+    spends_some fault (inr (inr a)) none = a
+
+    -- a message made the edge spent
+    pub octets_stopped : (fault : EdgeFault) → Among fault (faults.NoLabel ∷ faults.NoMemory ∷ []) → Settles core (taken_by (going mid) now peer messages) (going mid) new (Err fault)
+        → AnswersOctets core now own octets (going old) (behind new (Err fault)) (Err fault)
+    octets_stopped fault one h =
+        let k = settled_whole (Err fault) h in
+        record {
+          answers = record {
+            home = k.answers.home;
+            before = λ spent e. absurd (none-some spent e);
+            unspent = tt;
+            made = tt;
+            goes_on = tt;
+            lacks = λ e none is told_so state in_old.
+                ap (λ (s : EdgeState). s.spent) (sym (took_so is state in_old))
+                ∙ k.answers.lacks e refl is told_so (record state { streams = maps.insert old.streams own (record whole { waiting = [] }) }) (in_mid state in_old);
+            spends = λ other e none. ap spent_after e;
+          };
+          sound = tt;
+          taken = λ other e none goes. absurd (spends_some fault one goes);
+          only = λ other e. inl (subst (λ (f : EdgeFault). Among f (faults.NoLabel ∷ faults.NoMemory ∷ [])) (one_fault fault other e) one);
+        }
+
+    -- all messages were taken; then the stream's fault is answered, if it has had one
+    pub octets_taken : (result : Result (Unit {0}) EdgeFault) → OnOk result (fault_at new.streams own ≡ None) → ((fault : EdgeFault) → result ≡ Err fault → IsSessionFault own (going new) fault)
+        → Settles core (taken_by (going mid) now peer messages) (going mid) new (Ok tt) → AnswersOctets core now own octets (going old) (behind new result) result
+    octets_taken (Ok done) sound faulty h =
+        let k = settled_whole (Ok tt) h in
+        record {
+          answers = record {
+            home = k.answers.home;
+            before = λ spent e. absurd (none-some spent e);
+            unspent = refl;
+            made = octets_made k.answers.made;
+            goes_on = refl;
+            lacks = λ e. absurd cc;
+            spends = λ fault e. absurd cc;
+          };
+          sound = sound;
+          taken = λ fault e. absurd cc;
+          only = λ fault e. absurd cc;
+        }
+    octets_taken (Err fault) sound faulty h =
+        let k = settled_whole (Ok tt) h in
+        let is = faulty fault refl in
+        record {
+          answers = record {
+            home = k.answers.home;
+            before = λ spent e. absurd (none-some spent e);
+            unspent = tt;
+            made = tt;
+            goes_on = tt;
+            lacks = λ e. absurd (no_label fault is (one_fault fault faults.NoLabel e));
+            spends = λ other e none. ap spent_after e;
+          };
+          sound = tt;
+          taken = λ other e none goes. subst (Makes core (took_by (going old) now own octets) (going old)) (λ i. record (going new) { spent = sym goes i }) (octets_made k.answers.made);
+          only = λ other e. inr (told_fault_is fault other (one_fault fault other e) is);
+        }
+      where
+        no_label : (f : EdgeFault) → IsSessionFault own (going new) f → f ≡ faults.NoLabel → ⊥
+        no_label f is e = absurd (let k = sym is.2 ∙ e in cc)
+
+        told_fault_is : (f other : EdgeFault) → f ≡ other → IsSessionFault own (going new) f → IsSessionFault own (behind new (Err f)) other
+        told_fault_is f other e is = (is.0, is.1, sym e ∙ is.2, is.3)

@@ -1,0 +1,13 @@
+use Rattle.std.proofs.Common.{sym, subst}
+use Rattle.edge_core.specs.State.{IsLive}
+use Rattle.edge_core.proofs.FirstLemmas.{first_in}
+use Rattle.edge_core.proofs.edge.Edge.of.Goals as goal
+
+pub invariant_of-result : goal.invariant_of-result
+invariant_of-result c = λ unspent.
+    subst (IsLive c.in_ok-routing.routing c.in_ok-labels.labels) (sym c.of-streams.ensures)
+    (c.in_ok-labels.ensures.live c.in_ok-routing.routing c.in_ok-routing.ensures.step c.in_ok-routing.ensures.home c.in_ok-routing.ensures.nothing)
+
+pub returns-clause-is : goal.returns-clause-is
+returns-clause-is c = first_in c.args.scenario.now.labels c.in_ok-routing.routing c.in_ok-labels.labels c.of-streams.result
+    c.in_ok-labels.ensures.fresh c.in_ok-routing.ensures.nothing c.in_ok-routing.ensures.silent c.of-streams.ensures

@@ -1,0 +1,33 @@
+use Rattle.std.proofs.Common.{List, map, ap, ◌∙◌}
+use Rattle.control_laws.proofs.Parts.{no_core}
+use Rattle.edge_labels.specs.declared.changes.LeafChange.{LeafChange}
+use Rattle.edge_labels.specs.Calls.{leaf_call}
+use Rattle.edge_core.proofs.StepLemmas.{changes_of, has_settled, has_stopped, told_is, wantable}
+use Rattle.edge_core.proofs.parts.Parts.settle.Goals as goal
+
+pub step-requires-clause-trees : goal.step-requires-clause-trees
+step-requires-clause-trees c =
+    let called = c.requires.called in
+    let told = c.in_ok-candidates.field-0 in
+    let mid = told_is c.args.core.now c.args.now c.args.own.now called.call called.old c.args.self.now c.args.told told c.in_ok-candidates.was called.is in
+    wantable c.args.core.now c.args.now c.args.own.now called.call called.old c.args.self.now told mid c.home.ensures.sound.home no_core c.deref-2.result.now
+    (ap (λ (xs : List LeafChange). map leaf_call xs) c.deref-2.ensures.value
+    ∙ changes_of c.args.core.now c.args.now c.args.own.now called.call called.old c.args.self.now told mid c.deref.result.now c.in_ok-changes.changes.items c.deref.ensures.value c.in_ok-changes.ensures no_core)
+
+pub returns-in-Ok-clause-answers : goal.returns-in-Ok-clause-answers
+returns-in-Ok-clause-answers c = λ call old is.
+    let told = c.in_ok-candidates.field-0 in
+    let mid = told_is c.args.core.now c.args.now c.args.own.now call old c.args.self.now c.args.told told c.in_ok-candidates.was is in
+    has_settled c.args.core.now c.args.now c.args.own.now call old c.args.self.now told mid c.step.new.self c.deref-2.result.now c.nodes.ensures.told
+    (λ any. ap (λ (xs : List LeafChange). map leaf_call xs) c.deref-2.ensures.value
+    ∙ changes_of c.args.core.now c.args.now c.args.own.now call old c.args.self.now told mid c.deref.result.now c.in_ok-changes.changes.items c.deref.ensures.value c.in_ok-changes.ensures any)
+    (c.in-Ok.ensures)
+
+pub returns-clause-answers : goal.returns-clause-answers
+returns-clause-answers c = λ call old is.
+    let told = c.in_ok-candidates.field-0 in
+    let mid = told_is c.args.core.now c.args.now c.args.own.now call old c.args.self.now c.args.told told c.in_ok-candidates.was is in
+    has_stopped c.args.core.now c.args.now c.args.own.now call old c.args.self.now told mid c.step.new.self c.deref-2.result.now c.in-Err.fault c.from.result c.from.ensures
+    (λ any. ap (λ (xs : List LeafChange). map leaf_call xs) c.deref-2.ensures.value
+    ∙ changes_of c.args.core.now c.args.now c.args.own.now call old c.args.self.now told mid c.deref.result.now c.in_ok-changes.changes.items c.deref.ensures.value c.in_ok-changes.ensures any)
+    c.in-Err.ensures

@@ -1,0 +1,150 @@
+//! Calls of customers: Join/Prune messages, and sources that are noted to send or no longer are.
+ghost use Rattle.std.specs.Prelude.{◌≡◌, ◌<◌, ◌^◌, ◌⊎◌, [], ◌∷◌, true, false, length, None, Ok, Err, IfOk, OnOk};
+ghost use Rattle.bgp_update.specs.Written.{afi_of};
+ghost use Rattle.mvpn_nlri.specs.Spelling.{IsGroup};
+ghost use Rattle.pim_joinprune.specs.Reading.{decoded};
+ghost use Rattle.pim_defs.specs.Entries.{applied, are_too_many};
+ghost use Rattle.edge_defs.specs.Steps.{Active, Idle, Pim};
+ghost use Rattle.control_laws.specs.Control.{control_of};
+ghost use Rattle.edge_control.specs.Places.{is_note_too_many, is_own_iface};
+ghost use Rattle.group_laws.specs.Groups.{HasGroups};
+ghost use Rattle.edge_core.specs.Answers.{IsOneOf};
+ghost use Rattle.edge_core.specs.Called.{SettlesCall, behind, going, spent_after};
+ghost use Rattle.edge_core.specs.Pim.{AnswersPim, IsPimFault, is_ours};
+ghost use Rattle.edge_core.specs.State.{IsLive};
+ghost use Rattle.edge_core.specs.declared.fault.EdgeFault.{EdgeFault as EdgeFaults};
+ghost use Rattle.edge_core.specs.declared.fault.EdgeFault.TheVariants as EdgeFault;
+
+use crate::fault::EdgeFault;
+use crate::parts::Parts;
+use core_paths::Core;
+use edge_control::ControlFault;
+use edge_home::EdgeHome;
+use edge_labels::OwnCall;
+use mv_base::{Addr, IfaceId};
+use mvpn_model::own_addr;
+use pim_joinprune::{DecodeFault, JoinPrune, decode};
+use std::alloc::Global;
+
+/// The Join/Prune message that the octets spell (RFC 7761 section 4.9.5), or their first fault.
+fn read(alloc: Global, bytes: &[u8]) -> Result<JoinPrune, EdgeFault>
+    ensures message { IfOk result (λ message. decoded bytes.now ≡ Ok message) }
+    ensures groups { IfOk result HasGroups }
+    ensures fault { (fault : EdgeFaults) → result ≡ Err fault → (fault ≡ EdgeFault.NoMemory) ⊎ IsPimFault fault (decoded bytes.now) }
+{
+    match decode(alloc, bytes) {
+        Ok(message) => Ok(message),
+        Err(DecodeFault::Bad { place, fault }) => Err(EdgeFault::Pim { place, fault }),
+        Err(DecodeFault::NoMemory) => Err(EdgeFault::NoMemory),
+    }
+}
+
+/// Whether the message is for the interface: its upstream neighbour is that interface's own address.
+fn is_ours(home: &EdgeHome, iface: IfaceId, message: &JoinPrune) -> bool
+    ensures { result ≡ is_ours home.now.scenario iface message.now }
+{
+    message.neighbour == own_addr(home.scenario(), iface)
+}
+
+impl Parts {
+    /// Takes a Join/Prune message at the interface (RFC 7761 section 4.5).
+    pub(crate) fn join_prune(
+        &mut self,
+        iface: IfaceId,
+        message: &JoinPrune,
+        now: u64,
+        core: &Core,
+    ) -> Result<(), EdgeFault>
+        requires live { IsLive self.old.routing self.old.labels self.old.streams }
+        requires nodes { core.now.nodes ≡ length self.old.routing.control.home.scenario.nodes }
+        requires own { is_own_iface self.old.routing.control.home iface ≡ true }
+        requires groups { HasGroups message.now }
+        requires now { now < 2 ^ 63 }
+        ensures settles { SettlesCall core.now now (Pim iface message.now) (going self.old) self.new result }
+        ensures only { IsOneOf (EdgeFault.Full ∷ []) result }
+        ensures fits { OnOk result (are_too_many (applied (control_of self.old.routing.control).entries iface message.now now) ≡ false) }
+        ensures full { result ≡ Err EdgeFault.Full →
+            (are_too_many (applied (control_of self.old.routing.control).entries iface message.now now) ≡ true) × (self.new ≡ self.old) }
+    {
+        match self.routing.take_pim(self.alloc, iface, message, now, core) {
+            Ok(told) => self.settle(&OwnCall::None, Ok(told), now, core),
+            Err(ControlFault::Full) => Err(EdgeFault::Full),
+            Err(ControlFault::NoMemory) => Err(EdgeFault::NoMemory),
+        }
+    }
+
+    /// Takes the octets of a Join/Prune message at the interface.
+    pub(crate) fn take_pim(
+        &mut self,
+        iface: IfaceId,
+        bytes: &[u8],
+        now: u64,
+        core: &Core,
+    ) -> Result<(), EdgeFault>
+        requires live { IsLive self.old.routing self.old.labels self.old.streams }
+        requires nodes { core.now.nodes ≡ length self.old.routing.control.home.scenario.nodes }
+        requires own { is_own_iface self.old.routing.control.home iface ≡ true }
+        requires now { now < 2 ^ 63 }
+        ensures answers { AnswersPim core.now now iface bytes.now (going self.old) (behind self.new result) result }
+        ensures live { spent_after result ≡ None → IsLive self.new.routing self.new.labels self.new.streams }
+    {
+        let message = read(self.alloc, bytes)?;
+        if !is_ours(self.routing.control.home(), iface, &message) {
+            return Err(EdgeFault::NotOurs);
+        }
+        self.join_prune(iface, &message, now, core)
+    }
+
+    /// Notes at the interface that the source sends to the group.
+    pub(crate) fn note(
+        &mut self,
+        iface: IfaceId,
+        source: Addr,
+        group: Addr,
+        now: u64,
+        core: &Core,
+    ) -> Result<(), EdgeFault>
+        requires live { IsLive self.old.routing self.old.labels self.old.streams }
+        requires nodes { core.now.nodes ≡ length self.old.routing.control.home.scenario.nodes }
+        requires own { is_own_iface self.old.routing.control.home iface ≡ true }
+        requires group { IsGroup (afi_of source) group }
+        requires now { now < 2 ^ 63 }
+        ensures settles { SettlesCall core.now now (Active iface source group) (going self.old) self.new result }
+        ensures only { IsOneOf (EdgeFault.Full ∷ []) result }
+        ensures fits { OnOk result (is_note_too_many (control_of self.old.routing.control) iface source group ≡ false) }
+        ensures full { result ≡ Err EdgeFault.Full →
+            (is_note_too_many (control_of self.old.routing.control) iface source group ≡ true) × (self.new ≡ self.old) }
+    {
+        match self
+            .routing
+            .note(self.alloc, iface, source, group, now, core)
+        {
+            Ok(told) => self.settle(&OwnCall::None, Ok(told), now, core),
+            Err(ControlFault::Full) => Err(EdgeFault::Full),
+            Err(ControlFault::NoMemory) => Err(EdgeFault::NoMemory),
+        }
+    }
+
+    /// The note is there no more.
+    pub(crate) fn unnote(
+        &mut self,
+        iface: IfaceId,
+        source: Addr,
+        group: Addr,
+        now: u64,
+        core: &Core,
+    ) -> Result<(), EdgeFault>
+        requires live { IsLive self.old.routing self.old.labels self.old.streams }
+        requires nodes { core.now.nodes ≡ length self.old.routing.control.home.scenario.nodes }
+        requires own { is_own_iface self.old.routing.control.home iface ≡ true }
+        requires group { IsGroup (afi_of source) group }
+        requires now { now < 2 ^ 63 }
+        ensures settles { SettlesCall core.now now (Idle iface source group) (going self.old) self.new result }
+        ensures only { IsOneOf [] result }
+    {
+        let told = self
+            .routing
+            .unnote(self.alloc, iface, source, group, now, core);
+        self.settle(&OwnCall::None, told, now, core)
+    }
+}

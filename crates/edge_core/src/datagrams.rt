@@ -1,0 +1,148 @@
+//! Datagrams that a site sends into a VRF, and copies that arrive under a label (RFC 6513 sections 9.1.1 and 12; RFC 3032).
+ghost use Rattle.std.specs.Prelude.{◌≡◌, true, length, map, IfOk};
+ghost use Rattle.std.specs.FinSet as sets;
+ghost use Rattle.mv_base.specs.Lists.{Among};
+ghost use Rattle.core_walks.specs.Core.{Core as Walks, IsCoreOf};
+ghost use Rattle.label_defs.specs.LabelData.{branches_of};
+ghost use Rattle.label_forwarding.specs.FibData.{branch_in};
+ghost use Rattle.edge_defs.specs.Datagrams.{arriving_fate, entering_fate, outs_of};
+ghost use Rattle.edge_defs.specs.Place.{OwnVrf};
+ghost use Rattle.edge_home.specs.Home.{place_of};
+ghost use Rattle.edge_control.specs.Places.{is_own_vrf, vrfs_of};
+ghost use Rattle.edge_datagrams.specs.Datagrams.{branches_on, edge_with};
+ghost use Rattle.edge_core.specs.Called.{going};
+ghost use Rattle.edge_core.specs.State.{IsFate, data_of};
+
+use crate::fate::{Branches, Fate};
+use crate::parts::Parts;
+use core_paths::Core;
+use edge_datagrams::{entering, leaving};
+use edge_labels::EdgeLabels;
+use label_defs::Branch;
+use label_forwarding::Branch as Hop;
+use mldp_fec::Fec;
+use mv_base::{Addr, NoMemory, NodeId, Seq, SiteId, VrfId};
+use scenario_defs::IfaceList;
+use std::alloc::Global;
+
+/// The branches of the tree to these neighbours under these labels.
+fn copied(alloc: Global, fec: &Fec, hops: &[Hop]) -> Result<Branches, NoMemory>
+    ensures { IfOk result (λ branches. branches ≡ map (branch_in fec.now) hops.now) }
+{
+    let mut branches = Vec::new(alloc);
+    for hop in hops {
+        branches.push(Branch {
+            fec: *fec,
+            node: hop.node,
+            label: hop.label,
+        })?;
+    }
+    Ok(Seq::from_vec(branches))
+}
+
+/// The branches of the tree.
+fn branches_of(labels: &EdgeLabels, alloc: Global, fec: &Fec) -> Result<Branches, NoMemory>
+    ensures { IfOk result (λ branches. branches ≡ branches_of labels.now.node.part fec.now) }
+{
+    copied(alloc, fec, labels.node().fib().push(fec))
+}
+
+/// The branches of a tunnel, where there is one.
+fn branches_on(
+    labels: &EdgeLabels,
+    alloc: Global,
+    tunnel: Option<Fec>,
+) -> Result<Branches, NoMemory>
+    ensures { IfOk result (λ branches. branches ≡ branches_on labels.now.node.part tunnel) }
+{
+    match tunnel {
+        None => Ok(Seq::new(alloc)),
+        Some(fec) => branches_of(labels, alloc, &fec),
+    }
+}
+
+impl Parts {
+    /// Where a datagram goes that the site sends into the VRF.
+    pub(crate) fn enter(
+        &self,
+        alloc: Global,
+        vrf: VrfId,
+        site: SiteId,
+        source: Addr,
+        group: Addr,
+        now: u64,
+        core: &Core,
+    ) -> Result<Fate, NoMemory>
+        requires own { is_own_vrf self.now.routing.control.home vrf ≡ true }
+        requires core { core.now.nodes ≡ length self.now.routing.control.home.scenario.nodes }
+        ensures { (walks : Walks) → IsCoreOf core.now.nodes core.now.links walks → (own : OwnVrf) →
+            Among own (vrfs_of self.now.routing.control.home) → own.id ≡ vrf →
+            IfOk result (IsFate (entering_fate (place_of self.now.routing.control.home walks) now (data_of (going self.now)) own site source group)) }
+    {
+        let fate = entering(
+            &self.routing.control,
+            alloc,
+            vrf,
+            site,
+            source,
+            group,
+            now,
+            core,
+        )?;
+        let branches = branches_on(&self.labels, alloc, fate.tunnel)?;
+        Ok(Fate {
+            outs: fate.outs,
+            branches,
+        })
+    }
+
+    /// The interfaces at which a copy on the tree leaves: none where the edge is no leaf of it.
+    fn delivered(
+        &self,
+        alloc: Global,
+        fec: &Fec,
+        leaf: bool,
+        source: Addr,
+        group: Addr,
+        now: u64,
+        core: &Core,
+    ) -> Result<IfaceList, NoMemory>
+        requires leaf { leaf ≡ sets.contains self.now.labels.node.part.leaves fec.now }
+        requires core { core.now.nodes ≡ length self.now.routing.control.home.scenario.nodes }
+        ensures { (walks : Walks) → IsCoreOf core.now.nodes core.now.links walks →
+            IfOk result (λ outs. outs ≡ outs_of (place_of self.now.routing.control.home walks) now (data_of (going self.now)) fec.now source group) }
+    {
+        if leaf {
+            leaving(&self.routing.control, alloc, fec, source, group, now, core)
+        } else {
+            Ok(Seq::new(alloc))
+        }
+    }
+
+    /// Where a copy goes that came from the neighbour under the label.
+    pub(crate) fn arrive(
+        &self,
+        alloc: Global,
+        from: NodeId,
+        label: u32,
+        source: Addr,
+        group: Addr,
+        now: u64,
+        core: &Core,
+    ) -> Result<Fate, NoMemory>
+        requires core { core.now.nodes ≡ length self.now.routing.control.home.scenario.nodes }
+        ensures { (walks : Walks) → IsCoreOf core.now.nodes core.now.links walks →
+            IfOk result (IsFate (arriving_fate (place_of self.now.routing.control.home walks) now (data_of (going self.now)) from label source group)) }
+    {
+        match self.labels.node().fib().lookup(from, label) {
+            None => Ok(Fate {
+                outs: Seq::new(alloc),
+                branches: Seq::new(alloc),
+            }),
+            Some(entry) => Ok(Fate {
+                outs: self.delivered(alloc, &entry.fec, entry.leaf, source, group, now, core)?,
+                branches: copied(alloc, &entry.fec, entry.branches())?,
+            }),
+        }
+    }
+}

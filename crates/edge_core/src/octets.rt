@@ -1,0 +1,217 @@
+//! Octets that come over sessions, and the messages that they spell (RFC 4271 section 4, RFC 5036 section 3.1).
+ghost use Rattle.std.specs.Prelude.{◌≡◌, ◌<◌, ◌^◌, [], map, true, is_some, length, All, IfOk, OnOk, Err, None};
+ghost use Rattle.std.specs.FinMap as maps;
+ghost use Rattle.scenario_defs.specs.declared.event.Kind.TheVariants as kinds;
+ghost use Rattle.session_defs.specs.Message.{Bgp, Label};
+ghost use Rattle.session_defs.specs.PeerSession.{fault_at, stream_at};
+ghost use Rattle.edge_defs.specs.Steps.{Label as LabelCall, Update};
+ghost use Rattle.edge_streams.specs.Kept.{session};
+ghost use Rattle.edge_streams.specs.Spelled.{IsSpelledLabel, SaysWritable, SaysWritableLabel};
+ghost use Rattle.edge_core.specs.Answers.{IsOneOf};
+ghost use Rattle.edge_core.specs.Called.{Settles, SettlesCall, behind, going, spent_after};
+ghost use Rattle.edge_core.specs.State.{IsLive, is_up};
+ghost use Rattle.edge_core.specs.Taking.{AnswersOctets, IsSessionFault, taken_by};
+ghost use Rattle.edge_core.specs.declared.fault.EdgeFault.{EdgeFault as EdgeFaults};
+
+use crate::fault::EdgeFault;
+use crate::parts::Parts;
+use bgp_update::Message;
+use core_paths::Core;
+use edge_labels::OwnCall;
+use edge_streams::EdgeStreams;
+use mldp_msgs::LabelMessage;
+use mv_base::{NoMemory, NodeId};
+use scenario_defs::Kind;
+use std::alloc::Global;
+
+/// All messages of the BGP peer that wait, in order.
+fn drain_bgp(
+    streams: &mut EdgeStreams,
+    alloc: Global,
+    peer: NodeId,
+) -> Result<Vec<Message>, NoMemory>
+    requires stream { is_some (maps.get streams.old (session kinds.Bgp peer)) ≡ true }
+    ensures messages { IfOk result (λ messages. map (λ message. Bgp message) messages.items
+        ≡ (stream_at streams.old (session kinds.Bgp peer)).waiting) }
+    ensures writable { IfOk result (λ messages. All SaysWritable messages.items) }
+    ensures rest { OnOk result (streams.new ≡ maps.insert streams.old (session kinds.Bgp peer)
+        (record (stream_at streams.old (session kinds.Bgp peer)) { waiting = [] })) }
+{
+    let mut messages = Vec::new(alloc);
+    while let Some(message) = streams.next_bgp(peer) {
+        messages.push(message)?;
+    }
+    Ok(messages)
+}
+
+/// All messages of the LDP neighbour that wait, in order.
+fn drain_ldp(
+    streams: &mut EdgeStreams,
+    alloc: Global,
+    peer: NodeId,
+) -> Result<Vec<LabelMessage>, NoMemory>
+    requires stream { is_some (maps.get streams.old (session kinds.Ldp peer)) ≡ true }
+    ensures messages { IfOk result (λ messages. map (λ message. Label message) messages.items
+        ≡ (stream_at streams.old (session kinds.Ldp peer)).waiting) }
+    ensures writable { IfOk result (λ messages. All SaysWritableLabel messages.items) }
+    ensures rest { OnOk result (streams.new ≡ maps.insert streams.old (session kinds.Ldp peer)
+        (record (stream_at streams.old (session kinds.Ldp peer)) { waiting = [] })) }
+{
+    let mut messages = Vec::new(alloc);
+    while let Some(message) = streams.next_ldp(peer) {
+        messages.push(message)?;
+    }
+    Ok(messages)
+}
+
+impl Parts {
+    /// Takes a message of the BGP peer.
+    fn take_update(
+        &mut self,
+        peer: NodeId,
+        message: Message,
+        now: u64,
+        core: &Core,
+    ) -> Result<(), EdgeFault>
+        requires live { IsLive self.old.routing self.old.labels self.old.streams }
+        requires nodes { core.now.nodes ≡ length self.old.routing.control.home.scenario.nodes }
+        requires now { now < 2 ^ 63 }
+        requires writable { SaysWritable message }
+        ensures settles { SettlesCall core.now now (Update peer message) (going self.old) self.new result }
+        ensures only { IsOneOf [] result }
+    {
+        let told = self
+            .routing
+            .take_update(self.alloc, peer, message, now, core);
+        self.settle(&OwnCall::None, told, now, core)
+    }
+
+    /// Takes a message of the LDP neighbour.
+    fn take_label(
+        &mut self,
+        peer: NodeId,
+        message: LabelMessage,
+        now: u64,
+        core: &Core,
+    ) -> Result<(), EdgeFault>
+        requires live { IsLive self.old.routing self.old.labels self.old.streams }
+        requires nodes { core.now.nodes ≡ length self.old.routing.control.home.scenario.nodes }
+        requires now { now < 2 ^ 63 }
+        requires writable { SaysWritableLabel message }
+        ensures settles { SettlesCall core.now now (LabelCall peer message) (going self.old) self.new result }
+        ensures only { IsOneOf [] result }
+    {
+        let told = self.routing.step(self.alloc, now, core);
+        self.settle(&OwnCall::Take(peer, message), told, now, core)
+    }
+
+    /// Takes messages of the BGP peer, one after another.
+    fn take_updates(
+        &mut self,
+        peer: NodeId,
+        messages: Vec<Message>,
+        now: u64,
+        core: &Core,
+    ) -> Result<(), EdgeFault>
+        requires live { IsLive self.old.routing self.old.labels self.old.streams }
+        requires nodes { core.now.nodes ≡ length self.old.routing.control.home.scenario.nodes }
+        requires now { now < 2 ^ 63 }
+        requires writable { All SaysWritable messages.items }
+        ensures settles { Settles core.now (taken_by (going self.old) now peer (map (λ message. Bgp message) messages.items))
+            (going self.old) self.new result }
+        ensures only { IsOneOf [] result }
+    {
+        for message in messages {
+            if let Err(fault) = self.take_update(peer, message, now, core) {
+                return Err(fault);
+            }
+        }
+        Ok(())
+    }
+
+    /// Takes messages of the LDP neighbour, one after another.
+    fn take_labels(
+        &mut self,
+        peer: NodeId,
+        messages: Vec<LabelMessage>,
+        now: u64,
+        core: &Core,
+    ) -> Result<(), EdgeFault>
+        requires live { IsLive self.old.routing self.old.labels self.old.streams }
+        requires nodes { core.now.nodes ≡ length self.old.routing.control.home.scenario.nodes }
+        requires now { now < 2 ^ 63 }
+        requires writable { All SaysWritableLabel messages.items }
+        ensures settles { Settles core.now (taken_by (going self.old) now peer (map (λ message. Label message) messages.items))
+            (going self.old) self.new result }
+        ensures only { IsOneOf [] result }
+    {
+        for message in messages {
+            if let Err(fault) = self.take_label(peer, message, now, core) {
+                return Err(fault);
+            }
+        }
+        Ok(())
+    }
+
+    /// The first fault of the session's stream, if it has had one.
+    fn sound(&self, kind: Kind, peer: NodeId) -> Result<(), EdgeFault>
+        ensures sound { OnOk result (fault_at self.now.streams (session kind peer) ≡ None) }
+        ensures fault { (fault : EdgeFaults) → result ≡ Err fault → IsSessionFault (session kind peer) (going self.now) fault }
+    {
+        match self.streams.fault(kind, peer) {
+            None => Ok(()),
+            Some((place, reason)) => Err(EdgeFault::Session {
+                peer,
+                place,
+                reason,
+            }),
+        }
+    }
+
+    /// Takes octets of the BGP session with the peer, which is up: the messages that are whole with them, those before its first fault too.
+    pub(crate) fn take_bgp(
+        &mut self,
+        peer: NodeId,
+        bytes: &[u8],
+        now: u64,
+        core: &Core,
+    ) -> Result<(), EdgeFault>
+        requires live { IsLive self.old.routing self.old.labels self.old.streams }
+        requires nodes { core.now.nodes ≡ length self.old.routing.control.home.scenario.nodes }
+        requires now { now < 2 ^ 63 }
+        requires up { is_up (going self.old) kinds.Bgp peer ≡ true }
+        ensures answers { AnswersOctets core.now now (session kinds.Bgp peer) bytes.now (going self.old) (behind self.new result) result }
+        ensures live { spent_after result ≡ None → IsLive self.new.routing self.new.labels self.new.streams }
+    {
+        self.streams.feed_bgp(peer, bytes)?;
+        let messages = drain_bgp(&mut self.streams, self.alloc, peer)?;
+        match self.take_updates(peer, messages, now, core) {
+            Ok(()) => self.sound(Kind::Bgp, peer),
+            Err(fault) => Err(fault),
+        }
+    }
+
+    /// Takes octets of the LDP session with the neighbour, which is up: the messages that are whole with them, those before its first
+    /// fault too.
+    pub(crate) fn take_ldp(
+        &mut self,
+        peer: NodeId,
+        bytes: &[u8],
+        now: u64,
+        core: &Core,
+    ) -> Result<(), EdgeFault>
+        requires live { IsLive self.old.routing self.old.labels self.old.streams }
+        requires nodes { core.now.nodes ≡ length self.old.routing.control.home.scenario.nodes }
+        requires now { now < 2 ^ 63 }
+        requires up { is_up (going self.old) kinds.Ldp peer ≡ true }
+        ensures answers { AnswersOctets core.now now (session kinds.Ldp peer) bytes.now (going self.old) (behind self.new result) result }
+        ensures live { spent_after result ≡ None → IsLive self.new.routing self.new.labels self.new.streams }
+    {
+        self.streams.feed_ldp(peer, bytes)?;
+        let messages = drain_ldp(&mut self.streams, self.alloc, peer)?;
+        match self.take_labels(peer, messages, now, core) {
+            Ok(()) => self.sound(Kind::Ldp, peer),
+            Err(fault) => Err(fault),
+        }
+    }
+}

@@ -4,7 +4,6 @@ pub mod StepLemmas
 pub mod SessionLemmas
 pub mod SelectionLemmas
 pub mod HandedLemmas
-pub mod DrainLemmas
 pub mod TakingLemmas
 pub mod FateLemmas
 pub mod DueLemmas

@@ -29,7 +29,7 @@ use Rattle.edge_core.specs.Answers.{Makes, spent_by}
 use Rattle.edge_core.specs.Called.{Settles, SettlesCall, behind, going, spent_after}
 use Rattle.edge_core.specs.State.{IsIn, IsLive, is_up}
 use Rattle.edge_core.specs.Taking.{AnswersOctets, IsSessionFault, taken_by, took_by}
-use Rattle.edge_core.proofs.DrainLemmas.{put_again, put_same, put_there, stream_or, stream_put}
+use Rattle.edge_streams.proofs.DrainLemmas.{put_again, put_same, put_there, stream_or, stream_put}
 use Rattle.edge_core.proofs.StepLemmas.{one_fault}
 
 -- ---- messages

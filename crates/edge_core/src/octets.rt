@@ -1,12 +1,11 @@
 //! Octets that come over sessions, and the messages that they spell (RFC 4271 section 4, RFC 5036 section 3.1).
-ghost use Rattle.std.specs.Prelude.{◌≡◌, ◌<◌, ◌^◌, [], map, true, is_some, length, All, IfOk, OnOk, Err, None};
-ghost use Rattle.std.specs.FinMap as maps;
+ghost use Rattle.std.specs.Prelude.{◌≡◌, ◌<◌, ◌^◌, [], map, true, length, All, OnOk, Err, None};
 ghost use Rattle.scenario_defs.specs.declared.event.Kind.TheVariants as kinds;
 ghost use Rattle.session_defs.specs.Message.{Bgp, Label};
-ghost use Rattle.session_defs.specs.PeerSession.{fault_at, stream_at};
+ghost use Rattle.session_defs.specs.PeerSession.{fault_at};
 ghost use Rattle.edge_defs.specs.Steps.{Label as LabelCall, Update};
 ghost use Rattle.edge_streams.specs.Kept.{session};
-ghost use Rattle.edge_streams.specs.Spelled.{IsSpelledLabel, SaysWritable, SaysWritableLabel};
+ghost use Rattle.edge_streams.specs.Spelled.{SaysWritable, SaysWritableLabel};
 ghost use Rattle.edge_core.specs.Answers.{IsOneOf};
 ghost use Rattle.edge_core.specs.Called.{Settles, SettlesCall, behind, going, spent_after};
 ghost use Rattle.edge_core.specs.State.{IsLive, is_up};
@@ -18,51 +17,9 @@ use crate::parts::Parts;
 use bgp_update::Message;
 use core_paths::Core;
 use edge_labels::OwnCall;
-use edge_streams::EdgeStreams;
 use mldp_msgs::LabelMessage;
-use mv_base::{NoMemory, NodeId};
+use mv_base::NodeId;
 use scenario_defs::Kind;
-use std::alloc::Global;
-
-/// All messages of the BGP peer that wait, in order.
-fn drain_bgp(
-    streams: &mut EdgeStreams,
-    alloc: Global,
-    peer: NodeId,
-) -> Result<Vec<Message>, NoMemory>
-    requires stream { is_some (maps.get streams.old (session kinds.Bgp peer)) ≡ true }
-    ensures messages { IfOk result (λ messages. map (λ message. Bgp message) messages.items
-        ≡ (stream_at streams.old (session kinds.Bgp peer)).waiting) }
-    ensures writable { IfOk result (λ messages. All SaysWritable messages.items) }
-    ensures rest { OnOk result (streams.new ≡ maps.insert streams.old (session kinds.Bgp peer)
-        (record (stream_at streams.old (session kinds.Bgp peer)) { waiting = [] })) }
-{
-    let mut messages = Vec::new(alloc);
-    while let Some(message) = streams.next_bgp(peer) {
-        messages.push(message)?;
-    }
-    Ok(messages)
-}
-
-/// All messages of the LDP neighbour that wait, in order.
-fn drain_ldp(
-    streams: &mut EdgeStreams,
-    alloc: Global,
-    peer: NodeId,
-) -> Result<Vec<LabelMessage>, NoMemory>
-    requires stream { is_some (maps.get streams.old (session kinds.Ldp peer)) ≡ true }
-    ensures messages { IfOk result (λ messages. map (λ message. Label message) messages.items
-        ≡ (stream_at streams.old (session kinds.Ldp peer)).waiting) }
-    ensures writable { IfOk result (λ messages. All SaysWritableLabel messages.items) }
-    ensures rest { OnOk result (streams.new ≡ maps.insert streams.old (session kinds.Ldp peer)
-        (record (stream_at streams.old (session kinds.Ldp peer)) { waiting = [] })) }
-{
-    let mut messages = Vec::new(alloc);
-    while let Some(message) = streams.next_ldp(peer) {
-        messages.push(message)?;
-    }
-    Ok(messages)
-}
 
 impl Parts {
     /// Takes a message of the BGP peer.
@@ -184,7 +141,7 @@ impl Parts {
         ensures live { spent_after result ≡ None → IsLive self.new.routing self.new.labels self.new.streams }
     {
         self.streams.feed_bgp(peer, bytes)?;
-        let messages = drain_bgp(&mut self.streams, self.alloc, peer)?;
+        let messages = self.streams.drain_bgp(peer)?;
         match self.take_updates(peer, messages, now, core) {
             Ok(()) => self.sound(Kind::Bgp, peer),
             Err(fault) => Err(fault),
@@ -208,7 +165,7 @@ impl Parts {
         ensures live { spent_after result ≡ None → IsLive self.new.routing self.new.labels self.new.streams }
     {
         self.streams.feed_ldp(peer, bytes)?;
-        let messages = drain_ldp(&mut self.streams, self.alloc, peer)?;
+        let messages = self.streams.drain_ldp(peer)?;
         match self.take_labels(peer, messages, now, core) {
             Ok(()) => self.sound(Kind::Ldp, peer),
             Err(fault) => Err(fault),

@@ -4,3 +4,4 @@ pub mod Calls
 pub mod SpelledLemmas
 pub mod Prefixes
 pub mod Writable
+pub mod DrainLemmas

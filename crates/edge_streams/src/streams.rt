@@ -1,10 +1,10 @@
 //! The streams of a node's sessions.
-ghost use Rattle.std.specs.Prelude.{◌≡◌, option_map, IfSome, OnOk, OnErr};
+ghost use Rattle.std.specs.Prelude.{◌≡◌, [], map, true, is_some, option_map, All, IfOk, IfSome, OnOk, OnErr};
 ghost use Rattle.std.specs.FinMap as maps;
 ghost use Rattle.framing.specs.Feed.{unfed};
 ghost use Rattle.scenario_defs.specs.declared.event.Kind.TheVariants as kinds;
 ghost use Rattle.session_defs.specs.Message.{Bgp, Label};
-ghost use Rattle.session_defs.specs.PeerSession.{fault_at};
+ghost use Rattle.session_defs.specs.PeerSession.{fault_at, stream_at};
 ghost use Rattle.edge_streams.specs.Kept.{session};
 ghost use Rattle.edge_streams.specs.Spelled.{IsSpelled, IsSpelledLabel, SaysWritable, SaysWritableLabel};
 ghost use Rattle.edge_streams.specs.Streams.{with_octets, TakesFirst, told_fault};
@@ -114,6 +114,38 @@ impl EdgeStreams {
         ensures writable { IfSome result (λ message. SaysWritableLabel message) }
     {
         ldp_stream::next(&mut self.ldp, peer)
+    }
+
+    /// Takes all messages of the BGP peer that wait, in order. The session has a stream.
+    pub fn drain_bgp(&mut self, peer: NodeId) -> Result<Vec<Message>, NoMemory>
+        requires stream { is_some (maps.get self.old (session kinds.Bgp peer)) ≡ true }
+        ensures messages { IfOk result (λ messages. map (λ message. Bgp message) messages.items
+            ≡ (stream_at self.old (session kinds.Bgp peer)).waiting) }
+        ensures writable { IfOk result (λ messages. All SaysWritable messages.items) }
+        ensures rest { OnOk result (self.new ≡ maps.insert self.old (session kinds.Bgp peer)
+            (record (stream_at self.old (session kinds.Bgp peer)) { waiting = [] })) }
+    {
+        let mut messages = Vec::new(self.alloc);
+        while let Some(message) = self.next_bgp(peer) {
+            messages.push(message)?;
+        }
+        Ok(messages)
+    }
+
+    /// Takes all messages of the LDP neighbour that wait, in order. The session has a stream.
+    pub fn drain_ldp(&mut self, peer: NodeId) -> Result<Vec<LabelMessage>, NoMemory>
+        requires stream { is_some (maps.get self.old (session kinds.Ldp peer)) ≡ true }
+        ensures messages { IfOk result (λ messages. map (λ message. Label message) messages.items
+            ≡ (stream_at self.old (session kinds.Ldp peer)).waiting) }
+        ensures writable { IfOk result (λ messages. All SaysWritableLabel messages.items) }
+        ensures rest { OnOk result (self.new ≡ maps.insert self.old (session kinds.Ldp peer)
+            (record (stream_at self.old (session kinds.Ldp peer)) { waiting = [] })) }
+    {
+        let mut messages = Vec::new(self.alloc);
+        while let Some(message) = self.next_ldp(peer) {
+            messages.push(message)?;
+        }
+        Ok(messages)
     }
 
     /// The first fault of the session's stream, and its place, counted from the stream's first octet. A place past the greatest

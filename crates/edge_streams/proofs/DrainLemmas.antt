@@ -3,9 +3,9 @@ use Rattle.std.proofs.Common.{◌≡◌, ◌∙◌, refl, sym, ap, arith, zero, 
 use Rattle.std.specs.Ordering.{eq_by_cmp}
 use Rattle.std.specs.FinMap as maps
 use Rattle.std.specs.FinMap.{FinMap, same_map}
+use Rattle.std.specs.Cmp.{Equal-is}
 use Rattle.std.proofs.lemmas.Cmp.{eq_by_cmp_equiv}
 use Rattle.std.proofs.lemmas.List.{append-nil}
-use Rattle.table_laws.proofs.CompareLemmas.{one_key}
 use Rattle.framing.specs.Feed.{unfed}
 use Rattle.session_defs.specs.Message.{SessionMessage}
 use Rattle.session_defs.specs.Octets.{Stream}
@@ -17,6 +17,9 @@ abbrev Streams : Type 0
 Streams = FinMap peer_cmp Stream
 
 -- ---- a map of streams at one session
+
+pub same_session : (a b : PeerSession) → eq_by_cmp peer_cmp a b ≡ true → a ≡ b
+same_session a b e = peer_cmp_exact a b ((Equal-is (peer_cmp a b)).0 e)
 
 abbrev pub stream_or : Option Stream → Stream
 stream_or o = elim o [ None ↦ unfed | Some stream ↦ stream ]
@@ -45,7 +48,7 @@ pub put_same : (streams : Streams) (own : PeerSession) → is_some (maps.get str
 put_same streams own up = same_map peer_cmp_total peer_cmp_exact _ _ (λ q. maps.get-insert peer_cmp_total streams own (stream_at streams own) q ∙ by q (eq_by_cmp peer_cmp q own) refl)
   where
     by : (q : PeerSession) (b : Bool) → eq_by_cmp peer_cmp q own ≡ b → cond b (Some (stream_at streams own)) (maps.get streams q) ≡ maps.get streams q
-    by q true e = sym (ap (maps.get streams) (one_key peer_cmp_exact q own e) ∙ there (maps.get streams own) up)
+    by q true e = sym (ap (maps.get streams) (same_session q own e) ∙ there (maps.get streams own) up)
     by q false e = refl
 
 -- ---- messages that are taken

@@ -4,14 +4,14 @@ use Rattle.session_defs.specs.Message.{Bgp}
 use Rattle.session_defs.specs.PeerSession.{stream_at}
 use Rattle.edge_streams.specs.Kept.{session}
 use Rattle.edge_streams.specs.Spelled.{SaysWritable}
-use Rattle.edge_core.proofs.DrainLemmas.{AreTaken}
-use Rattle.edge_core.proofs.octets.drain_bgp.Given as goal
+use Rattle.edge_streams.proofs.DrainLemmas.{AreTaken}
+use Rattle.edge_streams.proofs.streams.EdgeStreams.drain_bgp.Given as goal
 
 abbrev pub invariant-loop-message : goal.invariant-loop-message
 invariant-loop-message l = record {
-  taken : AreTaken (session kinds.Bgp l.peer) l.initial.streams (map (λ message. Bgp message) l.messages.items) l.streams;
+  taken : AreTaken (session kinds.Bgp l.peer) l.initial.self (map (λ message. Bgp message) l.messages.items) l.self;
   writable : All SaysWritable l.messages.items;
 }
 
 abbrev pub decreases-loop-message : goal.decreases-loop-message
-decreases-loop-message l = length (stream_at l.streams (session kinds.Bgp l.peer)).waiting
+decreases-loop-message l = length (stream_at l.self (session kinds.Bgp l.peer)).waiting

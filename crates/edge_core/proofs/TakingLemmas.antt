@@ -1,6 +1,5 @@
 -- Messages of a session are taken one after another, and octets that spell them.
-use Rattle.std.proofs.Common.{◌≡◌, ◌∙◌, refl, sym, ap, subst, arith, ℕ, inl, inr, Bool, true, false, cond, List, [], ◌∷◌, map, length, Option, None, Some, Result, Ok, Err, OnOk, is_some}
-use Rattle.std.specs.Ordering.{eq_by_cmp}
+use Rattle.std.proofs.Common.{◌≡◌, ◌∙◌, refl, sym, ap, subst, arith, ℕ, inl, inr, true, List, [], ◌∷◌, map, length, Option, None, Some, Result, Ok, Err, OnOk, is_some}
 use Rattle.std.specs.FinMap as maps
 use Rattle.std.specs.FinMap.{FinMap}
 use Rattle.std.proofs.lemmas.Option.{none-some}
@@ -16,12 +15,10 @@ use Rattle.session_defs.specs.Octets.{Stream}
 use Rattle.session_defs.specs.PeerSession.{PeerSession, fault_at, peer_cmp, stream_at}
 use Rattle.edge_defs.specs.Place.{EdgePlace}
 use Rattle.edge_home.specs.Home.{place_of}
-use Rattle.table_laws.proofs.CompareLemmas.{one_key}
 use Rattle.node_defs.specs.EdgeState.{EdgeState, all_taken, call_of, called, took, took_unless}
 use Rattle.node_laws.proofs.TakenLemmas.{message_called, spent_takes}
 use Rattle.edge_streams.specs.Kept.{session}
 use Rattle.edge_streams.specs.Streams.{with_octets}
-use Rattle.edge_streams.proofs.SessionMaps.{peer_cmp_exact, peer_cmp_total}
 use Rattle.edge_core.specs.declared.fault.EdgeFault.{EdgeFault}
 use Rattle.edge_core.specs.declared.fault.EdgeFault.TheVariants as faults
 use Rattle.edge_core.specs.declared.parts.Parts.{Parts}
@@ -29,7 +26,8 @@ use Rattle.edge_core.specs.Answers.{Makes, spent_by}
 use Rattle.edge_core.specs.Called.{Settles, SettlesCall, behind, going, spent_after}
 use Rattle.edge_core.specs.State.{IsIn, IsLive, is_up}
 use Rattle.edge_core.specs.Taking.{AnswersOctets, IsSessionFault, taken_by, took_by}
-use Rattle.edge_streams.proofs.DrainLemmas.{put_again, put_same, put_there, stream_or, stream_put}
+use Rattle.edge_streams.proofs.DrainLemmas.{put_same}
+use Rattle.edge_streams.proofs.FedLemmas.{drained_is, now_fed, put_quiet, put_up, stream_fed}
 use Rattle.edge_core.proofs.StepLemmas.{one_fault}
 
 -- ---- messages
@@ -142,45 +140,23 @@ up_there kind peer parts live up = live.up kind peer ∙ up
 
 module _ (own : PeerSession) (octets : List ℕ) (old streams : FinMap peer_cmp Stream) (up : is_some (maps.get old own) ≡ true) (quiet : (other : PeerSession) → (stream_at old other).waiting ≡ [])
     (fed_so : streams ≡ with_octets own octets old) where
-  abbrev now_fed : Stream
-  now_fed = fed (front_of own.kind) (stream_at old own) octets
-
-  -- the octets go to the stream that is there
-  pub fed_is : streams ≡ maps.insert old own now_fed
-  fed_is = fed_so ∙ by (maps.get old own) refl up
-    where
-      by : (o : Option Stream) → maps.get old own ≡ o → is_some o ≡ true → (elim o as (λ _. FinMap peer_cmp Stream) [ None ↦ old | Some stream ↦ maps.insert old own (fed (front_of own.kind) stream octets) ]) ≡ maps.insert old own now_fed
-      by None e h = absurd cc
-      by (Some stream) e h = ap (λ (s : Stream). maps.insert old own (fed (front_of own.kind) s octets)) (stream_is stream e)
-        where
-          stream_is : (s : Stream) → maps.get old own ≡ Some s → s ≡ stream_at old own
-          stream_is s k = sym (ap stream_or k)
-
-  pub stream_fed : stream_at streams own ≡ now_fed
-  stream_fed = ap (λ (s : FinMap peer_cmp Stream). stream_at s own) fed_is ∙ stream_put old own now_fed
-
-  pub fed_there : is_some (maps.get streams own) ≡ true
-  fed_there = put_there old streams own now_fed fed_is
-
-  -- once the messages are taken out
-  pub drained_is : (drained : FinMap peer_cmp Stream) → drained ≡ maps.insert streams own (record (stream_at streams own) { waiting = [] }) → drained ≡ maps.insert old own (record now_fed { waiting = [] })
-  drained_is drained is =
-      is ∙ ((λ i. maps.insert (fed_is i) own (record (stream_fed i) { waiting = [] })) ∙ put_again old own now_fed (record now_fed { waiting = [] }))
+  abbrev whole_fed : Stream
+  whole_fed = now_fed own octets old streams up fed_so
 
   -- the edge of the definitions takes them so
   pub took_is : (place : EdgePlace) (now : ℕ) (state : EdgeState) → state.spent ≡ None → state.streams ≡ old
-      → all_taken place now own.peer now_fed.waiting (record state { streams = maps.insert old own (record now_fed { waiting = [] }) }) ≡ took place now own octets state
+      → all_taken place now own.peer whole_fed.waiting (record state { streams = maps.insert old own (record whole_fed { waiting = [] }) }) ≡ took place now own octets state
   took_is place now state unspent are = by (fault_at old own) refl
     where
       by : (fault : Option (ℕ × SessionFault)) → fault_at old own ≡ fault
-          → all_taken place now own.peer now_fed.waiting (record state { streams = maps.insert old own (record now_fed { waiting = [] }) }) ≡ took place now own octets state
+          → all_taken place now own.peer whole_fed.waiting (record state { streams = maps.insert old own (record whole_fed { waiting = [] }) }) ≡ took place now own octets state
       by None e =
           sym ((λ i. took_unless (unspent i) ((ap (λ (s : FinMap peer_cmp Stream). fault_at s own) are ∙ e) i) place now own octets state)
           ∙ (λ i. all_taken place now own.peer (fed (front_of own.kind) (stream_at (are i) own) octets).waiting
           (record state { streams = maps.insert (are i) own (record (fed (front_of own.kind) (stream_at (are i) own) octets) { waiting = [] }) })))
       by (Some fault) e =
           let d = stream_at old own in
-          let same : now_fed ≡ d = λ i. fed_unless (front_of own.kind) (e i) d octets in
+          let same : whole_fed ≡ d = λ i. fed_unless (front_of own.kind) (e i) d octets in
           (λ i. all_taken place now own.peer (same i).waiting (record state { streams = maps.insert old own (record (same i) { waiting = [] }) }))
           ∙ ((λ i. all_taken place now own.peer (quiet own i) (record state { streams = maps.insert old own (record d { waiting = sym (quiet own) i }) }))
           ∙ ((λ i. record state { streams = put_same old own up i })
@@ -195,13 +171,13 @@ module _ (core : Topology) (now : ℕ) (kind : Kind) (peer : NodeId) (octets : L
   own = session kind peer
 
   abbrev whole : Stream
-  whole = now_fed own octets old.streams streams up live.quiet fed_so
+  whole = now_fed own octets old.streams streams up fed_so
 
   abbrev mid : Parts
   mid = record old { streams = drained }
 
   are_drained : drained ≡ maps.insert old.streams own (record whole { waiting = [] })
-  are_drained = drained_is own octets old.streams streams up live.quiet fed_so drained drained_so
+  are_drained = drained_is own octets old.streams streams up fed_so drained drained_so
 
   pub mid_live : IsLive old.routing old.labels drained
   mid_live = record {
@@ -211,20 +187,9 @@ module _ (core : Topology) (now : ℕ) (kind : Kind) (peer : NodeId) (octets : L
     leaves = live.leaves;
     up = λ other_kind other.
         ap (λ (s : FinMap peer_cmp Stream). is_some (maps.get s (session other_kind other))) are_drained
-        ∙ (ap (λ (o : Option Stream). is_some o) (maps.get-insert peer_cmp_total old.streams own (record whole { waiting = [] }) (session other_kind other))
-        ∙ (still_there (session other_kind other) (eq_by_cmp peer_cmp (session other_kind other) own) refl ∙ live.up other_kind other));
-    quiet = λ other. ap (λ (s : FinMap peer_cmp Stream). (stream_at s other).waiting) are_drained
-        ∙ (ap (λ (o : Option Stream). (stream_or o).waiting) (maps.get-insert peer_cmp_total old.streams own (record whole { waiting = [] }) other)
-        ∙ still_quiet other (eq_by_cmp peer_cmp other own));
+        ∙ (put_up old.streams own (record whole { waiting = [] }) up (session other_kind other) ∙ live.up other_kind other);
+    quiet = λ other. ap (λ (s : FinMap peer_cmp Stream). (stream_at s other).waiting) are_drained ∙ put_quiet old.streams own (record whole { waiting = [] }) refl live.quiet other;
   }
-    where
-      still_there : (q : PeerSession) (b : Bool) → eq_by_cmp peer_cmp q own ≡ b → is_some (cond b (Some (record whole { waiting = [] })) (maps.get old.streams q)) ≡ is_some (maps.get old.streams q)
-      still_there q true e = sym (ap (λ (s : PeerSession). is_some (maps.get old.streams s)) (one_key peer_cmp_exact q own e) ∙ up)
-      still_there q false e = refl
-
-      still_quiet : (q : PeerSession) (b : Bool) → (stream_or (cond b (Some (record whole { waiting = [] })) (maps.get old.streams q))).waiting ≡ []
-      still_quiet q true = refl
-      still_quiet q false = live.quiet q
 
   in_mid : (state : EdgeState) → IsIn state (going old) → IsIn (record state { streams = maps.insert old.streams own (record whole { waiting = [] }) }) (going mid)
   in_mid state in_old = record {
@@ -245,7 +210,7 @@ module _ (core : Topology) (now : ℕ) (kind : Kind) (peer : NodeId) (octets : L
 
   module _ (messages : List SessionMessage) (are : messages ≡ (stream_at streams own).waiting) where
     whole_is : messages ≡ whole.waiting
-    whole_is = are ∙ ap (λ (s : Stream). s.waiting) (stream_fed own octets old.streams streams up live.quiet fed_so)
+    whole_is = are ∙ ap (λ (s : Stream). s.waiting) (stream_fed own octets old.streams streams up fed_so)
 
     settled_whole : (result : Result (Unit {0}) EdgeFault) → Settles core (taken_by (going mid) now peer messages) (going mid) new result → Settles core (taken_by (going mid) now peer whole.waiting) (going mid) new result
     settled_whole result h = subst (λ (ms : List SessionMessage). Settles core (taken_by (going mid) now peer ms) (going mid) new result) whole_is h

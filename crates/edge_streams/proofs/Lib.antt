@@ -5,3 +5,4 @@ pub mod SpelledLemmas
 pub mod Prefixes
 pub mod Writable
 pub mod DrainLemmas
+pub mod FedLemmas

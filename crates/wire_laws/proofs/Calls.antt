@@ -28,9 +28,9 @@ use Rattle.node_laws.proofs.OctetLemmas.{peer_total, waiting_less}
 use Rattle.node_laws.proofs.TakenLemmas.{message_called, spent_takes}
 use Rattle.world_defs.specs.Counts.{direction}
 use Rattle.world_defs.specs.Nodes.{Nodes, NodeState, Edge, place_of, with_node}
-use Rattle.world_defs.specs.System.{Own, node_called, system}
-use Rattle.wire_laws.specs.Edges.{IsEdgeAt, IsFreshFor, session_with}
-use Rattle.wire_laws.proofs.Puts.{append_assoc, edge_from, puts_wait, same_session, tie}
+use Rattle.world_defs.specs.System.{node_called, system}
+use Rattle.wire_laws.specs.Edges.{IsEdgeAt, IsEdgeBefore, IsWay, session_with}
+use Rattle.wire_laws.proofs.Puts.{append_assoc, edge_from, puts_wait, tie}
 
 -- ---- what is put, in two
 
@@ -79,33 +79,36 @@ prepared_spent Timers edge = refl
 prepared_spent Rerouted edge = refl
 
 -- the streams once the call is prepared
-streams_prepared : (n : NodeId) (network : OctetNetwork Nodes) (puts : List Put) (call : Call) (edge : EdgeState) → IsEdgeAt n network puts edge → IsFreshFor n network call
-    → (kind : Kind) (peer : NodeId) → stream_at (prepared call edge).streams (session_with kind peer) ≡ network.stream (direction kind peer n)
-streams_prepared n network puts (Raised own from) edge is fresh kind peer =
-    ap stream_or (maps.get-insert peer_total edge.streams (session_with own from) unfed (session_with kind peer)) ∙ by (eq_by_cmp peer_cmp (session_with kind peer) (session_with own from)) refl
-  where
-    by : (b : Bool) → eq_by_cmp peer_cmp (session_with kind peer) (session_with own from) ≡ b → stream_or (cond b (Some unfed) (maps.get edge.streams (session_with kind peer))) ≡ network.stream (direction kind peer n)
-    by true e = sym (ap (λ (s : PeerSession). network.stream (direction s.kind s.peer n)) (same_session kind own peer from e) ∙ fresh)
-    by false e = is.streams kind peer
-streams_prepared n network puts (Noticed own from) edge is fresh kind peer =
-    ap stream_or (maps.get-remove peer_total edge.streams (session_with own from) (session_with kind peer)) ∙ by (eq_by_cmp peer_cmp (session_with kind peer) (session_with own from)) refl
-  where
-    by : (b : Bool) → eq_by_cmp peer_cmp (session_with kind peer) (session_with own from) ≡ b → stream_or (cond b None (maps.get edge.streams (session_with kind peer))) ≡ network.stream (direction kind peer n)
-    by true e = sym (ap (λ (s : PeerSession). network.stream (direction s.kind s.peer n)) (same_session kind own peer from e) ∙ fresh)
-    by false e = is.streams kind peer
-streams_prepared n network puts (Update peer message) edge is fresh kind q = is.streams kind q
-streams_prepared n network puts (Label peer message) edge is fresh kind q = is.streams kind q
-streams_prepared n network puts (Pim iface message) edge is fresh kind q = is.streams kind q
-streams_prepared n network puts (Active iface source group) edge is fresh kind q = is.streams kind q
-streams_prepared n network puts (Idle iface source group) edge is fresh kind q = is.streams kind q
-streams_prepared n network puts (Select vrf pattern) edge is fresh kind q = is.streams kind q
-streams_prepared n network puts (Unselect vrf pattern) edge is fresh kind q = is.streams kind q
-streams_prepared n network puts Timers edge is fresh kind q = is.streams kind q
-streams_prepared n network puts Rerouted edge is fresh kind q = is.streams kind q
+module _ (n : NodeId) (network : OctetNetwork Nodes) (edge : EdgeState) where
+  -- a stream that begins in the call, and any other
+  begun_or : (own : Kind) (from : NodeId) (kind : Kind) (peer : NodeId) → ((same_kind own kind && (from.0 == peer.0)) ≡ true → network.stream (direction kind peer n) ≡ unfed)
+      → ((same_kind own kind && (from.0 == peer.0)) ≡ false → stream_at edge.streams (session_with kind peer) ≡ network.stream (direction kind peer n)) → (o : Option Stream) → stream_or o ≡ unfed
+      → stream_or (cond (eq_by_cmp peer_cmp (session_with kind peer) (session_with own from)) o (maps.get edge.streams (session_with kind peer))) ≡ network.stream (direction kind peer n)
+  begun_or own from kind peer begun same o none =
+      ap (λ (b : Bool). stream_or (cond b o (maps.get edge.streams (session_with kind peer)))) (tie kind own peer from) ∙ by (same_kind own kind && (from.0 == peer.0)) refl
+    where
+      by : (b : Bool) → (same_kind own kind && (from.0 == peer.0)) ≡ b → stream_or (cond b o (maps.get edge.streams (session_with kind peer))) ≡ network.stream (direction kind peer n)
+      by true e = none ∙ sym (begun e)
+      by false e = same e
+
+  streams_prepared : (call : Call) → IsEdgeBefore n network call edge → (kind : Kind) (peer : NodeId) → stream_at (prepared call edge).streams (session_with kind peer) ≡ network.stream (direction kind peer n)
+  streams_prepared (Raised own from) is kind peer =
+      ap stream_or (maps.get-insert peer_total edge.streams (session_with own from) unfed (session_with kind peer)) ∙ begun_or own from kind peer (is.begun kind peer) (is.streams kind peer) (Some unfed) refl
+  streams_prepared (Noticed own from) is kind peer =
+      ap stream_or (maps.get-remove peer_total edge.streams (session_with own from) (session_with kind peer)) ∙ begun_or own from kind peer (is.begun kind peer) (is.streams kind peer) None refl
+  streams_prepared (Update peer message) is kind q = is.streams kind q refl
+  streams_prepared (Label peer message) is kind q = is.streams kind q refl
+  streams_prepared (Pim iface message) is kind q = is.streams kind q refl
+  streams_prepared (Active iface source group) is kind q = is.streams kind q refl
+  streams_prepared (Idle iface source group) is kind q = is.streams kind q refl
+  streams_prepared (Select vrf pattern) is kind q = is.streams kind q refl
+  streams_prepared (Unselect vrf pattern) is kind q = is.streams kind q refl
+  streams_prepared Timers is kind q = is.streams kind q refl
+  streams_prepared Rerouted is kind q = is.streams kind q refl
 
 -- ---- one step
 
-module _ (n : NodeId) (network : OctetNetwork Nodes) (puts : List Put) (call : Call) (edge : EdgeState) (is : IsEdgeAt n network puts edge) where
+module _ (n : NodeId) (network : OctetNetwork Nodes) (puts : List Put) (call : Call) (edge : EdgeState) (node : network.state.node n ≡ Edge edge.edge) (unspent : edge.spent ≡ None) where
   abbrev place : EdgePlace
   place = place_of network.state n
 
@@ -124,16 +127,16 @@ module _ (n : NodeId) (network : OctetNetwork Nodes) (puts : List Put) (call : C
     pub same_place : place_of new.state n ≡ place
     pub same_clock : new.state.clock ≡ now
 
-  module _ (waits : (kind : Kind) (peer : NodeId) → waiting_at (prepared call edge).waiting (session_with kind peer) ≡ octets_over (direction kind n peer) puts)
+  module _ (waits : (kind : Kind) (peer : NodeId) → IsWay network.state.scenario (direction kind n peer) → waiting_at (prepared call edge).waiting (session_with kind peer) ≡ octets_over (direction kind n peer) puts)
       (streams : (kind : Kind) (peer : NodeId) → stream_at (prepared call edge).streams (session_with kind peer) ≡ network.stream (direction kind peer n)) where
     stepped_by : (new : EdgeStepped) → edge_step place now edge.edge call ≡ Some new → IsStepped (made_by new)
     stepped_by new e = record {
-      edge_is = subst (λ (x : EdgeState). IsEdgeAt n (octets.with_octets network (made_by new)) (puts ++ (made_by new).puts) x) (sym (edge_after place now call edge new is.unspent e)) (record {
+      edge_is = subst (λ (x : EdgeState). IsEdgeAt n (octets.with_octets network (made_by new)) (puts ++ (made_by new).puts) x) (sym (edge_after place now call edge new unspent e)) (record {
         node = λ i. cond (eq-eqb n.0 n.0 refl i) (Edge new.edge) (network.state.node n);
-        unspent = prepared_spent call edge ∙ is.unspent;
-        waiting = λ kind peer.
+        unspent = prepared_spent call edge ∙ unspent;
+        waiting = λ kind peer way.
             puts_wait n kind peer (made_by new).puts (prepared call edge).waiting (edge_from place now edge.edge new)
-            ∙ (ap (λ (l : List ℕ). l ++ octets_over (direction kind n peer) (made_by new).puts) (waits kind peer) ∙ sym (over_both (direction kind n peer) puts (made_by new).puts));
+            ∙ (ap (λ (l : List ℕ). l ++ octets_over (direction kind n peer) (made_by new).puts) (waits kind peer way) ∙ sym (over_both (direction kind n peer) puts (made_by new).puts));
         streams = streams;
       });
       same_place = refl;
@@ -149,7 +152,7 @@ module _ (n : NodeId) (network : OctetNetwork Nodes) (puts : List Put) (call : C
   step_lacks e = by (edge_step place now edge.edge call) refl
     where
       by : (o : Option EdgeStepped) → edge_step place now edge.edge call ≡ o → (called place now edge call).spent ≡ Some LacksLabel
-      by None h = ap (λ (x : EdgeState). x.spent) (edge_called place now call edge None is.unspent h)
+      by None h = ap (λ (x : EdgeState). x.spent) (edge_called place now call edge None unspent h)
       by (Some made) h = absurd (none-some (made_by made) (sym e ∙ ap (λ (o : Option EdgeStepped). o >>? λ made. Some (made_by made)) h))
 
 -- ---- acts
@@ -163,18 +166,16 @@ pub with_none : (network : OctetNetwork Nodes) (o : Option (Stepped Nodes)) → 
 with_none network None e = refl
 with_none network (Some st) e = absurd (none-some _ (sym e))
 
-pub call_made : (n : NodeId) (network : OctetNetwork Nodes) (edge : EdgeState) (call : Call) (new : Behind (OctetNetwork Nodes)) → IsEdgeAt n network [] edge → IsFreshFor n network call
-    → octet_act system network (octets.Call (Own n call)) ≡ Some new → IsEdgeAt n new.network new.puts (called (place_of network.state n) network.state.clock edge call)
-call_made n network edge call new is fresh e =
-    let x = with_some network (node_called network.state n (network.state.node n) call) new e in
-    let st = step_made n network [] call edge is (λ kind peer. waits_prepared call edge (session_with kind peer) (is.waiting kind peer)) (streams_prepared n network [] call edge is fresh) x.0
-    (ap (λ (state : NodeState). node_called network.state n state call) (sym is.node) ∙ x.1) in
+pub call_made : (n : NodeId) (network : OctetNetwork Nodes) (edge : EdgeState) (call : Call) (new : Behind (OctetNetwork Nodes)) → IsEdgeBefore n network call edge
+    → octets.with_step network (node_called network.state n (Edge edge.edge) call) ≡ Some new → IsEdgeAt n new.network new.puts (called (place_of network.state n) network.state.clock edge call)
+call_made n network edge call new is e =
+    let x = with_some network (node_called network.state n (Edge edge.edge) call) new e in
+    let st = step_made n network [] call edge is.node is.unspent (λ kind peer way. waits_prepared call edge (session_with kind peer) (is.waiting kind peer way)) (streams_prepared n network edge call is) x.0 x.1 in
     subst (λ (b : Behind (OctetNetwork Nodes)). IsEdgeAt n b.network b.puts (called (place_of network.state n) network.state.clock edge call)) x.2 st.edge_is
 
-pub call_lacks : (n : NodeId) (network : OctetNetwork Nodes) (edge : EdgeState) (call : Call) → IsEdgeAt n network [] edge → octet_act system network (octets.Call (Own n call)) ≡ None
+pub call_lacks : (n : NodeId) (network : OctetNetwork Nodes) (edge : EdgeState) (call : Call) → IsEdgeBefore n network call edge → octets.with_step network (node_called network.state n (Edge edge.edge) call) ≡ None
     → (called (place_of network.state n) network.state.clock edge call).spent ≡ Some LacksLabel
-call_lacks n network edge call is e =
-    step_lacks n network [] call edge is (ap (λ (state : NodeState). node_called network.state n state call) (sym is.node) ∙ with_none network (node_called network.state n (network.state.node n) call) e)
+call_lacks n network edge call is e = step_lacks n network [] call edge is.node is.unspent (with_none network (node_called network.state n (Edge edge.edge) call) e)
 
 -- ---- what was put before
 
@@ -198,10 +199,10 @@ module _ (n from : NodeId) (kind : Kind) where
   over = direction kind from n
 
   message_made : (network : OctetNetwork Nodes) (puts : List Put) (message : SessionMessage) (edge : EdgeState) (is : IsEdgeAt n network puts edge) (new : Stepped Nodes)
-      → system.taken over message network.state ≡ Some new → IsStepped n network puts (call_of from message) edge is new
+      → system.taken over message network.state ≡ Some new → IsStepped n network puts (call_of from message) edge is.node is.unspent new
   message_made network puts message edge is new e =
-      step_made n network puts (call_of from message) edge is
-      (λ k peer. ap (λ (x : EdgeState). waiting_at x.waiting (session_with k peer)) (calm_waits from message edge) ∙ is.waiting k peer)
+      step_made n network puts (call_of from message) edge is.node is.unspent
+      (λ k peer way. ap (λ (x : EdgeState). waiting_at x.waiting (session_with k peer)) (calm_waits from message edge) ∙ is.waiting k peer way)
       (λ k peer. ap (λ (x : EdgeState). stream_at x.streams (session_with k peer)) (calm_waits from message edge) ∙ is.streams k peer)
       new (ap (λ (state : NodeState). node_called network.state n state (call_of from message)) (sym is.node) ∙ e)
 
@@ -246,7 +247,7 @@ module _ (n from : NodeId) (kind : Kind) where
           → (all_taken place now from (message ∷ more) edge).spent ≡ Some LacksLabel
       by None h rest =
           ap (λ (x : EdgeState). (all_taken place now from more x).spent) (message_called place now from message edge)
-          ∙ so edge_behind (step_lacks n network puts (call_of from message) edge is (ap (λ (state : NodeState). node_called network.state n state (call_of from message)) (sym is.node) ∙ h))
+          ∙ so edge_behind (step_lacks n network puts (call_of from message) edge is.node is.unspent (ap (λ (state : NodeState). node_called network.state n state (call_of from message)) (sym is.node) ∙ h))
       by (Some st) h rest =
           let made = message_made network puts message edge is st h in
           let lacking : octets.all_taken system (octets.with_octets network st) over more ≡ None =

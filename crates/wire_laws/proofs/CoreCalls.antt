@@ -23,7 +23,7 @@ use Rattle.label_defs.proofs.SettleLemmas.{bind_some}
 use Rattle.session_defs.specs.Message.{SessionMessage, Bgp, Label as LabelMessage, front_of, same_direction}
 use Rattle.session_defs.specs.Octets as octets
 use Rattle.session_defs.specs.Octets.{OctetNetwork, Stream, octet_act}
-use Rattle.session_defs.specs.PeerSession.{PeerSession, fault_at, peer_cmp, stream_at}
+use Rattle.session_defs.specs.PeerSession.{fault_at, peer_cmp, stream_at}
 use Rattle.session_defs.specs.System.{Behind, Put, Stepped, octets_over, with_earlier}
 use Rattle.session_defs.specs.declared.direction.Direction.{Direction}
 use Rattle.edge_defs.specs.Place.{addr_of}
@@ -37,10 +37,10 @@ use Rattle.world_defs.specs.Counts.{direction}
 use Rattle.world_defs.specs.Nodes.{Nodes, CoreNode, core_at, label_place_of, with_node}
 use Rattle.world_defs.specs.System as world_steps
 use Rattle.world_defs.specs.System.{NodeCall, Own, node_called, system, unchanged}
-use Rattle.wire_laws.specs.CoreNodes.{CoreState, IsCoreAt, core_all_taken, core_called, core_called_unless, core_took, core_took_unless, ldp_with, streams_behind}
-use Rattle.wire_laws.specs.Edges.{IsFreshFor}
+use Rattle.wire_laws.specs.CoreNodes.{CoreState, IsCoreAt, IsCoreBefore, core_all_taken, core_called, core_called_unless, core_took, core_took_unless, ldp_with, streams_behind}
+use Rattle.wire_laws.specs.Edges.{IsWay}
 use Rattle.wire_laws.proofs.Calls.{earlier_none, earlier_some, one_way, over_both, some_either, stream_or, with_none, with_some}
-use Rattle.wire_laws.proofs.Puts.{append_assoc, one_node, same_session}
+use Rattle.wire_laws.proofs.Puts.{append_assoc, one_node, tie}
 
 -- ---- what is put
 
@@ -115,7 +115,8 @@ prepared_part Rerouted node = refl
 
 -- ---- one step
 
-module _ (n : NodeId) (network : OctetNetwork Nodes) (puts : List Put) (own : Call) (core : CoreState) (is : IsCoreAt n network puts core) where
+module _ (n : NodeId) (network : OctetNetwork Nodes) (puts : List Put) (own : Call) (core : CoreState) (node : network.state.node n ≡ CoreNode core.node.part) (unspent : core.node.spent ≡ None)
+    (silent : (peer : NodeId) → octets_over (direction kinds.Bgp n peer) puts ≡ []) where
   abbrev place : NodePlace
   place = node_place network.state.scenario n
 
@@ -142,9 +143,9 @@ module _ (n : NodeId) (network : OctetNetwork Nodes) (puts : List Put) (own : Ca
 
   called_is : core_called place known now core own ≡ record { node = nodes.behind addr own_place now (prepared own core.node) own (label_step own_place now core.node.part own); streams = streams_behind own core.streams }
   called_is =
-      (λ i. core_called_unless (is.unspent i) place known now core own)
+      (λ i. core_called_unless (unspent i) place known now core own)
       ∙ (λ i. record {
-        node = called_unless (is.unspent i) (sym (one_addr network.state.scenario n) i) (sym (one_place network.state.scenario known n) i) now core.node own;
+        node = called_unless (unspent i) (sym (one_addr network.state.scenario n) i) (sym (one_place network.state.scenario known n) i) now core.node own;
         streams = streams_behind own core.streams;
       })
 
@@ -154,20 +155,20 @@ module _ (n : NodeId) (network : OctetNetwork Nodes) (puts : List Put) (own : Ca
     pub same_core : core_at new.state n ≡ known
     pub same_clock : new.state.clock ≡ now
 
-  module _ (waits : (peer : NodeId) → waiting_for (prepared own core.node).waiting peer ≡ octets_over (direction kinds.Ldp n peer) puts)
+  module _ (waits : (peer : NodeId) → IsWay network.state.scenario (direction kinds.Ldp n peer) → waiting_for (prepared own core.node).waiting peer ≡ octets_over (direction kinds.Ldp n peer) puts)
       (streams : (peer : NodeId) → stream_at (streams_behind own core.streams) (ldp_with peer) ≡ network.stream (direction kinds.Ldp peer n)) where
     stepped_by : (new : settling.Stepped) → label_step own_place now core.node.part own ≡ Some new → IsStepped (made_by new)
     stepped_by new e = record {
       core_is = subst (λ (x : CoreState). IsCoreAt n (octets.with_octets network (made_by new)) (puts ++ (made_by new).puts) x)
           (sym (called_is ∙ (λ i. record { node = nodes.behind addr own_place now (prepared own core.node) own (e i); streams = streams_behind own core.streams }))) (record {
             node = λ i. cond (eq-eqb n.0 n.0 refl i) (CoreNode new.part) (network.state.node n);
-            unspent = prepared_spent own core.node ∙ is.unspent;
-            waiting = λ peer.
+            unspent = prepared_spent own core.node ∙ unspent;
+            waiting = λ peer way.
                 ap (λ (part : LabelData). waiting_for (with_pdus addr (step_puts own_place now part own new.puts) (prepared own core.node).waiting) peer) (prepared_part own core.node)
                 ∙ (pdus_wait n addr (step_puts own_place now core.node.part own new.puts) (prepared own core.node).waiting peer
-                ∙ (ap (λ (l : List ℕ). l ++ octets_over (direction kinds.Ldp n peer) (made_by new).puts) (waits peer) ∙ sym (over_both (direction kinds.Ldp n peer) puts (made_by new).puts)));
+                ∙ (ap (λ (l : List ℕ). l ++ octets_over (direction kinds.Ldp n peer) (made_by new).puts) (waits peer way) ∙ sym (over_both (direction kinds.Ldp n peer) puts (made_by new).puts)));
             silent = λ peer. over_both (direction kinds.Bgp n peer) puts (made_by new).puts
-                ∙ (λ i. is.silent peer i ++ no_pdus n addr (step_puts own_place now core.node.part own new.puts) peer i);
+                ∙ (λ i. silent peer i ++ no_pdus n addr (step_puts own_place now core.node.part own new.puts) peer i);
             streams = streams;
           });
       same_place = refl;
@@ -189,65 +190,66 @@ module _ (n : NodeId) (network : OctetNetwork Nodes) (puts : List Put) (own : Ca
 
 -- ---- acts
 
-core_step : (n : NodeId) (network : OctetNetwork Nodes) (puts : List Put) (core : CoreState) (is : IsCoreAt n network puts core) (call : steps.Call) (own : Call) → own_label_call call ≡ Some own
-    → node_called network.state n (network.state.node n) call ≡ step n network puts own core is
-core_step n network puts core is call own e =
-    (λ i. node_called network.state n (is.node i) call) ∙ (λ i. world_steps.core_called network.state n core.node.part (e i))
+core_step : (n : NodeId) (network : OctetNetwork Nodes) (puts : List Put) (core : CoreState) (node : network.state.node n ≡ CoreNode core.node.part) (unspent : core.node.spent ≡ None)
+    (silent : (peer : NodeId) → octets_over (direction kinds.Bgp n peer) puts ≡ []) (call : steps.Call) (own : Call) → own_label_call call ≡ Some own
+    → node_called network.state n (CoreNode core.node.part) call ≡ step n network puts own core node unspent silent
+core_step n network puts core node unspent silent call own e = λ i. world_steps.core_called network.state n core.node.part (e i)
 
 -- the streams once the call is prepared
-module _ (n : NodeId) (network : OctetNetwork Nodes) (puts : List Put) (core : CoreState) (is : IsCoreAt n network puts core) where
-  raised_streams : (from peer : NodeId) → network.stream (direction kinds.Ldp from n) ≡ unfed → stream_at (maps.insert core.streams (ldp_with from) unfed) (ldp_with peer) ≡ network.stream (direction kinds.Ldp peer n)
-  raised_streams from peer fresh =
-      ap stream_or (maps.get-insert peer_total core.streams (ldp_with from) unfed (ldp_with peer)) ∙ by (eq_by_cmp peer_cmp (ldp_with peer) (ldp_with from)) refl
+module _ (n : NodeId) (network : OctetNetwork Nodes) (core : CoreState) where
+  begun_or : (from peer : NodeId) → ((from.0 == peer.0) ≡ true → network.stream (direction kinds.Ldp peer n) ≡ unfed)
+      → ((from.0 == peer.0) ≡ false → stream_at core.streams (ldp_with peer) ≡ network.stream (direction kinds.Ldp peer n)) → (o : Option Stream) → stream_or o ≡ unfed
+      → stream_or (cond (eq_by_cmp peer_cmp (ldp_with peer) (ldp_with from)) o (maps.get core.streams (ldp_with peer))) ≡ network.stream (direction kinds.Ldp peer n)
+  begun_or from peer begun same o none =
+      ap (λ (b : Bool). stream_or (cond b o (maps.get core.streams (ldp_with peer)))) (tie kinds.Ldp kinds.Ldp peer from) ∙ by (from.0 == peer.0) refl
     where
-      by : (b : Bool) → eq_by_cmp peer_cmp (ldp_with peer) (ldp_with from) ≡ b → stream_or (cond b (Some unfed) (maps.get core.streams (ldp_with peer))) ≡ network.stream (direction kinds.Ldp peer n)
-      by true e = sym (ap (λ (s : PeerSession). network.stream (direction s.kind s.peer n)) (same_session kinds.Ldp kinds.Ldp peer from e) ∙ fresh)
-      by false e = is.streams peer
-
-  lost_streams : (from peer : NodeId) → network.stream (direction kinds.Ldp from n) ≡ unfed → stream_at (maps.remove core.streams (ldp_with from)) (ldp_with peer) ≡ network.stream (direction kinds.Ldp peer n)
-  lost_streams from peer fresh =
-      ap stream_or (maps.get-remove peer_total core.streams (ldp_with from) (ldp_with peer)) ∙ by (eq_by_cmp peer_cmp (ldp_with peer) (ldp_with from)) refl
-    where
-      by : (b : Bool) → eq_by_cmp peer_cmp (ldp_with peer) (ldp_with from) ≡ b → stream_or (cond b None (maps.get core.streams (ldp_with peer))) ≡ network.stream (direction kinds.Ldp peer n)
-      by true e = sym (ap (λ (s : PeerSession). network.stream (direction s.kind s.peer n)) (same_session kinds.Ldp kinds.Ldp peer from e) ∙ fresh)
-      by false e = is.streams peer
+      by : (b : Bool) → (from.0 == peer.0) ≡ b → stream_or (cond b o (maps.get core.streams (ldp_with peer))) ≡ network.stream (direction kinds.Ldp peer n)
+      by true e = none ∙ sym (begun e)
+      by false e = same e
 
   abbrev Prepared : Call → Type 0
   Prepared own = (peer : NodeId) → stream_at (streams_behind own core.streams) (ldp_with peer) ≡ network.stream (direction kinds.Ldp peer n)
 
-  streams_prepared : (call : steps.Call) (own : Call) → own_label_call call ≡ Some own → IsFreshFor n network call → Prepared own
-  streams_prepared (steps.Label from message) own e fresh = subst Prepared (same_Some (Taken from message) own e) is.streams
-  streams_prepared (steps.Raised kinds.Ldp from) own e fresh = subst Prepared (same_Some (Raised from) own e) (λ peer. raised_streams from peer fresh)
-  streams_prepared (steps.Noticed kinds.Ldp from) own e fresh = subst Prepared (same_Some (Noticed from) own e) (λ peer. lost_streams from peer fresh)
-  streams_prepared steps.Timers own e fresh = subst Prepared (same_Some Timers own e) is.streams
-  streams_prepared steps.Rerouted own e fresh = subst Prepared (same_Some Rerouted own e) is.streams
-  streams_prepared (steps.Raised kinds.Bgp from) own e fresh = absurd (none-some own e)
-  streams_prepared (steps.Noticed kinds.Bgp from) own e fresh = absurd (none-some own e)
-  streams_prepared (steps.Update from message) own e fresh = absurd (none-some own e)
-  streams_prepared (steps.Pim iface message) own e fresh = absurd (none-some own e)
-  streams_prepared (steps.Active iface source group) own e fresh = absurd (none-some own e)
-  streams_prepared (steps.Idle iface source group) own e fresh = absurd (none-some own e)
-  streams_prepared (steps.Select vrf pattern) own e fresh = absurd (none-some own e)
-  streams_prepared (steps.Unselect vrf pattern) own e fresh = absurd (none-some own e)
+  streams_prepared : (call : steps.Call) (own : Call) → own_label_call call ≡ Some own → IsCoreBefore n network call core → Prepared own
+  streams_prepared (steps.Label from message) own e is = subst Prepared (same_Some (Taken from message) own e) (λ peer. is.streams peer refl)
+  streams_prepared (steps.Raised kinds.Ldp from) own e is =
+      subst Prepared (same_Some (Raised from) own e)
+      (λ peer. ap stream_or (maps.get-insert peer_total core.streams (ldp_with from) unfed (ldp_with peer)) ∙ begun_or from peer (is.begun peer) (is.streams peer) (Some unfed) refl)
+  streams_prepared (steps.Noticed kinds.Ldp from) own e is =
+      subst Prepared (same_Some (Noticed from) own e)
+      (λ peer. ap stream_or (maps.get-remove peer_total core.streams (ldp_with from) (ldp_with peer)) ∙ begun_or from peer (is.begun peer) (is.streams peer) None refl)
+  streams_prepared steps.Timers own e is = subst Prepared (same_Some Timers own e) (λ peer. is.streams peer refl)
+  streams_prepared steps.Rerouted own e is = subst Prepared (same_Some Rerouted own e) (λ peer. is.streams peer refl)
+  streams_prepared (steps.Raised kinds.Bgp from) own e is = absurd (none-some own e)
+  streams_prepared (steps.Noticed kinds.Bgp from) own e is = absurd (none-some own e)
+  streams_prepared (steps.Update from message) own e is = absurd (none-some own e)
+  streams_prepared (steps.Pim iface message) own e is = absurd (none-some own e)
+  streams_prepared (steps.Active iface source group) own e is = absurd (none-some own e)
+  streams_prepared (steps.Idle iface source group) own e is = absurd (none-some own e)
+  streams_prepared (steps.Select vrf pattern) own e is = absurd (none-some own e)
+  streams_prepared (steps.Unselect vrf pattern) own e is = absurd (none-some own e)
 
-module _ (n : NodeId) (network : OctetNetwork Nodes) (core : CoreState) (call : steps.Call) (own : Call) (is : IsCoreAt n network [] core) (own_is : own_label_call call ≡ Some own) where
-  pub core_made : (new : Behind (OctetNetwork Nodes)) → IsFreshFor n network call → octet_act system network (octets.Call (Own n call)) ≡ Some new
+nothing_put : (n peer : NodeId) → octets_over (direction kinds.Bgp n peer) [] ≡ []
+nothing_put n peer = refl
+
+module _ (n : NodeId) (network : OctetNetwork Nodes) (core : CoreState) (call : steps.Call) (own : Call) (is : IsCoreBefore n network call core) (own_is : own_label_call call ≡ Some own) where
+  pub core_made : (new : Behind (OctetNetwork Nodes)) → octets.with_step network (node_called network.state n (CoreNode core.node.part) call) ≡ Some new
       → IsCoreAt n new.network new.puts (core_called (node_place network.state.scenario n) (core_at network.state n) network.state.clock core own)
-  core_made new fresh e =
-      let x = with_some network (node_called network.state n (network.state.node n) call) new e in
-      let st = step_made n network [] own core is (λ peer. waits_prepared own core.node peer (is.waiting peer)) (streams_prepared n network [] core is call own own_is fresh) x.0
-      (sym (core_step n network [] core is call own own_is) ∙ x.1) in
+  core_made new e =
+      let x = with_some network (node_called network.state n (CoreNode core.node.part) call) new e in
+      let st = step_made n network [] own core is.node is.unspent (nothing_put n) (λ peer way. waits_prepared own core.node peer (is.waiting peer way)) (streams_prepared n network core call own own_is is) x.0
+      (sym (core_step n network [] core is.node is.unspent (nothing_put n) call own own_is) ∙ x.1) in
       subst (λ (b : Behind (OctetNetwork Nodes)). IsCoreAt n b.network b.puts (core_called (node_place network.state.scenario n) (core_at network.state n) network.state.clock core own)) x.2 st.core_is
 
-  pub core_lacks : octet_act system network (octets.Call (Own n call)) ≡ None
+  pub core_lacks : octets.with_step network (node_called network.state n (CoreNode core.node.part) call) ≡ None
       → (core_called (node_place network.state.scenario n) (core_at network.state n) network.state.clock core own).node.spent ≡ Some LacksLabel
   core_lacks e =
-      step_lacks n network [] own core is (sym (core_step n network [] core is call own own_is) ∙ with_none network (node_called network.state n (network.state.node n) call) e)
+      step_lacks n network [] own core is.node is.unspent (nothing_put n) (sym (core_step n network [] core is.node is.unspent (nothing_put n) call own own_is) ∙ with_none network (node_called network.state n (CoreNode core.node.part) call) e)
 
 -- ---- messages
 
 -- a node that is spent takes nothing
-spent_takes : (at : NodePlace) (core_known : Core) (clock : ℕ) (from : NodeId) (messages : List SessionMessage) (core : CoreState) (cause : Spent) → core.node.spent ≡ Some cause
+pub spent_takes : (at : NodePlace) (core_known : Core) (clock : ℕ) (from : NodeId) (messages : List SessionMessage) (core : CoreState) (cause : Spent) → core.node.spent ≡ Some cause
     → core_all_taken at core_known clock from messages core ≡ core
 spent_takes at core_known clock from [] core cause e = refl
 spent_takes at core_known clock from (Bgp message ∷ more) core cause e = spent_takes at core_known clock from more core cause e
@@ -271,14 +273,15 @@ module _ (n from : NodeId) where
   message_made : (network : OctetNetwork Nodes) (puts : List Put) (message : SessionMessage) (core : CoreState) → IsCoreAt n network puts core → (new : Stepped Nodes)
       → system.taken over message network.state ≡ Some new → IsFirst network puts core (behind_first network message core) new
   message_made network puts (LabelMessage message) core is new e =
-      let st = step_made n network puts (Taken from message) core is is.waiting is.streams new (sym (core_step n network puts core is (steps.Label from message) (Taken from message) refl) ∙ e) in
+      let st = step_made n network puts (Taken from message) core is.node is.unspent is.silent is.waiting is.streams new
+      (sym (core_step n network puts core is.node is.unspent is.silent (steps.Label from message) (Taken from message) refl) ∙ ((λ i. node_called network.state n (sym is.node i) (steps.Label from message)) ∙ e)) in
       record { core_is = st.core_is; same_place = st.same_place; same_core = st.same_core; same_clock = st.same_clock }
   message_made network puts (Bgp message) core is new e =
       subst (IsFirst network puts core core) (same_Some (unchanged network.state) new ((λ i. node_called network.state n (sym is.node i) (steps.Update from message)) ∙ e)) (record {
         core_is = record {
           node = is.node;
           unspent = is.unspent;
-          waiting = λ peer. is.waiting peer ∙ ap (octets_over (direction kinds.Ldp n peer)) (sym (append-nil puts));
+          waiting = λ peer way. is.waiting peer way ∙ ap (octets_over (direction kinds.Ldp n peer)) (sym (append-nil puts));
           silent = λ peer. ap (octets_over (direction kinds.Bgp n peer)) (append-nil puts) ∙ is.silent peer;
           streams = is.streams;
         };
@@ -296,7 +299,8 @@ module _ (n from : NodeId) where
   message_lacks : (network : OctetNetwork Nodes) (puts : List Put) (message : SessionMessage) (core : CoreState) → IsCoreAt n network puts core → system.taken over message network.state ≡ None
       → (behind_first network message core).node.spent ≡ Some LacksLabel
   message_lacks network puts (LabelMessage message) core is e =
-      step_lacks n network puts (Taken from message) core is (sym (core_step n network puts core is (steps.Label from message) (Taken from message) refl) ∙ e)
+      step_lacks n network puts (Taken from message) core is.node is.unspent is.silent
+      (sym (core_step n network puts core is.node is.unspent is.silent (steps.Label from message) (Taken from message) refl) ∙ ((λ i. node_called network.state n (sym is.node i) (steps.Label from message)) ∙ e))
   message_lacks network puts (Bgp message) core is e = absurd (none-some (unchanged network.state) (sym e ∙ (λ i. node_called network.state n (is.node i) (steps.Update from message))))
 
   abbrev taken_in : OctetNetwork Nodes → List SessionMessage → CoreState → CoreState

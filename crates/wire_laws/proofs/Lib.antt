@@ -1,3 +1,5 @@
 pub mod Puts
 pub mod Calls
 pub mod CoreCalls
+pub mod Others
+pub mod AnyNodeLemmas

@@ -49,7 +49,7 @@ peers_from : (place : EdgePlace) (old new : Control) (peers : List NodeId) → A
 peers_from place old new [] = tt
 peers_from place old new (peer ∷ more) = both_from place.me (map (bgp_put place.me peer) (put_to place old new peer)) _ (changes_from place.me peer (put_to place old new peer)) (peers_from place old new more)
 
-messages_from : (me : NodeId) (addr : Addr) (messages : List Numbered) → AreFrom me (map (label_put me addr) messages)
+pub messages_from : (me : NodeId) (addr : Addr) (messages : List Numbered) → AreFrom me (map (label_put me addr) messages)
 messages_from me addr [] = tt
 messages_from me addr (message ∷ more) = (refl, messages_from me addr more)
 

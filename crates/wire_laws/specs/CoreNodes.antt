@@ -1,5 +1,5 @@
 -- A core node as its callers see it, and a core node of the whole network.
-use Rattle.std.specs.Prelude.{◌≡◌, ℕ, List, [], ◌∷◌, Option, None, Some}
+use Rattle.std.specs.Prelude.{◌≡◌, ℕ, true, false, List, [], ◌∷◌, Option, None, Some}
 use Rattle.std.specs.FinMap as maps
 use Rattle.std.specs.FinMap.{FinMap}
 use Rattle.mv_base.specs.declared.ids.NodeId.{NodeId}
@@ -14,7 +14,8 @@ use Rattle.session_defs.specs.PeerSession.{PeerSession, fault_at, peer_cmp, stre
 use Rattle.session_defs.specs.System.{Put, octets_over}
 use Rattle.world_defs.specs.Counts.{direction}
 use Rattle.world_defs.specs.Nodes.{Nodes, CoreNode}
-use Rattle.wire_laws.specs.Edges.{session_with}
+use Rattle.edge_defs.specs.Steps as steps
+use Rattle.wire_laws.specs.Edges.{IsWay, begins, session_with}
 
 -- ---- a core node
 
@@ -78,6 +79,16 @@ core_handed_out peer old = record old { node = handed_out peer old.node }
 pub record IsCoreAt (n : NodeId) (network : OctetNetwork Nodes) (puts : List Put) (core : CoreState) : Type 0 where
   pub node : network.state.node n ≡ CoreNode core.node.part
   pub unspent : core.node.spent ≡ None
-  pub waiting : (peer : NodeId) → waiting_for core.node.waiting peer ≡ octets_over (direction kinds.Ldp n peer) puts
+  pub waiting : (peer : NodeId) → IsWay network.state.scenario (direction kinds.Ldp n peer) →
+      waiting_for core.node.waiting peer ≡ octets_over (direction kinds.Ldp n peer) puts
   pub silent : (peer : NodeId) → octets_over (direction kinds.Bgp n peer) puts ≡ []
   pub streams : (peer : NodeId) → stream_at core.streams (ldp_with peer) ≡ network.stream (direction kinds.Ldp peer n)
+
+-- The core node is that of the network before the call, as an edge is.
+pub record IsCoreBefore (n : NodeId) (network : OctetNetwork Nodes) (call : steps.Call) (core : CoreState) : Type 0 where
+  pub node : network.state.node n ≡ CoreNode core.node.part
+  pub unspent : core.node.spent ≡ None
+  pub waiting : (peer : NodeId) → IsWay network.state.scenario (direction kinds.Ldp n peer) → waiting_for core.node.waiting peer ≡ []
+  pub streams : (peer : NodeId) → begins call kinds.Ldp peer ≡ false →
+      stream_at core.streams (ldp_with peer) ≡ network.stream (direction kinds.Ldp peer n)
+  pub begun : (peer : NodeId) → begins call kinds.Ldp peer ≡ true → network.stream (direction kinds.Ldp peer n) ≡ unfed

@@ -2,13 +2,14 @@ use Rattle.scenario_defs.specs.declared.event.Kind.TheVariants as kinds
 use Rattle.session_defs.specs.Message.{Bgp}
 use Rattle.edge_streams.specs.Kept.{session}
 use Rattle.std.proofs.Common.{map, refl}
-use Rattle.edge_core.proofs.TakingLemmas.{fed_there, mid_live, octets_stopped, octets_taken, up_there}
+use Rattle.edge_streams.proofs.FedLemmas.{fed_there}
+use Rattle.edge_core.proofs.TakingLemmas.{mid_live, octets_stopped, octets_taken, up_there}
 use Rattle.edge_core.proofs.parts.Parts.take_bgp.Goals as goal
 
 pub drain_bgp-requires : goal.drain_bgp-requires
 drain_bgp-requires c =
     let old = c.args.self.now in
-    record { stream = fed_there (session kinds.Bgp c.args.peer) c.args.bytes.now old.streams c.feed_bgp.new.self (up_there kinds.Bgp c.args.peer old c.requires.live c.requires.up) c.requires.live.quiet c.in_ok-feed_bgp.ensures.fed }
+    record { stream = fed_there (session kinds.Bgp c.args.peer) c.args.bytes.now old.streams c.feed_bgp.new.self (up_there kinds.Bgp c.args.peer old c.requires.live c.requires.up) c.in_ok-feed_bgp.ensures.fed }
 
 pub take_updates-requires-clause-live : goal.take_updates-requires-clause-live
 take_updates-requires-clause-live c =

@@ -2,13 +2,14 @@ use Rattle.scenario_defs.specs.declared.event.Kind.TheVariants as kinds
 use Rattle.session_defs.specs.Message.{Label}
 use Rattle.edge_streams.specs.Kept.{session}
 use Rattle.std.proofs.Common.{map, refl}
-use Rattle.edge_core.proofs.TakingLemmas.{fed_there, mid_live, octets_stopped, octets_taken, up_there}
+use Rattle.edge_streams.proofs.FedLemmas.{fed_there}
+use Rattle.edge_core.proofs.TakingLemmas.{mid_live, octets_stopped, octets_taken, up_there}
 use Rattle.edge_core.proofs.parts.Parts.take_ldp.Goals as goal
 
 pub drain_ldp-requires : goal.drain_ldp-requires
 drain_ldp-requires c =
     let old = c.args.self.now in
-    record { stream = fed_there (session kinds.Ldp c.args.peer) c.args.bytes.now old.streams c.feed_ldp.new.self (up_there kinds.Ldp c.args.peer old c.requires.live c.requires.up) c.requires.live.quiet c.in_ok-feed_ldp.ensures.fed }
+    record { stream = fed_there (session kinds.Ldp c.args.peer) c.args.bytes.now old.streams c.feed_ldp.new.self (up_there kinds.Ldp c.args.peer old c.requires.live c.requires.up) c.in_ok-feed_ldp.ensures.fed }
 
 pub take_labels-requires-clause-live : goal.take_labels-requires-clause-live
 take_labels-requires-clause-live c =

@@ -1,0 +1,4 @@
+pub mod UpLemmas
+pub mod StepLemmas
+pub mod TakingLemmas
+pub mod CallLemmas

@@ -1,0 +1,4 @@
+pub mod View
+pub mod Answers
+pub mod Called
+pub mod Taking

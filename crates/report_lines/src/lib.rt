@@ -1,0 +1,14 @@
+//! The line of a report that a text is.
+#![tactic(auto)]
+
+mod bounds;
+mod fault;
+mod fields;
+mod lines;
+mod names;
+mod reader;
+mod words;
+
+pub use bounds::has_type_bounds;
+pub use fault::LineFault;
+pub use reader::read_line;

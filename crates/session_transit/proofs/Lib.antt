@@ -1,0 +1,4 @@
+pub mod DirectionOrder
+pub mod Directions
+pub mod KeptLemmas
+pub mod Totals

@@ -1,0 +1,2 @@
+pub mod TransitData
+pub mod Kept

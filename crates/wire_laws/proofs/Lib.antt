@@ -3,3 +3,7 @@ pub mod Calls
 pub mod CoreCalls
 pub mod Others
 pub mod AnyNodeLemmas
+pub mod EndLemmas
+pub mod AmongLemmas
+pub mod SessionPairs
+pub mod WayLemmas

@@ -1,0 +1,17 @@
+pub mod Basics
+pub mod WayOrder
+pub mod Sums
+pub mod Lists
+pub mod OldCopies
+pub mod AgedWays
+pub mod Pools
+pub mod Holdings
+pub mod Acts
+pub mod Accepts
+pub mod AgeLemmas
+pub mod Landing
+pub mod Datagrams
+pub mod AsMany
+pub mod WayLists
+pub mod Holders
+pub mod Networks

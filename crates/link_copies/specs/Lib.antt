@@ -1,0 +1,3 @@
+pub mod CopiesData
+pub mod Kept
+pub mod Fading

@@ -1,7 +1,7 @@
 #!/usr/bin/env python3
-"""Measures crates alone, and prints two tables.
+"""Measures crates alone, and prints three tables.
 
-    python3 bench/pieces.py [streams|parts]
+    python3 bench/pieces.py [streams|parts|edge]
 
 `streams`: a small program feeds the stream of BGP messages, and that of LDP PDUs, with one message or PDU of make.py over
 and over, in pieces of 1, 7 and 1,000 octets and whole, and takes the messages that wait behind each piece.
@@ -10,10 +10,16 @@ and over, in pieces of 1, 7 and 1,000 octets and whole, and takes the messages t
 8,192 routes, changes of a table of 8,192 routes with a flush behind each, look-ups among 8,192 labels, a label node that
 maps, withdraws and releases the labels of its trees, bindings that are kept and taken among 8,192.
 
-Both are built, with their proofs, in a copy of the crates, so that the repository itself has no program that only
+`edge`: the program of bench/edge/ plays the acts of bench/acts.py at one edge that holds routes of 31 peers: joins and prunes,
+UPDATE messages, label messages, and datagrams that enter. Processor seconds are told, without those of what comes
+first, and the peak memory.
+
+All are built, with their proofs, in a copy of the crates, so that the repository itself has no program that only
 measures. Libraries that are built here already are taken along.
 """
 
+import contextlib
+import os
 import pathlib
 import re
 import shutil
@@ -21,13 +27,31 @@ import subprocess
 import sys
 import tempfile
 
+import acts
 import make
 
 TOP = pathlib.Path(__file__).resolve().parent.parent
 PARTS = TOP / 'bench' / 'parts'
+EDGE = TOP / 'bench' / 'edge'
 SIZES = (8_000_000, 16_000_000)
 PIECES = (1, 7, 1000, 0)
 STREAMS = {'bgp_update': make.message(1), 'mldp_msgs': make.pdu(1)}
+
+# Of each edge: what it has; its interfaces to receivers, the flows of which each peer tells routes, and the entries that come
+# first; and the kinds of acts behind these, each with a turn, and how many turns.
+CALLS = [
+    ('joins', acts.joins, 100),
+    ('told joins', acts.told_joins, 100),
+    ('messages', acts.messages, 100),
+    ('labels', acts.labels, 100),
+]
+ENTERS = [('enters', acts.enters, 1000)]
+EDGES = [
+    ('8,247 routes, 1,023 entries', (5, 88), acts.thousand_entries, CALLS),
+    ('1,086 routes, 1,023 entries', (5, 11), acts.thousand_entries, CALLS),
+    ('8,247 routes, 3 interfaces', (2, 88), acts.two_entries, ENTERS),
+    ('8,247 routes, 256 interfaces', (255, 88), acts.two_entries, ENTERS),
+]
 
 # In the program TOKENS in capitals stand for numbers and names.
 PROGRAM = '''//! Feeds streams in pieces, and prints how long each takes.
@@ -86,8 +110,9 @@ def without_work(folder, names):
     return [name for name in names if name != 'rlib'] if pathlib.Path(folder).name == 'out' else []
 
 
-def output(depends, files):
-    """What the program of these files prints, built in a copy of the crates."""
+@contextlib.contextmanager
+def built(depends, files):
+    """The folder of the program of these files, built in a copy of the crates, and what it prints without words."""
     with tempfile.TemporaryDirectory() as folder:
         copy = pathlib.Path(folder) / 'copy'
         shutil.copytree(TOP / 'crates', copy / 'crates', ignore=without_work)
@@ -98,7 +123,21 @@ def output(depends, files):
             place.write_text(text)
         run = subprocess.run(
             ['rt', 'run'], cwd=copy / 'crates' / 'pieces', stdout=subprocess.PIPE, stderr=subprocess.STDOUT, text=True)
-    return run.stdout
+        yield copy / 'crates' / 'pieces', run.stdout
+
+
+def output(depends, files):
+    with built(depends, files) as (_, printed):
+        return printed
+
+
+def crate_in(folder):
+    """What a folder of bench/ says of a program: the libraries that it uses, and its files."""
+    files = {f'src/{code.name.removesuffix(".txt")}': code.read_text() for code in sorted(folder.glob('*.rt.txt'))}
+    for proof in sorted(folder.glob('*.antt.txt')):
+        place = proof.name.removesuffix('.antt.txt').replace('.', '/')
+        files[f'{place}.antt' if place.startswith('specs/') else f'proofs/{place}.antt'] = proof.read_text()
+    return (folder / 'depends.txt').read_text().strip(), files
 
 
 def streams():
@@ -116,11 +155,7 @@ def streams():
 
 
 def parts():
-    files = {f'src/{code.name.removesuffix(".txt")}': code.read_text() for code in sorted(PARTS.glob('*.rt.txt'))}
-    for proof in sorted(PARTS.glob('*.antt.txt')):
-        place = proof.name.removesuffix('.antt.txt').replace('.', '/')
-        files[f'{place}.antt' if place.startswith('specs/') else f'proofs/{place}.antt'] = proof.read_text()
-    printed = output((PARTS / 'depends.txt').read_text().strip(), files)
+    printed = output(*crate_in(PARTS))
     rows = re.findall(r'^row (\w+) (\d+) (\d+) (\d+)$', printed, re.MULTILINE)
     if not rows:
         print(printed)
@@ -132,9 +167,53 @@ def parts():
     return 0
 
 
+def played(program, scenario, first, again, times):
+    """What is told of so many turns behind the first acts: the numbers that are printed, processor seconds, and peak MiB."""
+    with tempfile.TemporaryDirectory() as folder:
+        files = {'scenario': scenario.encode(), 'first': first, 'again': again}
+        for name, octets in files.items():
+            (pathlib.Path(folder) / name).write_bytes(octets)
+        child = subprocess.Popen([program, *files, str(times)], cwd=folder, stdout=subprocess.PIPE, text=True)
+        printed = child.stdout.read()
+        _, status, usage = os.wait4(child.pid, 0)
+        child.returncode = os.waitstatus_to_exitcode(status)
+    return printed, usage.ru_utime + usage.ru_stime, usage.ru_maxrss / 1024
+
+
+def edge_rows(program):
+    """A row for what comes first at each edge, and one for each kind of acts behind it and number of turns."""
+    for name, size, entries, kinds in EDGES:
+        one = acts.Edge(*size)
+        first = b''.join(acts.first(one, entries))
+        printed, before, memory = played(program, one.text, first, b'', 0)
+        yield name, 'first', 1, printed, before, memory
+        for kind, turn, turns in kinds:
+            again = b''.join(turn(one))
+            for times in (turns, 2 * turns):
+                printed, seconds, memory = played(program, one.text, first, again, times)
+                yield name, kind, times * acts.IN_A_TURN, printed, seconds - before, memory
+
+
+def edge():
+    with built(*crate_in(EDGE)) as (folder, printed):
+        program = folder / 'out' / 'pieces'
+        if not program.exists():
+            print(printed)
+            return 1
+        print('| edge | acts | times | processor seconds | peak memory in MiB |')
+        print('|---|---|---|---|---|')
+        wrong = 0
+        for name, kind, count, printed, seconds, memory in edge_rows(program):
+            print(f'| {name} | {kind} | {count:,} | {seconds:.2f} | {memory:.0f} |', flush=True)
+            if not re.fullmatch(r'row \d+ 0 \d+ \d+ 0 \d+\n', printed):
+                wrong = 1
+                print(f'{name}, {kind}: {printed}', file=sys.stderr)
+    return wrong
+
+
 def main():
-    wanted = sys.argv[1:] or ['streams', 'parts']
-    return max({'streams': streams, 'parts': parts}[name]() for name in wanted)
+    tables = {'streams': streams, 'parts': parts, 'edge': edge}
+    return max(tables[name]() for name in sys.argv[1:] or tables)
 
 
 if __name__ == '__main__':

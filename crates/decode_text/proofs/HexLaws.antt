@@ -41,7 +41,7 @@ turns_back_at (suc n) k h lt =
           rw e parts.0
     ]
 
-digit_bounds : (c v : ℕ) → hex_digit_value c ≡ Some v → (c < 103) × (v < 16)
+pub digit_bounds : (c v : ℕ) → hex_digit_value c ≡ Some v → (c < 103) × (v < 16)
 digit_bounds c v h = (grind arith, grind arith)
 
 lower_digit : (c v : ℕ) → hex_digit_value c ≡ Some v → slice_index lower_digits v ≡ to_ascii_lowercase c
@@ -54,7 +54,7 @@ value_of : (o : Option ℕ) → is_some o ≡ true → (v : ℕ) × (o ≡ Some 
 value_of (Some v) h = (v, refl)
 value_of None h = absurd cc
 
-pair_is : (a b i v w : ℕ) → hex_digit_value a ≡ Some v → hex_digit_value b ≡ Some w → pair_value a b i ≡ Ok (v * 16 + w)
+pub pair_is : (a b i v w : ℕ) → hex_digit_value a ≡ Some v → hex_digit_value b ≡ Some w → pair_value a b i ≡ Ok (v * 16 + w)
 pair_is a b i v w h k = rw (h, k) refl
 
 two_and_rest : (a b c d : ℕ) (xs ys : List ℕ) → a ≡ c → b ≡ d → xs ≡ ys → a ∷ b ∷ xs ≡ c ∷ d ∷ ys
@@ -95,16 +95,16 @@ same_octets a b fits_a fits_b same =
 -- ---- texts
 
 -- what is told where the first octet that is neither a digit nor white space was looked for
-abbrev told : List ℕ → Option ℕ → Result (List ℕ) TextFault
+abbrev pub told : List ℕ → Option ℕ → Result (List ℕ) TextFault
 told text found = elim found [ Some place ↦ Err (fault_behind (take place text) reasons.Hex) | None ↦ octets_of_digits text ]
 
-abbrev told_digits : List ℕ → Result (List ℕ) FromHexError → Result (List ℕ) TextFault
+abbrev pub told_digits : List ℕ → Result (List ℕ) FromHexError → Result (List ℕ) TextFault
 told_digits text decoded = elim decoded [ Ok octets ↦ Ok octets | Err other ↦ Err (fault_behind text reasons.Hex) ]
 
 abbrev long_fault : TextFault
 long_fault = record { line = 1; column = 1; reason = reasons.Long }
 
-short_text : (text : List ℕ) → length text ≤ 16777216 → octets_of text ≡ told text (position is_other text)
+pub short_text : (text : List ℕ) → length text ≤ 16777216 → octets_of text ≡ told text (position is_other text)
 short_text text h = ap (λ (long : Bool). cond long (Err long_fault) (told text (position is_other text))) (le-ltb 16777216 (length text) h)
 
 long_text : (text : List ℕ) → 16777216 < length text → octets_of text ≡ Err long_fault
@@ -124,7 +124,7 @@ place_within place len n e h = grind arith
 place_none : (len n : ℕ) → n ≡ len → cond (ltb n len) (Some n) None ≡ None
 place_none len n e = grind arith
 
-none_other : (text : List ℕ) → AllPass is_digit_or_white text → position is_other text ≡ None
+pub none_other : (text : List ℕ) → AllPass is_digit_or_white text → position is_other text ≡ None
 none_other text h =
     let all : position_or_len is_other text ≡ length text = ap (λ (xs : List ℕ). position_or_len is_other xs) (sym (append-nil text)) ∙ passed text [] h ∙ omega arith in
     place_none (length text) (position_or_len is_other text) all
@@ -152,7 +152,7 @@ written_told text octets writes =
     short_text text writes.is.short ∙ ap (told text) (none_other text writes.is.clean) ∙ ap (told_digits text) w.1 ∙ ap (λ (xs : List ℕ). Ok xs) same
 
 -- The first fault is told.
-fault_told : (text : List ℕ) (fault : TextFault) → FirstFault text fault → octets_of text ≡ Err fault
+pub fault_told : (text : List ℕ) (fault : TextFault) → FirstFault text fault → octets_of text ≡ Err fault
 fault_told text fault (FirstFault.long long is) = long_text text long ∙ ap (λ (f : TextFault). Err f) (sym is)
 fault_told text fault (FirstFault.other front b rest short parts clean not_b is) =
     let found : position is_other text ≡ Some (length front) = ap (λ (xs : List ℕ). position is_other xs) parts ∙ first_other front b rest clean not_b in

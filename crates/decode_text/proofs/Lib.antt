@@ -1,5 +1,6 @@
 pub mod HexLemmas
 pub mod HexLaws
+pub mod HexReading
 pub mod TellLemmas
 pub mod FormatLemmas
 pub mod SessionLemmas

@@ -18,6 +18,14 @@ use Rattle.bgp_update.specs.FirstFault.{UnitFault}
 use Rattle.bgp_update.specs.Spelling.{SpellsMessage, Means}
 use Rattle.mldp_msgs.specs.declared.message.LabelMessage.{LabelMessage}
 use Rattle.value_text.specs.MessageText.{HasOctets, IsTellable}
+use Rattle.bgp_update.specs.Reading.{message_front}
+use Rattle.bgp_update.proofs.Messages.{message_format}
+use Rattle.mldp_msgs.specs.FirstFault.{PduFault}
+use Rattle.mldp_msgs.specs.Reading.{pdu_front}
+use Rattle.mldp_msgs.specs.Spelling.{SpellsPdu}
+use Rattle.mldp_msgs.proofs.Pdus.{pdu_format}
+use Rattle.decode_text.specs.Sessions.{IsSession}
+use Rattle.decode_text.proofs.SessionLemmas.{is_session}
 use Rattle.decode_text.proofs.TellLemmas.{all_append}
 
 -- the tunnel among attributes that are spelled has octets
@@ -65,3 +73,11 @@ none_before octets ms offset e h = subst (AllByRecursion IsTellable) (sym h.0) t
 pub ldp_tellable : (ms : List LabelMessage) → AllByRecursion (λ (m : LabelMessage). Unit {0}) ms
 ldp_tellable [] = tt
 ldp_tellable (m ∷ ms) = (tt, ldp_tellable ms)
+
+-- What the words of a session of BGP meet.
+pub bgp_session : IsSession SpellsMessage UnitFault IsTellable
+bgp_session = is_session message_front SpellsMessage UnitFault 4096 message_format IsTellable bgp_tellable none_before
+
+-- What the words of a session of LDP meet.
+pub ldp_session : IsSession SpellsPdu PduFault (λ (m : LabelMessage). Unit {0})
+ldp_session = is_session pdu_front SpellsPdu PduFault 4100 pdu_format (λ (m : LabelMessage). Unit {0}) (λ ms text s. ldp_tellable ms) (λ octets ms offset e f. ldp_tellable ms)

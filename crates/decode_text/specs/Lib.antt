@@ -1,4 +1,5 @@
 pub mod HexText
+pub mod HexReading
 pub mod HexLaws
 pub mod Values
 pub mod Single

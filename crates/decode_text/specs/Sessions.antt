@@ -1,11 +1,10 @@
 -- Octets that are the units of a session end to end, or units behind which one at fault stands or the octets end; and the
 -- lines of both.
-use Rattle.std.specs.Prelude.{◌≡◌, ℕ, ◌+◌, ◌<◌, Bool, true, false, List, [], ◌++◌, length, codes, Option, None, Some, Result, Ok, Err}
-use Rattle.std.specs.List.{flat_map}
-use Rattle.framing.specs.Units.{Begins, Splits}
+use Rattle.std.specs.Prelude.{◌≡◌, ℕ, ◌+◌, ◌<◌, Bool, true, false, List, [], ◌++◌, length, codes, Option, None, Some}
+use Rattle.std.specs.List.{flat_map, AllByRecursion}
+use Rattle.mv_base.specs.Octets.{IsOctets}
+use Rattle.framing.specs.Units.{Begins, NoUnit, Splits}
 use Rattle.framing.specs.Cut.{Fails, NoFault}
-use Rattle.framing.specs.Feed.{Fed}
-use Rattle.framing.specs.Feeding.{unfinished}
 use Rattle.framing.specs.declared.fault.FeedFault.{FeedFault}
 use Rattle.framing.specs.declared.fault.FeedFault.TheVariants as faults
 use Rattle.value_text.specs.ValueText.{refused_line}
@@ -17,6 +16,10 @@ pub record Session (M E : Type 0) : Type 1 where
   pub Faulty : List ℕ → List M → ℕ → E → Type 0
   pub lines : M → List ℕ
   pub word : E → List ℕ
+
+-- the session of these words
+abbrev pub session_of : {M E : Type 0} → (List M → List ℕ → Type 0) → (List ℕ → List M → ℕ → E → Type 0) → (M → List ℕ) → (E → List ℕ) → Session M E
+session_of Spells Faulty lines word = record { Spells = Spells; Faulty = Faulty; lines = lines; word = word }
 
 -- The octets are whole units with these messages.
 abbrev pub AreUnits : {M E : Type 0} → Session M E → List ℕ → List M → Type 0
@@ -55,24 +58,24 @@ abbrev pub TellsSession : {M E : Type 0} → Session M E → Bool → List ℕ �
 TellsSession s false octets told = TellsUnits s octets told
 TellsSession s true octets told = TellsStop s octets told
 
--- ---- what is told of a stream that was fed
+-- ---- what is told of a stream that is fed piece by piece
 
--- the line behind the messages of a stream, if there is one
-abbrev pub end_text : Option ℕ → List ℕ
-end_text None = []
-end_text (Some place) = refused_line place (codes "short")
+-- What the words of a session meet: a first fault stays whatever comes behind it, no octets are no unit and have no
+-- fault, and the messages of units and those before a fault can be told.
+pub record IsSession {M E : Type 0} (Spells : List M → List ℕ → Type 0) (Faulty : List ℕ → List M → ℕ → E → Type 0) (IsTellable : M → Type 0) : Type 0 where
+  pub kept : (octets behind : List ℕ) (ms : List M) (offset : ℕ) (e : E) → IsOctets (octets ++ behind) → Faulty octets ms offset e → Faulty (octets ++ behind) ms offset e
+  pub no_unit : NoUnit Spells []
+  pub no_fault : NoFault Faulty []
+  pub tellable : (ms : List M) (text : List ℕ) → Spells ms text → AllByRecursion IsTellable ms
+  pub tellable_before : (octets : List ℕ) (ms : List M) (offset : ℕ) (e : E) → Faulty octets ms offset e → AllByRecursion IsTellable ms
 
-abbrev pub is_some : Option ℕ → Bool
-is_some None = false
-is_some (Some place) = true
+-- the text before, and behind it the line of the first fault
+abbrev pub TellsFault : {E : Type 0} → (E → List ℕ) → FeedFault E → Bool → List ℕ → List ℕ → Type 0
+TellsFault word (faults.First place fault) refused old new = (refused ≡ true) × (new ≡ old ++ refused_line place (word fault))
+TellsFault word faults.Failed refused old new = ⊥
+TellsFault word faults.NoMemory refused old new = ⊥
 
--- what was appended behind the messages, and whether it was a line
-abbrev pub TellsEnd : {X E : Type 0} → (E → List ℕ) → Result X (FeedFault E) → Option ℕ → Bool → List ℕ → List ℕ → Type 0
-TellsEnd word (Ok x) place refused old new = (refused ≡ is_some place) × (new ≡ old ++ end_text place)
-TellsEnd word (Err (faults.First place fault)) end refused old new = (refused ≡ true) × (new ≡ old ++ refused_line place (word fault))
-TellsEnd word (Err faults.Failed) end refused old new = ⊥
-TellsEnd word (Err faults.NoMemory) end refused old new = ⊥
-
--- The text is the lines of the messages that wait, and behind them that of the fault or of the end inside a unit.
-abbrev pub TellsFed : {X M E : Type 0} → (M → List ℕ) → (E → List ℕ) → Result X (FeedFault E) → Fed M E → Bool → List ℕ → Type 0
-TellsFed lines word fed d refused told = TellsEnd word fed (unfinished d) refused (flat_map lines d.waiting) told
+-- the text before, and behind it the line of an end inside a unit that begins at the place, if there is one
+abbrev pub TellsEnd : Option ℕ → Bool → List ℕ → List ℕ → Type 0
+TellsEnd None refused old new = (refused ≡ false) × (new ≡ old)
+TellsEnd (Some place) refused old new = (refused ≡ true) × (new ≡ old ++ refused_line place (codes "short"))

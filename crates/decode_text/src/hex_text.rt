@@ -1,20 +1,26 @@
 //! Octets in hexadecimal text.
-ghost use Rattle.std.specs.Prelude.{◌≡◌, ◌≤◌, ◌<◌, ◌+◌, ◌^◌, ◌==◌, length, position, reverse, IfOk};
-ghost use Rattle.std.specs.List.{count_by, filter, after_last};
-ghost use Rattle.hex.specs.Hex.{is_hex_digit};
+ghost use Rattle.std.specs.Prelude.{◌≡◌, ℕ, ◌≤◌, ◌<◌, [], None, length, position, reverse, slice_index_or, IfOk, IfSome};
+ghost use Rattle.std.specs.List.{count_by, after_last};
+ghost use Rattle.hex.specs.Hex.{hex_digit_value};
 ghost use Rattle.line_words.specs.Answers.{Gives};
 ghost use Rattle.line_words.specs.declared.fault.Reason.TheVariants as reasons;
-ghost use Rattle.decode_text.specs.HexText.{is_white, is_other, is_lf, fault_behind, octets_of, octets_of_digits};
+ghost use Rattle.decode_text.specs.HexText.{is_white, is_lf, fault_behind, octets_of};
+ghost use Rattle.decode_text.specs.HexReading.{TakesDigit};
 
-use hex::FromHexError;
 use line_words::{ReadFault, Reason, TEXT_LIMIT, TextFault};
 use mv_base::{Bytes, NoMemory};
 use std::alloc::Global;
 
-fn is_hex_digit(b: u8) -> bool
-    ensures { result ≡ is_hex_digit b }
+/// The value of a hexadecimal digit of either case.
+fn digit_value(b: u8) -> Option<u8>
+    ensures { result ≡ hex_digit_value b }
 {
-    matches!(b, b'A'..=b'F' | b'a'..=b'f' | b'0'..=b'9')
+    match b {
+        b'0'..=b'9' => Some(b - b'0'),
+        b'a'..=b'f' => Some(b - b'a' + 10),
+        b'A'..=b'F' => Some(b - b'A' + 10),
+        _ => None,
+    }
 }
 
 fn is_white(b: u8) -> bool
@@ -23,16 +29,30 @@ fn is_white(b: u8) -> bool
     matches!(b, b' ' | b'\t' | b'\r' | b'\n')
 }
 
-fn is_other(b: u8) -> bool
-    ensures { result ≡ is_other b }
+/// The value of each octet as a digit. A look-up in it costs less than comparisons.
+fn digit_values() -> [Option<u8>; 256]
+    ensures { (b : ℕ) → b < 256 → slice_index_or result b None ≡ hex_digit_value b }
 {
-    !is_hex_digit(b) && !is_white(b)
+    let mut values = [None; 256];
+    for b in 0..256 {
+        values[b] = digit_value(b as u8);
+    }
+    values
 }
 
-fn first_other(text: &[u8]) -> Option<usize>
-    ensures { result ≡ position is_other text.now }
+/// Takes the value of the next digit. Gives that of the digit that waits then for the second one of its pair.
+fn take_digit(octets: &mut Bytes, high: Option<u8>, value: u8) -> Result<Option<u8>, NoMemory>
+    requires high { IfSome high (λ high. high < 16) }
+    requires low { value < 16 }
+    ensures { IfOk result (λ waiting. TakesDigit octets.old high value octets.new waiting) }
 {
-    text.iter().position(|b| is_other(*b))
+    match high {
+        None => Ok(Some(value)),
+        Some(high) => {
+            octets.push(high * 16 + value)?;
+            Ok(None)
+        }
+    }
 }
 
 fn count_lines(front: &[u8]) -> usize
@@ -68,27 +88,36 @@ fn fault_behind(front: &[u8]) -> TextFault
     }
 }
 
-fn digits_of(alloc: Global, text: &[u8]) -> Result<Bytes, NoMemory>
-    ensures { IfOk result (λ digits. digits ≡ filter is_hex_digit text.now) }
+/// No octets, with room for so many.
+fn with_room(alloc: Global, count: usize) -> Result<Bytes, NoMemory>
+    ensures { IfOk result (λ octets. octets ≡ []) }
 {
-    let mut digits = Bytes::new(alloc);
-    for b in text {
-        if is_hex_digit(*b) {
-            digits.push(*b)?;
-        }
-    }
-    Ok(digits)
+    let octets = Vec::with_capacity(alloc, count)?;
+    Ok(Bytes::from_vec(octets))
 }
 
-fn read_digits(alloc: Global, text: &[u8]) -> Result<Bytes, ReadFault>
+/// The octets of the pairs of digits, or the fault of a text that is not too long. Its place is looked for only where
+/// there is a fault.
+fn read_pairs(alloc: Global, text: &[u8]) -> Result<Bytes, ReadFault>
     requires { length text.now ≤ TEXT_LIMIT }
-    ensures { Gives result (octets_of_digits text.now) }
+    ensures { Gives result (octets_of text.now) }
 {
-    let digits = digits_of(alloc, text)?;
-    match hex::decode(alloc, digits.as_slice()) {
-        Ok(octets) => Ok(Bytes::from_vec(octets)),
-        Err(FromHexError::OutOfMemory) => Err(ReadFault::NoMemory),
-        Err(_) => Err(ReadFault::Text(fault_behind(text))),
+    let values = digit_values();
+    let mut octets = with_room(alloc, text.len() / 2)?;
+    let mut high = None;
+    for (place, b) in text.iter().enumerate() {
+        match values[usize::from(*b)] {
+            Some(value) => high = take_digit(&mut octets, high, value)?,
+            None => {
+                if !is_white(*b) {
+                    return Err(ReadFault::Text(fault_behind(&text[..place])));
+                }
+            }
+        }
+    }
+    match high {
+        None => Ok(octets),
+        Some(_) => Err(ReadFault::Text(fault_behind(text))),
     }
 }
 
@@ -105,8 +134,5 @@ pub fn read_octets(alloc: Global, text: &[u8]) -> Result<Bytes, ReadFault>
             reason: Reason::Long,
         }));
     }
-    match first_other(text) {
-        Some(place) => Err(ReadFault::Text(fault_behind(&text[..place]))),
-        None => read_digits(alloc, text),
-    }
+    read_pairs(alloc, text)
 }

@@ -5,6 +5,8 @@ mod format;
 mod hex_text;
 mod laws;
 mod session;
+mod stream;
+mod streams;
 mod telling;
 mod value;
 mod values;

@@ -1,85 +1,110 @@
 //! The lines of the messages of a session.
-ghost use Rattle.std.specs.Prelude.{◌≡◌, ◌++◌, IfOk, OnOk};
+ghost use Rattle.std.specs.Prelude.{◌≡◌, [], ◌++◌, IfOk, OnOk};
 ghost use Rattle.std.specs.List.{flat_map, AllByRecursion};
+ghost use Rattle.framing.specs.Feed.{unfed};
 ghost use Rattle.decode_text.specs.Formats.{of_bgp, of_ldp};
-ghost use Rattle.decode_text.specs.Sessions.{TellsFed, TellsEnd, TellsSession};
+ghost use Rattle.decode_text.specs.Sessions.{session_of, IsSession, TellsFault, TellsEnd, TellsSession};
 
+use crate::stream::SessionStream;
 use crate::telling::Told;
-use framing::{FeedFault, Inbound};
+use framing::FeedFault;
 use mv_base::{Bytes, NoMemory};
 use std::alloc::Global;
 use value_text::{Lined, Worded, put_refused};
 
-/// Appends the lines of the messages that wait.
-fn put_waiting<M: Lined + Drop, E: Copy + Drop>(
-    text: &mut Bytes,
-    inbound: &mut Inbound<M, E>,
-) -> Result<(), NoMemory>
-    requires { AllByRecursion M.IsTellable inbound.old.waiting }
-    ensures { OnOk result (text.new ≡ text.old ++ flat_map M.lines inbound.old.waiting) }
+/// Octets that a stream is fed at once. The messages of so many wait together.
+const PIECE: usize = 4_096;
+
+/// Appends the lines of the messages that wait, and takes them.
+fn put_waiting<S: SessionStream>(text: &mut Bytes, stream: &mut S) -> Result<(), NoMemory>
+    requires { AllByRecursion S.Message.IsTellable (S.state stream.old).waiting }
+    ensures lines { OnOk result (text.new ≡ text.old ++ flat_map S.Message.lines (S.state stream.old).waiting) }
+    ensures taken { OnOk result (S.state stream.new ≡ record (S.state stream.old) { waiting = [] }) }
 {
-    while let Some(message) = inbound.next() {
+    while let Some(message) = stream.next() {
         message.put_lines(text)?;
     }
     Ok(())
 }
 
-/// Appends the line of a fault or of an end inside a unit, if there is one, and answers whether there is.
-fn put_end<E: Worded + Copy + Drop>(
-    text: &mut Bytes,
-    fed: Result<(), FeedFault<E>>,
-    unfinished: Option<u64>,
-) -> Result<bool, NoMemory>
-    ensures { IfOk result (λ refused. TellsEnd E.word fed unfinished refused text.old text.new) }
+/// The text, and behind it the line of the first fault.
+fn tell_fault<E: Worded + Copy + Drop>(
+    mut text: Bytes,
+    fault: FeedFault<E>,
+) -> Result<Told, NoMemory>
+    ensures { IfOk result (λ told. TellsFault E.word fault told.refused text told.text) }
 {
-    match fed {
-        Ok(()) => match unfinished {
-            None => Ok(false),
-            Some(place) => {
-                put_refused(text, place as usize, b"short")?;
-                Ok(true)
-            }
-        },
-        Err(FeedFault::First { place, fault }) => {
+    match fault {
+        FeedFault::First { place, fault } => {
             let mut word = Bytes::new(text.alloc());
             fault.put_word(&mut word)?;
-            put_refused(text, place as usize, word.as_slice())?;
-            Ok(true)
+            put_refused(&mut text, place as usize, word.as_slice())?;
+            Ok(Told {
+                text,
+                refused: true,
+            })
         }
-        Err(_) => Err(NoMemory),
+        FeedFault::Failed | FeedFault::NoMemory => Err(NoMemory),
     }
 }
 
-/// The lines of the messages of a stream that was fed, and behind them that of its fault or of its end inside a unit.
-fn tell_fed<M: Lined + Drop, E: Worded + Copy + Drop>(
+/// The text, and behind it the line of an end inside a unit, if there is one.
+fn tell_end(mut text: Bytes, unfinished: Option<u64>) -> Result<Told, NoMemory>
+    ensures { IfOk result (λ told. TellsEnd unfinished told.refused text told.text) }
+{
+    match unfinished {
+        None => Ok(Told {
+            text,
+            refused: false,
+        }),
+        Some(place) => {
+            put_refused(&mut text, place as usize, b"short")?;
+            Ok(Told {
+                text,
+                refused: true,
+            })
+        }
+    }
+}
+
+/// The lines of the messages of a stream that is fed the octets piece by piece, and behind them that of its first fault
+/// or of the end inside a unit.
+fn tell_session<S: SessionStream>(
     alloc: Global,
-    fed: Result<(), FeedFault<E>>,
-    mut inbound: Inbound<M, E>,
+    mut stream: S,
+    octets: &[u8],
 ) -> Result<Told, NoMemory>
-    requires { AllByRecursion M.IsTellable inbound.waiting }
-    ensures { IfOk result (λ told. TellsFed M.lines E.word fed inbound told.refused told.text) }
+    requires session { IsSession S.spells S.faulty S.Message.IsTellable }
+    requires fresh { S.state stream ≡ unfed }
+    ensures { IfOk result (λ told.
+        TellsSession (session_of S.spells S.faulty S.Message.lines S.Fault.word) told.refused octets.now told.text) }
 {
     let mut text = Bytes::new(alloc);
-    let unfinished = inbound.unfinished();
-    put_waiting(&mut text, &mut inbound)?;
-    let refused = put_end(&mut text, fed, unfinished)?;
-    Ok(Told { text, refused })
+    let mut rest = octets;
+    while !rest.is_empty() {
+        let (piece, behind) = rest.split_at(rest.len().min(PIECE));
+        let fed = stream.feed(piece);
+        put_waiting(&mut text, &mut stream)?;
+        if let Err(fault) = fed {
+            return tell_fault(text, fault);
+        }
+        rest = behind;
+    }
+    tell_end(text, stream.unfinished())
 }
 
 /// The lines of BGP messages.
+#[tactic(auto, using(crate::proofs::MessageLemmas::bgp_session))]
 pub fn tell_bgp(alloc: Global, octets: &[u8]) -> Result<Told, NoMemory>
     ensures { IfOk result (λ told. TellsSession of_bgp told.refused octets.now told.text) }
 {
-    let mut stream = bgp_update::Stream::of(alloc);
-    let fed = stream.feed(octets);
-    tell_fed(alloc, fed, stream.into_inbound())
+    tell_session(alloc, bgp_update::Stream::of(alloc), octets)
 }
 
 /// The lines of the label messages in PDUs of LDP.
+#[tactic(auto, using(crate::proofs::MessageLemmas::ldp_session))]
 pub fn tell_ldp(alloc: Global, octets: &[u8]) -> Result<Told, NoMemory>
     ensures { IfOk result (λ told. TellsSession of_ldp told.refused octets.now told.text) }
 {
-    let mut stream = mldp_msgs::Stream::of(alloc);
-    let fed = stream.feed(octets);
-    tell_fed(alloc, fed, stream.into_inbound())
+    tell_session(alloc, mldp_msgs::Stream::of(alloc), octets)
 }

@@ -1,5 +1,5 @@
 -- What the calls of an edge answer, and what they leave.
-use Rattle.std.specs.Prelude.{◌≡◌, ℕ, List, ◌∷◌, Option, None, Some, Result, Err, OnOk}
+use Rattle.std.specs.Prelude.{◌≡◌, ℕ, List, ◌∷◌, Option, None, Some, Result, Ok, Err, OnOk}
 use Rattle.std.specs.FinMap as maps
 use Rattle.std.specs.FinMap.{FinMap}
 use Rattle.mv_base.specs.Lists.{Among}
@@ -63,3 +63,9 @@ step_of edge now call own state = called (place_of (home_of edge) own) now state
 -- each fault is one of these, or one by which the edge is spent
 abbrev pub IsOneOf : List EdgeFault → Result (Unit {0}) EdgeFault → Type 0
 IsOneOf refusals result = (fault : EdgeFault) → result ≡ Err fault → Among fault (faults.NoLabel ∷ faults.NoMemory ∷ refusals)
+
+-- this holds where the call is made, and where a label is wanted for it
+abbrev pub OnTaken : Result (Unit {0}) EdgeFault → Type 0 → Type 0
+OnTaken (Ok done) Fact = Fact
+OnTaken (Err faults.NoLabel) Fact = Fact
+OnTaken (Err other) Fact = Unit {0}

@@ -1,5 +1,5 @@
 -- What taking the octets of a Join/Prune message answers.
-use Rattle.std.specs.Prelude.{◌≡◌, ℕ, Bool, not, List, Option, None, Some, Result, Ok, Err, OnOk, if◌then◌else◌}
+use Rattle.std.specs.Prelude.{◌≡◌, ℕ, Bool, not, List, Option, None, Some, Result, Ok, Err, if◌then◌else◌}
 use Rattle.mv_base.specs.Address.{same_addr}
 use Rattle.mv_base.specs.declared.ids.IfaceId.{IfaceId}
 use Rattle.core_walks.specs.Topology.{Topology}
@@ -13,7 +13,7 @@ use Rattle.mvpn_model.specs.Messages.{own_addr}
 use Rattle.edge_defs.specs.Steps.{Pim}
 use Rattle.edge_core.specs.declared.fault.EdgeFault.{EdgeFault}
 use Rattle.edge_core.specs.declared.fault.EdgeFault.TheVariants as faults
-use Rattle.edge_core.specs.Answers.{Answers, fault_of, spent_by, step_of}
+use Rattle.edge_core.specs.Answers.{Answers, OnTaken, fault_of, spent_by, step_of}
 use Rattle.edge_core.specs.State.{data_of, home_of}
 use Rattle.edge_core.specs.View.{EdgeView}
 
@@ -44,6 +44,7 @@ pub record AnswersPim (core : Topology) (now : ℕ) (iface : IfaceId) (octets : 
   pub home : home_of new ≡ home_of old
   pub before : (spent : Spent) → old.spent ≡ Some spent → (result ≡ Err (fault_of spent)) × (new ≡ old)
   pub spends : (fault : EdgeFault) → result ≡ Err fault → old.spent ≡ None → new.spent ≡ spent_by fault
-  pub made : OnOk result ((message : JoinPrune) × (decoded octets ≡ Ok message) × (refusal old now iface (decoded octets) ≡ None))
+  pub made : old.spent ≡ None →
+      OnTaken result ((message : JoinPrune) × (decoded octets ≡ Ok message) × (refusal old now iface (decoded octets) ≡ None))
   pub refused : (fault : EdgeFault) → result ≡ Err fault → spent_by fault ≡ None →
       (refusal old now iface (decoded octets) ≡ Some fault) × (new ≡ old)

@@ -1,5 +1,5 @@
 //! The calls that may change an edge.
-ghost use Rattle.std.specs.Prelude.{◌≡◌, ◌<◌, ◌^◌, ◌⊎◌, ℕ, [], ◌∷◌, true, false, is_some, length, Err, IfOk, OnOk, None, Some};
+ghost use Rattle.std.specs.Prelude.{◌≡◌, ◌<◌, ◌^◌, ◌⊎◌, ℕ, [], ◌∷◌, true, false, is_some, length, Err, IfOk, None, Some};
 ghost use Rattle.std.specs.FinMap as maps;
 ghost use Rattle.mv_base.specs.Lists.{Among};
 ghost use Rattle.core_walks.specs.Topology.{Topology};
@@ -13,7 +13,7 @@ ghost use Rattle.control_laws.specs.Control.{control_of};
 ghost use Rattle.edge_control.specs.Places.{is_note_too_many, is_own_iface, is_own_vrf, is_selection_too_many};
 ghost use Rattle.edge_streams.specs.Kept.{session};
 ghost use Rattle.node_defs.specs.EdgeState.{EdgeState, handed, handed_out};
-ghost use Rattle.edge_core.specs.Answers.{Answers, IsOneOf, step_of};
+ghost use Rattle.edge_core.specs.Answers.{Answers, IsOneOf, OnTaken, step_of};
 ghost use Rattle.edge_core.specs.Pim.{AnswersPim};
 ghost use Rattle.edge_core.specs.State.{IsIn, IsPeer, home_of, is_up};
 ghost use Rattle.edge_core.specs.Taking.{AnswersOctets};
@@ -107,7 +107,7 @@ impl Edge {
         requires now { now < 2 ^ 63 }
         ensures answers { Answers core.now (step_of self.old now (Active iface source group)) self.old self.new result }
         ensures only { IsOneOf (EdgeFault.Full ∷ []) result }
-        ensures fits { OnOk result (is_note_too_many (control_of self.old.routing.control) iface source group ≡ false) }
+        ensures fits { self.old.spent ≡ None → OnTaken result (is_note_too_many (control_of self.old.routing.control) iface source group ≡ false) }
         ensures full { result ≡ Err EdgeFault.Full →
             (is_note_too_many (control_of self.old.routing.control) iface source group ≡ true) × (self.new ≡ self.old) }
     {
@@ -152,7 +152,7 @@ impl Edge {
         requires now { now < 2 ^ 63 }
         ensures answers { (core : Topology) → Answers core (step_of self.old now (Select vrf pattern)) self.old self.new result }
         ensures only { IsOneOf (EdgeFault.Full ∷ []) result }
-        ensures fits { OnOk result (is_selection_too_many (control_of self.old.routing.control) ≡ false) }
+        ensures fits { self.old.spent ≡ None → OnTaken result (is_selection_too_many (control_of self.old.routing.control) ≡ false) }
         ensures full { result ≡ Err EdgeFault.Full →
             (is_selection_too_many (control_of self.old.routing.control) ≡ true) × (self.new ≡ self.old) }
     {

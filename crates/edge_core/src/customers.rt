@@ -1,5 +1,5 @@
 //! Calls of customers: Join/Prune messages, and sources that are noted to send or no longer are.
-ghost use Rattle.std.specs.Prelude.{◌≡◌, ◌<◌, ◌^◌, ◌⊎◌, [], ◌∷◌, true, false, length, None, Ok, Err, IfOk, OnOk};
+ghost use Rattle.std.specs.Prelude.{◌≡◌, ◌<◌, ◌^◌, ◌⊎◌, [], ◌∷◌, true, false, length, None, Ok, Err, IfOk};
 ghost use Rattle.bgp_update.specs.Written.{afi_of};
 ghost use Rattle.mvpn_nlri.specs.Spelling.{IsGroup};
 ghost use Rattle.pim_joinprune.specs.Reading.{decoded};
@@ -8,7 +8,7 @@ ghost use Rattle.edge_defs.specs.Steps.{Active, Idle, Pim};
 ghost use Rattle.control_laws.specs.Control.{control_of};
 ghost use Rattle.edge_control.specs.Places.{is_note_too_many, is_own_iface};
 ghost use Rattle.group_laws.specs.Groups.{HasGroups};
-ghost use Rattle.edge_core.specs.Answers.{IsOneOf};
+ghost use Rattle.edge_core.specs.Answers.{IsOneOf, OnTaken};
 ghost use Rattle.edge_core.specs.Called.{SettlesCall, behind, going, spent_after};
 ghost use Rattle.edge_core.specs.Pim.{AnswersPim, IsPimFault, is_ours};
 ghost use Rattle.edge_core.specs.State.{IsLive};
@@ -62,7 +62,7 @@ impl Parts {
         requires now { now < 2 ^ 63 }
         ensures settles { SettlesCall core.now now (Pim iface message.now) (going self.old) self.new result }
         ensures only { IsOneOf (EdgeFault.Full ∷ []) result }
-        ensures fits { OnOk result (are_too_many (applied (control_of self.old.routing.control).entries iface message.now now) ≡ false) }
+        ensures fits { OnTaken result (are_too_many (applied (control_of self.old.routing.control).entries iface message.now now) ≡ false) }
         ensures full { result ≡ Err EdgeFault.Full →
             (are_too_many (applied (control_of self.old.routing.control).entries iface message.now now) ≡ true) × (self.new ≡ self.old) }
     {
@@ -111,7 +111,7 @@ impl Parts {
         requires now { now < 2 ^ 63 }
         ensures settles { SettlesCall core.now now (Active iface source group) (going self.old) self.new result }
         ensures only { IsOneOf (EdgeFault.Full ∷ []) result }
-        ensures fits { OnOk result (is_note_too_many (control_of self.old.routing.control) iface source group ≡ false) }
+        ensures fits { OnTaken result (is_note_too_many (control_of self.old.routing.control) iface source group ≡ false) }
         ensures full { result ≡ Err EdgeFault.Full →
             (is_note_too_many (control_of self.old.routing.control) iface source group ≡ true) × (self.new ≡ self.old) }
     {

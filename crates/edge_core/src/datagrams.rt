@@ -25,8 +25,8 @@ use mv_base::{Addr, NoMemory, NodeId, Seq, SiteId, VrfId};
 use scenario_defs::IfaceList;
 use std::alloc::Global;
 
-/// The branches of the tree to these neighbours under these labels.
-fn copied(alloc: Global, fec: &Fec, hops: &[Hop]) -> Result<Branches, NoMemory>
+/// The branches of the tree to these neighbours under these labels (RFC 6388 section 2.4.1).
+pub fn branches_along(alloc: Global, fec: &Fec, hops: &[Hop]) -> Result<Branches, NoMemory>
     ensures { IfOk result (λ branches. branches ≡ map (branch_in fec.now) hops.now) }
 {
     let mut branches = Vec::new(alloc);
@@ -44,7 +44,7 @@ fn copied(alloc: Global, fec: &Fec, hops: &[Hop]) -> Result<Branches, NoMemory>
 fn branches_of(labels: &EdgeLabels, alloc: Global, fec: &Fec) -> Result<Branches, NoMemory>
     ensures { IfOk result (λ branches. branches ≡ branches_of labels.now.node.part fec.now) }
 {
-    copied(alloc, fec, labels.node().fib().push(fec))
+    branches_along(alloc, fec, labels.node().fib().push(fec))
 }
 
 /// The branches of a tunnel, where there is one.
@@ -141,7 +141,7 @@ impl Parts {
             }),
             Some(entry) => Ok(Fate {
                 outs: self.delivered(alloc, &entry.fec, entry.leaf, source, group, now, core)?,
-                branches: copied(alloc, &entry.fec, entry.branches())?,
+                branches: branches_along(alloc, &entry.fec, entry.branches())?,
             }),
         }
     }

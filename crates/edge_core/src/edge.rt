@@ -63,7 +63,7 @@ pub(crate) fn spent_by(answer: &Result<(), EdgeFault>) -> Option<NodeFault>
 }
 
 /// The addresses of the nodes, by number.
-fn addrs_of(alloc: Global, nodes: &[Node]) -> Result<Addrs, NoMemory>
+pub fn addrs_of(alloc: Global, nodes: &[Node]) -> Result<Addrs, NoMemory>
     ensures { IfOk result (λ addrs. addrs ≡ map (λ node. node.addr) nodes.now) }
 {
     let mut addrs = Vec::new(alloc);

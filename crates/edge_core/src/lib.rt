@@ -13,6 +13,7 @@ mod parts;
 mod queries;
 mod sessions;
 
-pub use edge::Edge;
+pub use datagrams::branches_along;
+pub use edge::{Edge, addrs_of};
 pub use fate::{Branches, Fate};
 pub use fault::EdgeFault;

@@ -1,5 +1,5 @@
 //! Selections of the operator (RFC 6514 section 12.1). They change no tree of which the edge is a leaf.
-ghost use Rattle.std.specs.Prelude.{◌≡◌, ◌<◌, ◌^◌, ℕ, [], ◌∷◌, true, false, Err, OnOk, None};
+ghost use Rattle.std.specs.Prelude.{◌≡◌, ◌<◌, ◌^◌, ℕ, [], ◌∷◌, true, false, Err, None};
 ghost use Rattle.std.specs.FinMap as maps;
 ghost use Rattle.core_walks.specs.Topology.{Topology};
 ghost use Rattle.mvpn_nlri.specs.Spelling.{IsAnyOr, IsGroup};
@@ -7,7 +7,7 @@ ghost use Rattle.edge_defs.specs.Originated.{afi_by};
 ghost use Rattle.edge_defs.specs.Steps.{Select, Unselect};
 ghost use Rattle.control_laws.specs.Control.{control_of};
 ghost use Rattle.edge_control.specs.Places.{is_own_vrf, is_selection_too_many};
-ghost use Rattle.edge_core.specs.Answers.{IsOneOf};
+ghost use Rattle.edge_core.specs.Answers.{IsOneOf, OnTaken};
 ghost use Rattle.edge_core.specs.Called.{SettlesCall, going};
 ghost use Rattle.edge_core.specs.State.{IsLive};
 ghost use Rattle.edge_core.specs.declared.fault.EdgeFault.TheVariants as EdgeFault;
@@ -27,7 +27,7 @@ impl Parts {
         requires now { now < 2 ^ 63 }
         ensures settles { (core : Topology) → SettlesCall core now (Select vrf pattern) (going self.old) self.new result }
         ensures only { IsOneOf (EdgeFault.Full ∷ []) result }
-        ensures fits { OnOk result (is_selection_too_many (control_of self.old.routing.control) ≡ false) }
+        ensures fits { OnTaken result (is_selection_too_many (control_of self.old.routing.control) ≡ false) }
         ensures full { result ≡ Err EdgeFault.Full →
             (is_selection_too_many (control_of self.old.routing.control) ≡ true) × (self.new ≡ self.old) }
     {

@@ -1,7 +1,7 @@
 //! The words of a line of a report.
-ghost use Rattle.std.specs.Prelude.{◌≡◌, ◌++◌, ◌<◌, length, OnOk, codes};
+ghost use Rattle.std.specs.Prelude.{◌≡◌, ◌++◌, ◌<◌, length, OnOk};
 ghost use Rattle.std.specs.Fmt.{decimal};
-ghost use Rattle.scenario_defs.specs.Text.{hex_text, iface_name, node_name, fault_word, kind_word, ends_text};
+ghost use Rattle.scenario_defs.specs.Text.{iface_name, node_name, fault_word, kind_word, ends_text};
 
 use itoa::Buffer;
 use mv_base::{Bytes, IfaceId, NoMemory, NodeId};
@@ -13,19 +13,6 @@ pub fn put_number(out: &mut Bytes, number: u64) -> Result<(), NoMemory>
 {
     let mut buffer = Buffer::new();
     out.extend(buffer.format(number).as_bytes())
-}
-
-/// Appends octets in hexadecimal digits, or `-` for none.
-pub fn put_hex(out: &mut Bytes, octets: &[u8]) -> Result<(), NoMemory>
-    ensures { OnOk result (out.new ≡ out.old ++ hex_text octets.now) }
-{
-    match octets {
-        [] => out.extend(b"-"),
-        [_, ..] => {
-            let text = hex::encode(out.alloc(), octets)?;
-            out.extend(text.as_bytes())
-        }
-    }
 }
 
 /// Appends the name of an interface.

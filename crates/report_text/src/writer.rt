@@ -1,10 +1,11 @@
 //! Writes the lines of a report.
 ghost use Rattle.std.specs.Prelude.{◌≡◌, ◌++◌, ◌<◌, length, OnOk, OnErr, codes};
 ghost use Rattle.std.specs.Fmt.{decimal};
-ghost use Rattle.scenario_defs.specs.Text.{line_text, IsLineOf, refusal_text, fault_word, kind_word, hex_text, iface_name};
-ghost use Rattle.scenario_defs.specs.Text.{node_name, ends_text};
+ghost use Rattle.scenario_defs.specs.Text.{line_text, IsLineOf, refusal_text, fault_word, kind_word, hex_text};
+ghost use Rattle.scenario_defs.specs.Text.{ends_text};
 
-use crate::pieces::{fault_word, kind_word, put_ends, put_hex, put_iface, put_node, put_number};
+use crate::digits::put_hex;
+use crate::pieces::{fault_word, kind_word, put_ends, put_iface, put_node, put_number};
 use mv_base::{Bytes, IfaceId, NoMemory, NodeId};
 use scenario_defs::{Kind, Refusal, ReportLine, Scenario};
 

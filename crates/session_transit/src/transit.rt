@@ -1,5 +1,5 @@
 //! The octets in transit over the sessions of a network.
-ghost use Rattle.std.specs.Prelude.{◌≡◌, length, take, min, IfOk, OnOk, OnErr};
+ghost use Rattle.std.specs.Prelude.{◌≡◌, length, take, IfOk, OnOk, OnErr};
 ghost use Rattle.session_transit.specs.TransitData.{nothing_joined, direction, is_joined_at, octets_at, total_of};
 ghost use Rattle.session_transit.specs.TransitData.{is_of_session, is_at, Joins, Loses, Puts, Takes};
 
@@ -107,10 +107,9 @@ impl Transit {
         sessions::waiting(&self.sessions, key_of(over.kind, over.from, over.to))
     }
 
-    /// How many octets are in transit over all directions together, or the greatest number of 64 bits where there are more. It
-    /// takes no memory.
+    /// How many octets are in transit over all directions together. It takes no memory.
     pub fn total(&self) -> u64
-        ensures { result ≡ min (total_of self.now) 18446744073709551615 }
+        ensures { result ≡ total_of self.now }
     {
         self.total
     }

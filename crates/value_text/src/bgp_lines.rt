@@ -6,7 +6,6 @@ ghost use Rattle.value_text.specs.MessageText.{prefix_text, unicast_text, family
 ghost use Rattle.value_text.specs.MessageText.{attribute_text, HasOctets, reach_line, unreach_line, other_line};
 
 use crate::addr_text::put_addr;
-use crate::digits::put_digits;
 use crate::lined::{Lined, Worded};
 use crate::pmsi_lines::put_pmsi_word;
 use crate::route_lines::{put_rd, put_route, route_word};
@@ -14,7 +13,7 @@ use bgp_attributes::{Advert, Key, Message, StreamFault};
 use mv_base::{Bytes, NoMemory, Prefix, Rd};
 use mvpn_nlri::Afi;
 use pmsi_attr::Pmsi;
-use report_text::put_number;
+use report_text::{put_digits, put_number};
 use route_targets::ExtComm;
 
 fn put_prefix(out: &mut Bytes, prefix: &Prefix) -> Result<(), NoMemory>

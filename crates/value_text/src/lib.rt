@@ -3,7 +3,6 @@
 
 mod addr_text;
 mod bgp_lines;
-mod digits;
 mod fec_lines;
 mod ldp_lines;
 mod lined;

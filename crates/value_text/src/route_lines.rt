@@ -5,11 +5,10 @@ ghost use Rattle.value_text.specs.ValueText.{any_text, intra_text, active_text, 
 ghost use Rattle.value_text.specs.ValueText.{key_text, route_text, route_line, route_word, refused_line};
 
 use crate::addr_text::put_addr;
-use crate::digits::put_digits;
 use crate::refused::put_refused;
 use mv_base::{Addr, Bytes, NoMemory, Rd};
 use mvpn_nlri::{LeafKey, Route, RouteFault, RouteReason};
-use report_text::{put_hex, put_number};
+use report_text::{put_digits, put_hex, put_number};
 
 /// Appends a route distinguisher.
 pub fn put_rd(out: &mut Bytes, rd: &Rd) -> Result<(), NoMemory>

@@ -1,0 +1,6 @@
+//! There are least costs and next hops in each scenario: a law over definitions.
+#![tactic(auto)]
+
+mod laws;
+
+pub use laws::each_scenario_has_cores;

@@ -1,0 +1,3 @@
+pub mod AnswerLemmas
+mod OctetLemmas
+pub mod NodeLemmas

@@ -1,0 +1,16 @@
+-- Digits that are written piece by piece.
+use Rattle.std.proofs.Common.{◌≡◌, ℕ, List, [], ◌∷◌, ◌++◌, take, drop, refl, sym, ap, ◌∙◌, append_assoc}
+use Rattle.std.proofs.lemmas.List.{take-append-drop}
+use Rattle.hex.specs.Hex.{encode_lower, encode_with}
+
+-- Octets end to end are encoded end to end.
+encode_append : (t xs ys : List ℕ) → encode_with t (xs ++ ys) ≡ encode_with t xs ++ encode_with t ys
+unfolding encode_with
+encode_append t [] ys = refl
+encode_append t (x ∷ xs) ys = rw (encode_append t xs ys) refl
+
+-- A piece of the rest was written.
+pub piece_written : (old new rest piece behind : List ℕ) (n : ℕ) → piece ≡ take n rest → behind ≡ drop n rest → new ≡ old ++ encode_lower piece → new ++ encode_lower behind ≡ old ++ encode_lower rest
+piece_written old new rest piece behind n first last is =
+    let whole : piece ++ behind ≡ rest = ap (λ (xs : List ℕ). xs ++ behind) first ∙ ap (λ (xs : List ℕ). take n rest ++ xs) last ∙ take-append-drop n rest in
+    ap (λ (xs : List ℕ). xs ++ encode_lower behind) is ∙ append_assoc old (encode_lower piece) (encode_lower behind) ∙ ap (λ (xs : List ℕ). old ++ xs) (sym (encode_append _ piece behind) ∙ ap (λ (xs : List ℕ). encode_lower xs) whole)

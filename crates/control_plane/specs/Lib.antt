@@ -1,0 +1,10 @@
+pub mod PlaneView
+pub mod Plane
+pub mod Handing
+pub mod Acted
+pub mod Moving
+pub mod Passing
+pub mod Starting
+pub mod Sessions
+pub mod Customers
+pub mod Queries

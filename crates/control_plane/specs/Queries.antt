@@ -1,0 +1,41 @@
+-- What is asked of a control plane.
+use Rattle.std.specs.Prelude.{◌≡◌, ◌<◌, List, [], All, length, slice_get, None, Some}
+use Rattle.mv_base.specs.declared.ids.NodeId.{NodeId}
+use Rattle.mv_base.specs.declared.ids.VrfId.{VrfId}
+use Rattle.scenario_defs.specs.declared.scenario.Vrf.{Vrf}
+use Rattle.session_defs.specs.Octets.{OctetNetwork}
+use Rattle.mvpn_model.specs.declared.session.Session.{Session}
+use Rattle.world_defs.specs.Nodes.{Nodes}
+use Rattle.world_defs.specs.World.{World}
+use Rattle.network_nodes.specs.NodeView.{IsPlacedAt, data_in, spent_in}
+use Rattle.network_nodes.specs.declared.node.NetworkNode.{NetworkNode}
+use Rattle.control_plane.specs.Acted.{IsCurrent, Standing}
+
+-- ---- nodes
+
+-- The node is that of the number in the scenario, goes on, and keeps what the network says of it.
+pub record IsNodeThere (at : Standing) (n : NodeId) (node : NetworkNode) : Type 0 where
+  pub placed : IsPlacedAt at.network.state.scenario n node
+  pub unspent : spent_in node ≡ None
+  pub keeps : at.network.state.node n ≡ data_in node
+
+-- The node is the edge of the VRF of that number, and has acted on the present costs.
+pub record IsEdgeOf (number : VrfId) (n : NodeId) (at : Standing) : Type 0 where
+  pub current : IsCurrent n at
+  pub vrf : Vrf
+  pub stands : slice_get at.scenario.vrfs number.0 ≡ Some vrf
+  pub edge : vrf.edge ≡ n
+
+-- ---- sessions
+
+-- both ends of the session are nodes of the scenario
+pub record HasEnds (session : Session) (at : Standing) : Type 0 where
+  pub first : session.a.0 < length at.scenario.nodes
+  pub second : session.b.0 < length at.scenario.nodes
+
+abbrev pub HaveEnds : List Session → Standing → Type 0
+HaveEnds sessions at = All (λ session. HasEnds session at) sessions
+
+-- the world of that network, without copies and datagrams
+abbrev pub without_copies : OctetNetwork Nodes → World
+without_copies network = record { network = network; copies = λ u n. []; datagrams = [] }

@@ -1,0 +1,64 @@
+//! Acts of a node by itself: what it puts is handed out (RFC 4271 section 9.2, RFC 5036 section 3.5).
+ghost use Rattle.std.specs.Prelude.{[], ◌∷◌, Ok, OnOk};
+ghost use Rattle.session_defs.specs.Octets.{Call};
+ghost use Rattle.edge_defs.specs.Steps.{Timers};
+ghost use Rattle.world_defs.specs.System.{Follow, Own};
+ghost use Rattle.edge_core.specs.Answers.{IsOneOf};
+ghost use Rattle.control_plane.specs.Acted.{Acts, HandsOutAt, IsCurrent, IsSome, IsSomeMidway, IsWithin, Settles, no_lines, same_moment, with_current};
+
+use crate::handing;
+use crate::plane::{ControlPlane, halt_of};
+use edge_core::EdgeFault;
+use mldp_node::NodeFault;
+use mv_base::{NoMemory, NodeId};
+use scenario_defs::Lines;
+
+impl ControlPlane {
+    /// Node n hands out what it has put, over its directions in order.
+    pub(crate) fn hand_out(&mut self, n: NodeId, lines: &mut Lines) -> Result<(), NoMemory>
+        requires { IsSomeMidway n self.old }
+        ensures { HandsOutAt n self.old self.new lines.old lines.new result }
+    {
+        let at = usize::from(n.0);
+        let ways = self.ways.as_slice()[at].as_slice();
+        handing::hand_out(&mut self.nodes[at], &mut self.transit, ways, lines)
+    }
+
+    /// What comes of an act of node n, by what the node answered.
+    pub(crate) fn settle(
+        &mut self,
+        n: NodeId,
+        answer: Result<(), EdgeFault>,
+        lines: &mut Lines,
+    ) -> Result<(), NodeFault>
+        requires midway { OnOk answer (IsSomeMidway n self.old) }
+        requires spends { IsOneOf [] answer }
+        ensures { Settles n answer self.old self.new lines.old lines.new result }
+    {
+        match answer {
+            Ok(()) => match self.hand_out(n, lines) {
+                Ok(()) => Ok(()),
+                Err(_) => Err(NodeFault::NoMemory),
+            },
+            Err(fault) => Err(halt_of(fault)),
+        }
+    }
+
+    /// The timers of node n run.
+    pub fn timers(&mut self, n: NodeId, lines: &mut Lines) -> Result<(), NodeFault>
+        requires plane { IsSome (IsCurrent n) self.old }
+        ensures { Acts (IsCurrent n) same_moment (Call (Own n Timers) ∷ []) no_lines self.old self.new lines.old lines.new result }
+    {
+        let answer = self.nodes[usize::from(n.0)].timers(self.clock, &self.core);
+        self.settle(n, answer, lines)
+    }
+
+    /// Node n acts on the present costs.
+    pub fn reroute(&mut self, n: NodeId, lines: &mut Lines) -> Result<(), NodeFault>
+        requires plane { IsSome (IsWithin n) self.old }
+        ensures { Acts (IsWithin n) (with_current n) (Call (Follow n) ∷ []) no_lines self.old self.new lines.old lines.new result }
+    {
+        let answer = self.nodes[usize::from(n.0)].rerouted(self.clock, &self.core);
+        self.settle(n, answer, lines)
+    }
+}

@@ -1,0 +1,5 @@
+pub mod Along
+pub mod Numbers
+pub mod Stores
+pub mod Counts
+pub mod Told

@@ -1,0 +1,15 @@
+use Rattle.std.proofs.Common.{◌≡◌, ℕ, filter, sym, subst}
+use Rattle.mv_base.specs.declared.ids.NodeId.{NodeId}
+use Rattle.link_copies.specs.CopiesData.{is_recent, kept_at}
+use Rattle.world_defs.specs.World.{scenario_of}
+use Rattle.datagram_acts.specs.Stored.{IsIdle}
+use Rattle.datagram_acts.proofs.Stores.{aged_idle}
+use Rattle.datagram_acts.proofs.datagrams.Datagrams.age.Goals as goal
+
+pub returns : goal.returns
+returns c = λ world idle clock life.
+    let was = c.self.inside.copies in
+    aged_idle world was c.age.new.self c.self.inside.count (subst (IsIdle world) (sym c.self.view_is) idle)
+    (subst (λ (now : ℕ). (u n : NodeId) → kept_at c.age.new.self u n ≡ filter (is_recent now (scenario_of world).life) (kept_at was u n)) (sym clock)
+    (subst (λ (most : ℕ). (u n : NodeId) → kept_at c.age.new.self u n ≡ filter (is_recent c.args.now most) (kept_at was u n)) (sym life) c.age.ensures.ways))
+    c.age.ensures.current c.age.ensures.octets c.buffers_count_copies.ensures

@@ -1,0 +1,2 @@
+pub mod DatagramsView
+pub mod Stored

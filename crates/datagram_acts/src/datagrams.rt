@@ -1,0 +1,181 @@
+//! The datagrams on the links of a network, and the one that is being handled.
+ghost use Rattle.std.specs.Prelude.{◌≡◌, ◌<◌, ◌+◌, ◌-◌, ◌++◌, ◌^◌, ℕ, None, length, map, slice_get, IfOk, IfSome, OnOk, OnErr};
+ghost use Rattle.mv_base.specs.declared.addr.Addr.{Addr};
+ghost use Rattle.mv_base.specs.declared.ids.SiteId.{SiteId};
+ghost use Rattle.scenario_defs.specs.declared.scenario.Scenario.{Scenario};
+ghost use Rattle.scenario_defs.specs.declared.report.ReportLine.TheVariants as told;
+ghost use Rattle.edge_defs.specs.Datagrams as definitions;
+ghost use Rattle.edge_core.specs.State.{IsFate};
+ghost use Rattle.world_defs.specs.Acts.{aged, hop_line, with_branches, without_copy};
+ghost use Rattle.world_defs.specs.Costs.{Cores};
+ghost use Rattle.world_defs.specs.Counts.{all_copies, datagrams_with_copy};
+ghost use Rattle.world_defs.specs.World.{Datagram, World, clock_of, scenario_of, start};
+ghost use Rattle.link_copies.specs.CopiesData.{IsShared};
+ghost use Rattle.datagram_acts.specs.Stored.{AreLinked, Handles, HasLanded, IsHandling, IsIdle, with_datagram};
+
+use crate::leaving;
+use edge_core::Fate;
+use link_copies::{Landed, LinkCopies};
+use mv_base::{NoMemory, NodeId};
+use scenario_defs::Lines;
+use std::alloc::Global;
+use std::marker::Model;
+
+/// The copies of datagrams on the links of a network, and the datagram that is being handled, if any. Accepted datagrams are
+/// numbered from 1. Contracts see it as a `DatagramsView`.
+#[derive(Drop)]
+pub struct Datagrams {
+    copies: LinkCopies,
+    /// How many were accepted.
+    count: u64,
+    /// The number of the one that is being handled, while there is one.
+    number: u64,
+}
+
+impl Model for Datagrams {
+    ghost use Rattle.datagram_acts.specs.DatagramsView.{DatagramsView, view_code};
+    ghost use Rattle.datagram_acts.specs.Stored.{IsNumber};
+
+    ghost Value = { DatagramsView };
+
+    ghost coded = { view_code };
+
+    ghost view = { λ d. record { copies = d.copies; count = d.count } };
+
+    ghost invariant = { λ d. IsNumber d.number d.copies.current };
+}
+
+/// Each buffer counts the copies that have it. It does nothing: the pool is asked for, since that is known of it.
+fn buffers_count_copies(copies: &LinkCopies)
+    ensures { IsShared copies.now }
+{
+    copies.pool();
+}
+
+impl Datagrams {
+    /// No datagrams. It takes no memory.
+    pub fn of(alloc: Global) -> Datagrams
+        ensures { (scenario : Scenario) (cores : Cores) → IsIdle (start scenario cores) result }
+    {
+        Datagrams {
+            copies: LinkCopies::of(alloc),
+            count: 0,
+            number: 0,
+        }
+    }
+
+    /// A datagram of these octets is accepted, and is the one that is being handled. Answers its number.
+    pub fn accept(&mut self, octets: &[u8]) -> Result<u64, NoMemory>
+        requires idle { (world : World) × IsIdle world self.old }
+        requires room { self.old.count + 1 < 2 ^ 64 }
+        ensures number { IfOk result (λ number. number ≡ self.old.count + 1) }
+        ensures accepted { OnOk result ((world : World) (site : SiteId) (source group : Addr) → IsIdle world self.old →
+            Handles (with_datagram (record { site = site; source = source; group = group; octets = octets.now }) world) (self.old.count + 1)
+            (record { site = site; source = source; group = group; octets = octets.now }) self.new) }
+        ensures unchanged { OnErr result (self.new ≡ self.old) }
+    {
+        let number = self.count + 1;
+        self.copies.accept(number, octets)?;
+        self.count = number;
+        self.number = number;
+        Ok(number)
+    }
+
+    /// The datagram that is being handled leaves the node at interfaces, and a copy of it goes on each branch, each told in a line.
+    /// At want of memory some first ones of the copies and lines stand.
+    pub fn leave(
+        &mut self,
+        node: NodeId,
+        ttl: u8,
+        now: u64,
+        fate: &Fate,
+        lines: &mut Lines,
+    ) -> Result<(), NoMemory>
+        requires handling { IsHandling self.old }
+        ensures left { OnOk result ((world : World) (number : ℕ) (datagram : Datagram) (own : definitions.Fate) → Handles world number datagram self.old →
+            clock_of world ≡ now → IsFate own fate.now → Handles (with_branches node ttl number own.branches world) number datagram self.new) }
+        ensures lines { OnOk result ((world : World) (number : ℕ) (datagram : Datagram) (own : definitions.Fate) → Handles world number datagram self.old →
+            IsFate own fate.now →
+            lines.new ≡ lines.old ++ (map (λ iface. told.Out number iface datagram.octets) own.outs ++ map (hop_line node ttl number) own.branches)) }
+    {
+        leaving::leave_at(self.number, fate.outs.as_slice(), self.octets(), lines)?;
+        leaving::tell_hops(node, ttl, self.number, fate.branches.as_slice(), lines)?;
+        self.copies
+            .forward_on_trees(node, ttl, now, fate.branches.as_slice())
+    }
+
+    /// The copy at that place of the way lands, counted from 1, where there is one: it leaves its link, and its datagram is the one
+    /// that is being handled. Place 0 names the first one too.
+    pub fn land(&mut self, from: NodeId, to: NodeId, place: usize) -> Option<Landed>
+        requires idle { (world : World) × IsIdle world self.old }
+        ensures landed { IfSome result (λ landed. (world : World) → IsIdle world self.old → HasLanded world from to place landed self.new) }
+        ensures none { result ≡ None → (world : World) → IsIdle world self.old → slice_get (world.copies from to) (place - 1) ≡ None }
+        ensures unchanged { result ≡ None → self.new ≡ self.old }
+    {
+        let landed = self.copies.land(from, to, place)?;
+        self.number = landed.number;
+        Some(landed)
+    }
+
+    /// The octets of the datagram that is being handled.
+    pub fn octets(&self) -> &[u8]
+        ensures { (world : World) (number : ℕ) (datagram : Datagram) → Handles world number datagram self.now → result.now ≡ datagram.octets }
+    {
+        self.copies.current_octets()
+    }
+
+    /// The datagram is no longer handled.
+    pub fn finish(&mut self)
+        ensures { (world : World) (number : ℕ) (datagram : Datagram) → Handles world number datagram self.old → IsIdle world self.new }
+    {
+        self.copies.finish();
+        buffers_count_copies(&self.copies);
+    }
+
+    /// The copy at that place of the way leaves its link, where there is one. The place is counted as in `land`.
+    pub fn drop_copy(&mut self, from: NodeId, to: NodeId, place: usize)
+        requires idle { (world : World) × IsIdle world self.old }
+        ensures { (world : World) → IsIdle world self.old → IsIdle (without_copy world from to place) self.new }
+    {
+        self.copies.drop_copy(from, to, place);
+        buffers_count_copies(&self.copies);
+    }
+
+    /// The copies that have been on their link for longer than `life` are dropped.
+    pub fn age(&mut self, now: u64, life: u64)
+        ensures { (world : World) → IsIdle world self.old → clock_of world ≡ now → (scenario_of world).life ≡ life → IsIdle (aged world) self.new }
+    {
+        self.copies.age(now, life);
+        buffers_count_copies(&self.copies);
+    }
+
+    /// How many copies are on the way.
+    pub fn count_on(&self, from: NodeId, to: NodeId) -> usize
+        ensures { (world : World) → IsIdle world self.now → result ≡ length (world.copies from to) }
+    {
+        self.copies.count_on(from, to)
+    }
+
+    /// How many copies are on links.
+    pub fn copies(&self) -> u64
+        ensures { (world : World) → IsIdle world self.now → AreLinked world → result ≡ length (all_copies world) }
+    {
+        self.copies.count()
+    }
+
+    /// How many datagrams have a copy on a link.
+    pub fn live(&self) -> usize
+        ensures { (world : World) → IsIdle world self.now → AreLinked world →
+            result ≡ datagrams_with_copy (all_copies world) (length world.datagrams) }
+    {
+        buffers_count_copies(&self.copies);
+        self.copies.live()
+    }
+
+    /// How many datagrams were accepted.
+    pub fn count(&self) -> u64
+        ensures { result ≡ self.now.count }
+    {
+        self.count
+    }
+}

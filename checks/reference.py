@@ -7,17 +7,7 @@ ends it with status 7.
 
 import sys
 
-from reference.events import run
-from reference.report import WIRE, line_text
-from reference.script import read
-
-
-def replay(text, wire):
-    """The text of the report, and the status."""
-    script = read(text)
-    lines, is_halted = run(script)
-    told = [line_text(script.scenario, line) for line in lines if wire or not isinstance(line, WIRE)]
-    return ''.join(told), 7 if is_halted else 0
+from reference.replaying import replay
 
 
 def main(words):

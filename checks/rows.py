@@ -2,9 +2,9 @@
 """Runs worked rows, and compares what is written, and the status, with what is wanted: `rows.py [--command COMMAND] [FILE ..]`.
 
 A row is the words of a command, its input, the whole output and the status. Rows stand in checks/rows/*.txt, and each
-examples/NAME.txt with its NAME.report is one more. The command is `./mvpn` of this repository, unless another one is
-named. Rows of `replay` without a text fault are run by the reference program of the definitions too. With files, only
-rows of these are run.
+examples/NAME.txt with its NAME.report is one more; its status is 7 where the last line of the report begins with `halt `, and else
+0. The command is `./mvpn` of this repository, unless another one is named. Rows of `replay` without a text fault are run by the
+reference program of the definitions too. With files, only rows of these are run.
 
 A file of rows is made of blocks, and the first word of a block says what it is. Blank lines, and those that begin with
 `#`, are passed over.
@@ -15,7 +15,7 @@ A file of rows is made of blocks, and the first word of a block says what it is.
                         by four spaces. `table WORDS behind NAME` puts the lines of the scenario in front of each TEXT
     row TITLE           one row, of these lines in their order:
         words WORDS         the words of the command; `replay` where there is no such line
-        by program          the reference program is too slow for it; `by reference`: the program cannot run it yet
+        by program          the reference program is too slow for it; `by reference`: it is run by that program alone
         use NAME            the lines of the scenario; `use NAME WORD TEXT` puts TEXT for WORD in them
         < TEXT              a line of input. `\\t`, `\\r`, `\\n`, `\\\\` and `\\xHH` are octets; a `\\` at the end takes the line's LF away
         each M..N TEXT      that line for each of the numbers, which stands for `%`
@@ -187,10 +187,11 @@ class Book:
 
 
 def examples():
-    """The examples that the README shows."""
+    """The examples that examples/README.md tells."""
     for path in sorted((TOP / 'examples').glob('*.txt')):
         report = path.with_suffix('.report').read_text()
-        yield Row(f'examples/{path.name}', ['replay'], path.read_bytes(), report)
+        status = 7 if re.search(r'^halt .*\n\Z', report, re.MULTILINE) else 0
+        yield Row(f'examples/{path.name}', ['replay'], path.read_bytes(), report, status)
 
 
 # ---- the check

@@ -98,14 +98,14 @@ module _ (at : Standing) (plane : PlaneView) (is : IsIn at plane) (n : NodeId) (
   before = before_begun n network begin.joined begin.moving begin.stream call has.is.state begin.streams begin.begun has.is.at
 
   stands : Stands network.state n plane.core plane.clock has.node
-  stands = stands_in at.scenario at.cores at.moment n network plane has.node is.around (is.around.known n begin.current) has.placed
+  stands = stands_in at.scenario at.cores at.moment n network plane has.node is.around (is.around.known n begin.within begin.current) has.placed
 
   is_base : IsBase at.scenario at.cores moment n base begin.moving plane transit
   is_base = record {
     scenario_is = is.around.scenario_is;
     cores_are = is.around.cores_are;
     core = is.around.core;
-    known = λ m early. is.around.known m (sym (begin.late m) ∙ early);
+    known = λ m below early. is.around.known m below (sym (begin.late m) ∙ early);
     clock = is.around.clock;
     joined = begin.joined_is;
     octets = begin.octets_are;

@@ -39,8 +39,9 @@ use Rattle.network_nodes.specs.Answers.{Answers, after}
 use Rattle.network_nodes.specs.NodeView.{HasIface, HasVrf, IsNode, IsPlacedAt, data_in, spent_in}
 use Rattle.network_nodes.specs.declared.node.NetworkNode.{NetworkNode}
 use Rattle.network_nodes.specs.declared.node.NetworkNode.TheVariants as nodes
-use Rattle.control_plane.specs.Acted.{Acted, Acts, IsCurrent, IsIn, IsSome, Settles, Standing, no_lines, same_moment}
-use Rattle.control_plane.specs.Customers.{CustomerActs, SettlesCustomer, control_at}
+use Rattle.control_plane.specs.Acted.{Acted, Acts, IsCurrent, IsIn, IsSome, IsWithin, Settles, Standing, no_lines, same_moment}
+use Rattle.control_plane.specs.Customers.{CustomerActs, IsVrfEdge, SettlesCustomer, control_at}
+use Rattle.control_plane.specs.Queries.{IsNodeThere}
 use Rattle.control_plane.specs.PlaneView.{PlaneView}
 use Rattle.control_plane.specs.declared.customers.Verdict.{Verdict}
 use Rattle.control_plane.proofs.MidLemmas.{worked}
@@ -126,6 +127,13 @@ has_iface scenario rules n iface (nodes.Edge edge) placed e =
     (ap (λ (o : Option Iface). elim o [ None ↦ false | Some found ↦ is_of_vrf is.found.vrf found ]) is.at ∙ eq-eqb is.found.vrf.0 is.found.vrf.0 refl))
 has_iface scenario rules n iface (nodes.CoreNode core) placed e =
     let is = iface_of scenario n iface e in absurd (no_core_node scenario rules n is.found.vrf.0 is.vrf placed.1)
+
+-- the VRF is one of the node that stands there
+pub own_vrf : (n : NodeId) (vrf : VrfId) (plane : PlaneView) (node : NetworkNode) → IsSome (IsVrfEdge n vrf) plane → ((at : Standing) → IsWithin n at → IsIn at plane → IsNodeThere at n node)
+    → HasVrf node vrf
+own_vrf n vrf plane node (at, place, is) stands =
+    has_vrf at.scenario (subst Rules is.around.scenario_is is.around.steady.sound.lines.rules) n vrf node
+    (subst (λ (s : Scenario). IsPlacedAt s n node) is.around.scenario_is (stands at place.node.within is).placed) place.edge
 
 -- ---- what the node keeps
 

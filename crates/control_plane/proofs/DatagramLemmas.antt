@@ -10,16 +10,19 @@ use Rattle.scenario_defs.proofs.RuleLemmas.{vrf_rules_at}
 use Rattle.scenario_defs.specs.declared.scenario.Node.{Node}
 use Rattle.scenario_defs.specs.declared.scenario.Scenario.{Scenario}
 use Rattle.scenario_defs.specs.declared.scenario.Vrf.{Vrf}
+use Rattle.edge_defs.specs.Edge.{EdgeData}
 use Rattle.edge_defs.specs.Place.{OwnVrf, own_vrfs, vrfs_from}
 use Rattle.edge_home.specs.Home.{Home}
+use Rattle.edge_core.specs.State.{data_of}
 use Rattle.world_defs.specs.Nodes as world
 use Rattle.world_defs.specs.Nodes.{place_of}
-use Rattle.network_nodes.specs.NodeView.{HasVrf, IsPlacedAt}
+use Rattle.network_nodes.specs.NodeView.{HasVrf, IsPlacedAt, data_in}
 use Rattle.network_nodes.specs.declared.node.NetworkNode.{NetworkNode}
 use Rattle.network_nodes.specs.declared.node.NetworkNode.TheVariants as nodes
 use Rattle.control_plane.specs.Acted.{IsIn, IsSome, IsWithin, Standing}
 use Rattle.control_plane.specs.PlaneView.{PlaneView}
 use Rattle.control_plane.specs.Queries.{IsEdgeOf, IsNodeThere}
+use Rattle.control_plane.proofs.QueryLemmas.{there}
 
 -- ---- the VRFs of an edge
 
@@ -66,12 +69,26 @@ vrf_there scenario n vrf id (nodes.CoreNode core) is_edge at own placed =
 -- ---- at a node of the plane
 
 module _ (n : NodeId) (vrf : VrfId) (plane : PlaneView) where
+  has_own : (node : NetworkNode) (at : Standing) → IsEdgeOf vrf n at → IsIn at plane → IsNodeThere at n node → HasVrf node vrf
+  has_own node at own is stands =
+      let rules : Rules at.scenario = subst Rules is.around.scenario_is is.around.steady.sound.lines.rules in
+      let placed : IsPlacedAt at.scenario n node = subst (λ (s : Scenario). IsPlacedAt s n node) is.around.scenario_is stands.placed in
+      vrf_there at.scenario n own.vrf vrf node (vrf_rules_at at.scenario rules vrf.0 own.vrf own.stands).edge own.stands own.edge placed
+
   -- the VRF is one of the node
   pub vrf_here : (node : NetworkNode) → IsSome (IsEdgeOf vrf n) plane → ((at : Standing) → IsWithin n at → IsIn at plane → IsNodeThere at n node) → HasVrf node vrf
-  vrf_here node (at, own, is) there =
-      let rules : Rules at.scenario = subst Rules is.around.scenario_is is.around.steady.sound.lines.rules in
-      let placed : IsPlacedAt at.scenario n node = subst (λ (s : Scenario). IsPlacedAt s n node) is.around.scenario_is (there at own.current.within is).placed in
-      vrf_there at.scenario n own.vrf vrf node (vrf_rules_at at.scenario rules vrf.0 own.vrf own.stands).edge own.stands own.edge placed
+  vrf_here node (at, own, is) stands = has_own node at own is (stands at own.current.within is)
+
+  -- which is an edge
+  pub edge_here : (at : Standing) → IsEdgeOf vrf n at → IsIn at plane → (edge : EdgeData) × (at.network.state.node n ≡ world.Edge edge)
+  edge_here at own is =
+      let has = is.nodes n own.current.within in
+      let stands = there at n plane has.node own.current.within is has.at in
+      by has.node stands.keeps (has_own has.node at own is stands)
+    where
+      by : (node : NetworkNode) → at.network.state.node n ≡ data_in node → HasVrf node vrf → (edge : EdgeData) × (at.network.state.node n ≡ world.Edge edge)
+      by (nodes.Edge edge) keeps has = (data_of edge, keeps)
+      by (nodes.CoreNode core) keeps has = absurd has
 
   pub own_here : (at : Standing) (own : IsEdgeOf vrf n at) → IsIn at plane → Among (record { id = vrf; vrf = own.vrf }) (own_vrfs (place_of at.network.state n))
   own_here at own is =

@@ -68,7 +68,7 @@ module _ (scenario : Scenario) (cores : Cores) (moment : Moment) (n : NodeId) (n
     scenario_is = is.around.scenario_is;
     cores_are = is.around.cores_are;
     core = is.around.core;
-    known = λ m early. by m (m.0 == n.0) early;
+    known = λ m below early. by m below (m.0 == n.0) early;
     clock = is.around.clock;
     joined = is.around.joined;
     octets = is.transit;
@@ -81,9 +81,9 @@ module _ (scenario : Scenario) (cores : Cores) (moment : Moment) (n : NodeId) (n
     });
   }
     where
-      by : (m : NodeId) (b : Bool) → cond b false (moment.late m) ≡ false → cond b network.state.links (network.state.known m) ≡ network.state.links
-      by m true early = refl
-      by m false early = is.around.known m early
+      by : (m : NodeId) → m.0 < length scenario.nodes → (b : Bool) → cond b false (moment.late m) ≡ false → cond b network.state.links (network.state.known m) ≡ network.state.links
+      by m below true early = refl
+      by m below false early = is.around.known m below early
 
   steady_behind : (new : Behind (OctetNetwork Nodes)) → octet_act system network one ≡ Some new → IsElsewhere n (with_known n network) network.transit new → IsSteady next new.network
   steady_behind new e elsewhere =

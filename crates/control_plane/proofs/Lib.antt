@@ -15,9 +15,9 @@ mod DataLemmas
 mod MoveLemmas
 mod MoveActs
 mod BeginLemmas
-mod EndLemmas
+pub mod EndLemmas
 mod NoticeLemmas
 mod RaiseLemmas
 mod QueryLemmas
-mod DatagramLemmas
+pub mod DatagramLemmas
 mod TotalLemmas

@@ -117,7 +117,7 @@ pub record IsBase (scenario : Scenario) (cores : Cores) (moment : Moment) (n : N
   pub scenario_is : base.state.scenario ≡ scenario
   pub cores_are : base.state.cores ≡ cores
   pub core : plane.core ≡ record { nodes = length scenario.nodes; links = base.state.links }
-  pub known : (m : NodeId) → moment.late m ≡ false → base.state.known m ≡ base.state.links
+  pub known : (m : NodeId) → m.0 < length scenario.nodes → moment.late m ≡ false → base.state.known m ≡ base.state.links
   pub clock : base.state.clock ≡ plane.clock
   pub joined : (over : Direction) → base.joined over ≡ is_joined_at transit over
   pub octets : (over : Direction) → moving over ≡ octets_at transit over
@@ -151,7 +151,7 @@ midway scenario cores old moment n network base moving new plane transit state n
     cores_are = elsewhere.cores ∙ is.cores_are;
     of_scenario = around.of_scenario;
     core = is.core ∙ ap (λ links. record { nodes = length scenario.nodes; links = links }) (sym elsewhere.links);
-    known = λ m early. elsewhere.known m ∙ (is.known m early ∙ sym elsewhere.links);
+    known = λ m below early. elsewhere.known m ∙ (is.known m below early ∙ sym elsewhere.links);
     clock = elsewhere.clock ∙ is.clock;
     small = around.small;
     count = set_length plane.nodes n.0 node ∙ around.count;

@@ -123,7 +123,7 @@ module _ (scenario : Scenario) (cores : Cores) (moment : Moment) (network : Octe
   calm_stream = fault_in network n [] has.is.state kind from sessions has.is.at ∙ no_fault_over moment network old joined
 
   stands : Stands network.state n plane.core plane.clock has.node
-  stands = stands_in scenario cores moment n network plane has.node is.around (is.around.known n current) has.placed
+  stands = stands_in scenario cores moment n network plane has.node is.around (is.around.known n within current) has.placed
 
   abbrev octets_taken : List ℕ
   octets_taken = take count (network.transit over)

@@ -204,7 +204,7 @@ module _ (at : Standing) (plane : PlaneView) (is : IsIn at plane) where
         cores_are = around.cores_are;
         of_scenario = around.of_scenario;
         core = priced_is ∙ ap (λ (t : Topology). record { nodes = t.nodes; links = with_cost a b cost t.links }) around.core;
-        known = λ n late. absurd (let e : true ≡ false = late in cc);
+        known = λ n within late. absurd (let e : true ≡ false = late in cc);
         clock = around.clock;
         small = around.small;
         count = around.count;

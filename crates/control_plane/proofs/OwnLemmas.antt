@@ -81,7 +81,7 @@ module _ (scenario : Scenario) (cores : Cores) (moment : Moment) (n : NodeId) (n
   own = octets.Call (Own n call)
 
   stands : Stands network.state n plane.core plane.clock has.node
-  stands = stands_in scenario cores moment n network plane has.node is.around (is.around.known n current) has.placed
+  stands = stands_in scenario cores moment n network plane has.node is.around (is.around.known n within current) has.placed
 
   steady_behind : (new : Behind (OctetNetwork Nodes)) → octet_act system network own ≡ Some new → new.network.state.scenario ≡ network.state.scenario
       → ((over : _) → new.network.joined over ≡ network.joined over) → IsSteady moment new.network

@@ -105,7 +105,7 @@ first_plane scenario plane rules octets first ways none core clock cores of_scen
     cores_are = refl;
     of_scenario = of_scenario;
     core = core;
-    known = λ n current. refl;
+    known = λ n within current. refl;
     clock = sym clock;
     small = omega (arith, clock);
     count = first.count_is;

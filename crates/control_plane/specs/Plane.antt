@@ -66,7 +66,7 @@ pub record IsAround (scenario : Scenario) (cores : Cores) (moment : Moment) (net
   pub cores_are : network.state.cores ≡ cores
   pub of_scenario : AreCoresOf scenario cores
   pub core : plane.core ≡ record { nodes = length scenario.nodes; links = network.state.links }
-  pub known : (n : NodeId) → moment.late n ≡ false → network.state.known n ≡ network.state.links
+  pub known : (n : NodeId) → n.0 < length scenario.nodes → moment.late n ≡ false → network.state.known n ≡ network.state.links
   pub clock : network.state.clock ≡ plane.clock
   pub small : plane.clock < 9223372036854775808
   pub count : length plane.nodes ≡ length scenario.nodes

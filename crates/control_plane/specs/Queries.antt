@@ -10,6 +10,10 @@ use Rattle.world_defs.specs.World.{World}
 use Rattle.network_nodes.specs.NodeView.{IsPlacedAt, data_in, spent_in}
 use Rattle.network_nodes.specs.declared.node.NetworkNode.{NetworkNode}
 use Rattle.control_plane.specs.Acted.{IsCurrent, Standing}
+-- where datagrams go
+pub use Rattle.edge_core.specs.declared.fate.Fate.{Fate}
+pub use Rattle.edge_core.specs.State.{IsFate}
+pub use Rattle.network_nodes.specs.Network.{landing_fate}
 
 -- ---- nodes
 

@@ -10,7 +10,7 @@ mod plane;
 mod queries;
 mod sessions;
 mod start;
-mod values;
 
 pub use customers::Verdict;
+pub use edge_core::Fate;
 pub use plane::ControlPlane;

@@ -1,20 +1,24 @@
 //! What is asked of the control plane. Nothing changes.
-ghost use Rattle.std.specs.Prelude.{◌≡◌, count_by, length, min, not, sum_by, IfOk};
+ghost use Rattle.std.specs.Prelude.{◌≡◌, count_by, false, length, min, not, sum_by, IfOk, IfSome, None};
+ghost use Rattle.std.specs.FinMap as maps;
 ghost use Rattle.label_defs.specs.LabelData as labels;
 ghost use Rattle.edge_defs.specs.Datagrams.{entering_fate};
 ghost use Rattle.edge_defs.specs.Edge.{EdgeData};
 ghost use Rattle.world_defs.specs.Counts as counts;
 ghost use Rattle.world_defs.specs.Counts.{all_nodes, direction, is_end_up, node_due, octets_in_transit};
-ghost use Rattle.world_defs.specs.Nodes.{Edge, part_of, place_of};
+ghost use Rattle.world_defs.specs.Nodes.{is_edge, part_of, place_of};
+ghost use Rattle.world_defs.specs.Nodes as world;
 ghost use Rattle.edge_core.specs.State.{IsFate};
 ghost use Rattle.network_nodes.specs.Network.{landing_fate};
+ghost use Rattle.network_nodes.specs.declared.node.NetworkNode.TheVariants as nodes;
 ghost use Rattle.control_plane.specs.Acted.{IsCurrent, IsIn, IsSome, IsWithin, Standing};
+ghost use Rattle.control_plane.specs.Customers.{IsVrfEdge, control_at};
 ghost use Rattle.control_plane.specs.Queries.{HasEnds, HaveEnds, IsEdgeOf, IsNodeThere, without_copies};
 
 use crate::plane::ControlPlane;
-use edge_core::Fate;
+use edge_core::{Edge, Fate};
 use label_forwarding::Datagram;
-use mv_base::{NoMemory, NodeId, SiteId, VrfId};
+use mv_base::{NoMemory, NodeId, Pattern, SiteId, VrfId};
 use mvpn_model::Session;
 use network_nodes::NetworkNode;
 use scenario_defs::Kind;
@@ -24,7 +28,8 @@ use std::alloc::Global;
 impl ControlPlane {
     /// The clock, in ticks.
     pub fn clock(&self) -> u64
-        ensures { (at : Standing) → IsIn at self.now → result ≡ at.network.state.clock }
+        ensures own { result ≡ self.now.clock }
+        ensures is { (at : Standing) → IsIn at self.now → result ≡ at.network.state.clock }
     {
         self.clock
     }
@@ -72,6 +77,27 @@ impl ControlPlane {
         ensures { (at : Standing) → IsWithin n at → IsIn at self.now → result ≡ labels.is_ready (part_of (at.network.state.node n)) peer }
     {
         self.node(n).is_ready(peer)
+    }
+
+    /// Whether the VRF, whose edge is node n, has selected the pattern.
+    pub fn is_selected(&self, n: NodeId, vrf: VrfId, pattern: Pattern) -> bool
+        requires plane { IsSome (IsVrfEdge n vrf) self.now }
+        ensures { (at : Standing) → IsVrfEdge n vrf at → IsIn at self.now →
+            result ≡ maps.contains_key (control_at n at).selections (record { vrf = vrf; pattern = pattern }) }
+    {
+        self.node(n).is_selected(vrf, pattern)
+    }
+
+    /// Node n, where it is an edge.
+    pub fn edge(&self, n: NodeId) -> Option<&Edge>
+        requires plane { IsSome (IsWithin n) self.now }
+        ensures is { IfSome result (λ edge. (at : Standing) → IsWithin n at → IsIn at self.now → IsNodeThere at n (nodes.Edge edge.now)) }
+        ensures none { result ≡ None → (at : Standing) → IsWithin n at → IsIn at self.now → is_edge at.scenario n ≡ false }
+    {
+        match self.node(n) {
+            NetworkNode::Edge(edge) => Some(edge),
+            NetworkNode::CoreNode(_) => None,
+        }
     }
 
     /// How many timers are due, or the greatest number of 64 bits where there are more.
@@ -130,7 +156,7 @@ impl ControlPlane {
         datagram: &Datagram<'_>,
     ) -> Result<Fate, NoMemory>
         requires plane { IsSome (IsEdgeOf vrf n) self.now }
-        ensures { (at : Standing) → (own : IsEdgeOf vrf n at) → IsIn at self.now → (edge : EdgeData) → at.network.state.node n ≡ Edge edge →
+        ensures { (at : Standing) → (own : IsEdgeOf vrf n at) → IsIn at self.now → (edge : EdgeData) → at.network.state.node n ≡ world.Edge edge →
             IfOk result (IsFate (entering_fate (place_of at.network.state n) at.network.state.clock edge
             (record { id = vrf; vrf = own.vrf }) site datagram.now.source datagram.now.group)) }
     {

@@ -10,11 +10,11 @@ ghost use Rattle.control_plane.specs.Plane.{IsPlane, at_rest};
 ghost use Rattle.control_plane.specs.Starting.{AreFirst, IsFirst};
 
 use crate::plane::ControlPlane;
-use crate::values::has_octets;
 use core_paths::{Core, CoreFault};
 use mv_base::{NoMemory, NodeId};
 use network_nodes::NetworkNode;
 use scenario_defs::Scenario;
+use script_values::scenario_has_octets;
 use session_transit::Transit;
 use session_ways::{Ways, directions_of, sessions_of, ways_of};
 use std::alloc::Global;
@@ -102,7 +102,7 @@ impl ControlPlane {
         ensures { IfOk result (λ plane. (cores : Cores) → AreCoresOf scenario.now cores →
             IsPlane scenario.now cores at_rest (start scenario.now cores).network plane) }
     {
-        has_octets(scenario);
+        scenario_has_octets(scenario);
         let ways = first_ways(alloc, scenario)?;
         let core = first_core(alloc, scenario)?;
         let nodes = first_nodes(alloc, scenario)?;

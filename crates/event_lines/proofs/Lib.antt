@@ -1,1 +1,4 @@
+pub mod RuleFacts
+pub mod NetworkFacts
+pub mod CustomerFacts
 pub mod EventFacts

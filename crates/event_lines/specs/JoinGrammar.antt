@@ -1,7 +1,10 @@
 -- The lines of joins and prunes: what each says, or its first fault.
-use Rattle.std.specs.Prelude.{nat_eq, List, [], ◌∷◌, Result, Ok, if◌then◌else◌, codes}
+use Rattle.std.specs.Prelude.{nat_eq, List, ℕ, [], ◌∷◌, Option, None, Some, Result, Ok, if◌then◌else◌, codes}
 use Rattle.std.specs.Cmp.Lexicographic.{pointwise}
+use Rattle.mv_base.specs.declared.ids.IfaceId.{IfaceId}
+use Rattle.scenario_defs.specs.declared.event.Event.{Event}
 use Rattle.scenario_defs.specs.declared.event.Event.TheVariants as events
+use Rattle.scenario_defs.specs.declared.event.IfaceEntry.{IfaceEntry}
 use Rattle.scenario_defs.specs.declared.event.JoinEntry.{JoinEntry}
 use Rattle.scenario_defs.specs.declared.event.JoinEntry.TheVariants as entries
 use Rattle.line_words.specs.declared.fault.Reason.TheVariants as reasons
@@ -11,9 +14,22 @@ use Rattle.line_words.specs.Words.{Placed}
 use Rattle.line_words.specs.Forms.{fault, ◌>>=◌, source_at, group_at}
 use Rattle.scenario_draft.specs.declared.line.Line.{Line}
 use Rattle.scenario_draft.specs.declared.line.Line.TheVariants as says
-use Rattle.scenario_defs.specs.declared.event.IfaceEntry.{IfaceEntry}
 use Rattle.scenario_draft.specs.Drafted.{Drafted}
 use Rattle.scenario_draft.specs.Naming.{iface_at}
+use Rattle.event_lines.specs.declared.join_lines.EntryWord.{EntryWord}
+use Rattle.event_lines.specs.declared.join_lines.EntryWord.TheVariants as entry_kinds
+use Rattle.event_lines.specs.Rules.{unless_broken, family_fault, is_entry_of}
+
+-- the event of an entry whose line begins with the text
+abbrev pub entry_word : List ℕ → Option EntryWord
+entry_word text =
+    if pointwise nat_eq text (codes "join") then Some entry_kinds.Join else
+    if pointwise nat_eq text (codes "prune") then Some entry_kinds.Prune else
+    None
+
+abbrev pub entry_event : EntryWord → IfaceEntry → Event
+entry_event entry_kinds.Join named = events.Join named.iface named.entry
+entry_event entry_kinds.Prune named = events.Prune named.iface named.entry
 
 -- `* G`
 unfoldable pub star_entry : Row → Placed → Result JoinEntry TextFault
@@ -35,14 +51,18 @@ rpt_entry row b c d = source_at row b >>= λ source. group_at row c >>= λ group
 unfoldable pub entry_at : Row → Placed → Placed → Result JoinEntry TextFault
 entry_at row b c = if pointwise nat_eq b.text (codes "*") then star_entry row c else source_entry row b c
 
+-- the entry at the interface, where it is of the interface's family
+abbrev pub at_iface : Drafted → Row → Placed → IfaceId → JoinEntry → Result IfaceEntry TextFault
+at_iface draft row c iface entry =
+    unless_broken (family_fault (is_entry_of draft iface entry)) row c (record { iface = iface; entry = entry })
+
 -- `IFACE * G` or `IFACE S G`
 unfoldable pub three_words : Drafted → Row → Placed → Placed → Placed → Result IfaceEntry TextFault
-three_words draft row a b c = iface_at draft row a >>= λ iface. entry_at row b c >>= λ entry. Ok (record { iface = iface; entry = entry })
+three_words draft row a b c = iface_at draft row a >>= λ iface. entry_at row b c >>= λ entry. at_iface draft row c iface entry
 
 -- `IFACE S G rpt`
 unfoldable pub four_words : Drafted → Row → Placed → Placed → Placed → Placed → Result IfaceEntry TextFault
-four_words draft row a b c d =
-    iface_at draft row a >>= λ iface. rpt_entry row b c d >>= λ entry. Ok (record { iface = iface; entry = entry })
+four_words draft row a b c d = iface_at draft row a >>= λ iface. rpt_entry row b c d >>= λ entry. at_iface draft row c iface entry
 
 -- the words behind `join` or `prune`
 unfoldable pub iface_entry : Drafted → Row → List Placed → Result IfaceEntry TextFault
@@ -53,10 +73,6 @@ iface_entry draft row (a ∷ b ∷ c ∷ []) = three_words draft row a b c
 iface_entry draft row (a ∷ b ∷ c ∷ d ∷ []) = four_words draft row a b c d
 iface_entry draft row (a ∷ b ∷ c ∷ d ∷ e ∷ more) = fault row.number e.column reasons.Count
 
--- the words behind `join`
-unfoldable pub join_line : Drafted → Row → List Placed → Result Line TextFault
-join_line draft row words = iface_entry draft row words >>= λ named. Ok (says.Event (events.Join named.iface named.entry))
-
--- the words behind `prune`
-unfoldable pub prune_line : Drafted → Row → List Placed → Result Line TextFault
-prune_line draft row words = iface_entry draft row words >>= λ named. Ok (says.Event (events.Prune named.iface named.entry))
+-- a line of a join or a prune by the words behind the first one
+unfoldable pub entry_line : Drafted → Row → EntryWord → List Placed → Result Line TextFault
+entry_line draft row word words = iface_entry draft row words >>= λ named. Ok (says.Event (entry_event word named))

@@ -1,2 +1,9 @@
+pub mod Rules
+pub mod ClockGrammar
+pub mod SessionGrammar
+pub mod LinkGrammar
 pub mod JoinGrammar
+pub mod FlowGrammar
+pub mod SelectGrammar
+pub mod PayloadGrammar
 pub mod EventGrammar

@@ -1,12 +1,44 @@
 //! The lines of joins and prunes.
 ghost use Rattle.std.specs.Prelude.{◌≡◌, map};
 ghost use Rattle.line_words.specs.Words.{placed_word};
-ghost use Rattle.event_lines.specs.JoinGrammar.{star_entry, source_entry, if_rpt, rpt_entry, entry_at, three_words, four_words};
-ghost use Rattle.event_lines.specs.JoinGrammar.{iface_entry, join_line, prune_line};
+ghost use Rattle.event_lines.specs.JoinGrammar.{entry_word, entry_event, star_entry, source_entry, if_rpt, rpt_entry, entry_at};
+ghost use Rattle.event_lines.specs.JoinGrammar.{at_iface, three_words, four_words, iface_entry, entry_line};
 
+use crate::rules::{family_fault, is_entry_of, unless_broken};
 use line_words::{Reason, Row, TextFault, Word, fault_at, group_at, source_at};
+use mv_base::IfaceId;
 use scenario_defs::{Event, IfaceEntry, JoinEntry};
 use scenario_draft::{Draft, Line, iface_at};
+
+/// The events of an entry.
+#[derive(Clone, Copy)]
+pub enum EntryWord {
+    Join,
+    Prune,
+}
+
+/// The event whose line begins with the text.
+pub fn entry_word(text: &[u8]) -> Option<EntryWord>
+    ensures { result ≡ entry_word text.now }
+{
+    if text == b"join".as_slice() {
+        Some(EntryWord::Join)
+    } else if text == b"prune".as_slice() {
+        Some(EntryWord::Prune)
+    } else {
+        None
+    }
+}
+
+fn entry_event(word: EntryWord, named: IfaceEntry) -> Event
+    ensures { result ≡ entry_event word named }
+{
+    let IfaceEntry { iface, entry } = named;
+    match word {
+        EntryWord::Join => Event::Join { iface, entry },
+        EntryWord::Prune => Event::Prune { iface, entry },
+    }
+}
 
 #[tactic(auto, unfolding(crate::specs::JoinGrammar::star_entry))]
 fn star_entry(row: Row, group: &Word) -> Result<JoinEntry, TextFault>
@@ -56,6 +88,20 @@ fn entry_at(row: Row, source: &Word, group: &Word) -> Result<JoinEntry, TextFaul
     }
 }
 
+/// The entry at the interface, or `Family` at the group.
+fn at_iface(
+    draft: &Draft,
+    row: Row,
+    group: &Word,
+    iface: IfaceId,
+    entry: JoinEntry,
+) -> Result<IfaceEntry, TextFault>
+    ensures { result ≡ at_iface draft.now row (placed_word group.now) iface entry }
+{
+    let kept = is_entry_of(draft, iface, entry);
+    unless_broken(family_fault(kept), row, group, IfaceEntry { iface, entry })
+}
+
 #[tactic(auto, unfolding(crate::specs::JoinGrammar::three_words))]
 fn three_words(
     draft: &Draft,
@@ -68,7 +114,7 @@ fn three_words(
 {
     let iface = iface_at(draft, row, iface)?;
     let entry = entry_at(row, source, group)?;
-    Ok(IfaceEntry { iface, entry })
+    at_iface(draft, row, group, iface, entry)
 }
 
 #[tactic(auto, unfolding(crate::specs::JoinGrammar::four_words))]
@@ -85,7 +131,7 @@ fn four_words(
 {
     let iface = iface_at(draft, row, iface)?;
     let entry = rpt_entry(row, source, group, last)?;
-    Ok(IfaceEntry { iface, entry })
+    at_iface(draft, row, group, iface, entry)
 }
 
 #[tactic(auto, unfolding(crate::specs::JoinGrammar::iface_entry))]
@@ -100,30 +146,18 @@ fn iface_entry(draft: &Draft, row: Row, words: &[Word]) -> Result<IfaceEntry, Te
     }
 }
 
-/// The line of a join by the words behind the first one.
-#[tactic(auto, unfolding(crate::specs::JoinGrammar::join_line))]
-pub fn join_line(draft: &Draft, row: Row, words: &[Word]) -> Result<Line, TextFault>
-    ensures { result ≡ join_line draft.now row (map placed_word words.now) }
+/// The line of a join or a prune by the words behind the first one.
+#[tactic(auto, unfolding(crate::specs::JoinGrammar::entry_line))]
+pub fn entry_line(
+    draft: &Draft,
+    row: Row,
+    word: EntryWord,
+    words: &[Word],
+) -> Result<Line, TextFault>
+    ensures { result ≡ entry_line draft.now row word (map placed_word words.now) }
 {
     let named = iface_entry(draft, row, words)?;
     Ok(Line::Event {
-        event: Event::Join {
-            iface: named.iface,
-            entry: named.entry,
-        },
-    })
-}
-
-/// The line of a prune by the words behind the first one.
-#[tactic(auto, unfolding(crate::specs::JoinGrammar::prune_line))]
-pub fn prune_line(draft: &Draft, row: Row, words: &[Word]) -> Result<Line, TextFault>
-    ensures { result ≡ prune_line draft.now row (map placed_word words.now) }
-{
-    let named = iface_entry(draft, row, words)?;
-    Ok(Line::Event {
-        event: Event::Prune {
-            iface: named.iface,
-            entry: named.entry,
-        },
+        event: entry_event(word, named),
     })
 }

@@ -1,11 +1,12 @@
-//! The lines that end in octets: of PIM messages and of datagrams.
+//! The lines that end in octets: of PIM messages, of packets and of datagrams.
 ghost use Rattle.std.specs.Prelude.{◌≡◌, map};
 ghost use Rattle.line_words.specs.Answers.{Gives};
 ghost use Rattle.line_words.specs.Words.{placed_word};
-ghost use Rattle.event_lines.specs.EventGrammar.{pim_words, pim_line, send_head, send_words, send_line};
+ghost use Rattle.event_lines.specs.PayloadGrammar.{pim_words, pim_line, packet_words, packet_line, send_head, send_words, send_line};
 
+use crate::rules::{family_fault, unless_broken};
 use line_words::{
-    ReadFault, Reason, Row, TextFault, Word, fault_at, group_at, payload_at, source_at,
+    ReadFault, Reason, Row, TextFault, Word, fault_at, group_at, payload_at, same_family, source_at,
 };
 use mv_base::{Addr, SiteId};
 use scenario_defs::Event;
@@ -20,7 +21,7 @@ pub struct SendHead {
     pub group: Addr,
 }
 
-#[tactic(auto, unfolding(crate::specs::EventGrammar::pim_words))]
+#[tactic(auto, unfolding(crate::specs::PayloadGrammar::pim_words))]
 fn pim_words(
     alloc: Global,
     draft: &Draft,
@@ -38,7 +39,7 @@ fn pim_words(
 }
 
 /// The line of a PIM message by the words behind the first one.
-#[tactic(auto, unfolding(crate::specs::EventGrammar::pim_line))]
+#[tactic(auto, unfolding(crate::specs::PayloadGrammar::pim_line))]
 pub fn pim_line(alloc: Global, draft: &Draft, row: Row, words: &[Word]) -> Result<Line, ReadFault>
     ensures { Gives result (pim_line draft.now row (map placed_word words.now)) }
 {
@@ -53,7 +54,45 @@ pub fn pim_line(alloc: Global, draft: &Draft, row: Row, words: &[Word]) -> Resul
     }
 }
 
-#[tactic(auto, unfolding(crate::specs::EventGrammar::send_head))]
+#[tactic(auto, unfolding(crate::specs::PayloadGrammar::packet_words))]
+fn packet_words(
+    alloc: Global,
+    draft: &Draft,
+    row: Row,
+    site: &Word,
+    octets: &Word,
+) -> Result<Line, ReadFault>
+    ensures { Gives result (packet_words draft.now row (placed_word site.now) (placed_word octets.now)) }
+{
+    let site = site_at(draft, row, site)?;
+    let bytes = payload_at(alloc, row, octets)?;
+    Ok(Line::Event {
+        event: Event::Packet { site, bytes },
+    })
+}
+
+/// The line of a packet by the words behind the first one.
+#[tactic(auto, unfolding(crate::specs::PayloadGrammar::packet_line))]
+pub fn packet_line(
+    alloc: Global,
+    draft: &Draft,
+    row: Row,
+    words: &[Word],
+) -> Result<Line, ReadFault>
+    ensures { Gives result (packet_line draft.now row (map placed_word words.now)) }
+{
+    match words {
+        [site, octets] => packet_words(alloc, draft, row, site, octets),
+        [_, _, extra, ..] => Err(ReadFault::Text(fault_at(
+            row.number,
+            extra.column,
+            Reason::Count,
+        ))),
+        _ => Err(ReadFault::Text(fault_at(row.number, row.after, Reason::Count))),
+    }
+}
+
+#[tactic(auto, unfolding(crate::specs::PayloadGrammar::send_head))]
 fn send_head(
     draft: &Draft,
     row: Row,
@@ -73,7 +112,7 @@ fn send_head(
     })
 }
 
-#[tactic(auto, unfolding(crate::specs::EventGrammar::send_words))]
+#[tactic(auto, unfolding(crate::specs::PayloadGrammar::send_words))]
 fn send_words(
     alloc: Global,
     draft: &Draft,
@@ -88,18 +127,18 @@ fn send_words(
 {
     let head = send_head(draft, row, site, source, group)?;
     let payload = payload_at(alloc, row, payload)?;
-    Ok(Line::Event {
-        event: Event::Send {
-            site: head.site,
-            source: head.source,
-            group: head.group,
-            payload,
-        },
-    })
+    let kept = same_family(head.source, head.group);
+    let event = Event::Send {
+        site: head.site,
+        source: head.source,
+        group: head.group,
+        payload,
+    };
+    Ok(unless_broken(family_fault(kept), row, group, Line::Event { event })?)
 }
 
 /// The line of a datagram by the words behind the first one.
-#[tactic(auto, unfolding(crate::specs::EventGrammar::send_line))]
+#[tactic(auto, unfolding(crate::specs::PayloadGrammar::send_line))]
 pub fn send_line(alloc: Global, draft: &Draft, row: Row, words: &[Word]) -> Result<Line, ReadFault>
     ensures { Gives result (send_line draft.now row (map placed_word words.now)) }
 {

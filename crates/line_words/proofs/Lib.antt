@@ -1,3 +1,3 @@
 pub mod WordsLemmas
 pub mod ListFacts
-pub mod UnbuiltLemmas
+pub mod AddrLemmas

@@ -146,7 +146,7 @@ pub distinct_pairs : {A : Type 0} (same : A → A → Bool) (xs : List A) → ar
 distinct_pairs same [] h = λ i j d lt within. absurd (omega arith)
 distinct_pairs same (x ∷ xs) h = let p = and_parts (list_any (same x) xs) (are_distinct same xs) h in AllPairs-cons (λ y z. same y z ≡ false) x xs (none_any (same x) xs p.0) (distinct_pairs same xs p.1)
 
-each_parts : {A : Type 0} (first : Option A) (rest : Option (List A)) (found : List A) → (first >>? λ x. rest >>? λ more. Some (x ∷ more)) ≡ Some found → (x : A) × (more : List A) × (first ≡ Some x) × (rest ≡ Some more) × (x ∷ more ≡ found)
+pub each_parts : {A : Type 0} (first : Option A) (rest : Option (List A)) (found : List A) → (first >>? λ x. rest >>? λ more. Some (x ∷ more)) ≡ Some found → (x : A) × (more : List A) × (first ≡ Some x) × (rest ≡ Some more) × (x ∷ more ≡ found)
 each_parts None rest found h = absurd cc
 each_parts (Some x) None found h = absurd cc
 each_parts (Some x) (Some more) found h = (x, more, refl, refl, cc)

@@ -9,7 +9,6 @@ use Rattle.line_words.specs.declared.fault.TextFault.{TextFault}
 abbrev pub reason_word : Reason → List ℕ
 reason_word reasons.Line = codes "line"
 reason_word reasons.Byte = codes "byte"
-reason_word reasons.Later = codes "later"
 reason_word reasons.Word = codes "word"
 reason_word reasons.Limit = codes "limit"
 reason_word reasons.Count = codes "count"

@@ -1,9 +1,9 @@
 -- The forms of the words: what a word writes, or the fault at it.
-use Rattle.std.specs.Prelude.{ℕ, ◌-◌, ◌%◌, ◌^◌, ◌==◌, ◌&&◌, Bool, true, false, not, nat_eq, nat_le, List, [], ◌∷◌, ◌++◌, length}
+use Rattle.std.specs.Prelude.{ℕ, ◌-◌, ◌%◌, ◌^◌, ◌==◌, ◌&&◌, ◌||◌, Bool, true, false, not, nat_eq, nat_le, List, [], ◌∷◌, ◌++◌, length}
 use Rattle.std.specs.Prelude.{slice_index, Option, None, Some, option_map, Result, Ok, Err, if◌then◌else◌, codes}
 use Rattle.std.specs.Option.{option_or}
 use Rattle.std.specs.List.{list_any, slice_split}
-use Rattle.std.specs.Int.{w16, w32, to_be_bytes, from_be_bytes}
+use Rattle.std.specs.Int.{w16, w32, w128, to_be_bytes, from_be_bytes}
 use Rattle.std.specs.Cmp.Lexicographic.{pointwise}
 use Rattle.hex.specs.Hex.{decode_of}
 use Rattle.mv_base.specs.declared.addr.Addr.{Addr}
@@ -11,9 +11,10 @@ use Rattle.mv_base.specs.declared.addr.Addr.TheVariants.{V4, V6}
 use Rattle.mv_base.specs.declared.prefix.Prefix.{Prefix}
 use Rattle.mv_base.specs.declared.rd.Rd.{Rd}
 use Rattle.mv_base.specs.declared.rd.Rule.{Rule}
-use Rattle.mv_base.specs.declared.rd.Rule.TheVariants.{Highest, Nearest}
+use Rattle.mv_base.specs.declared.rd.Rule.TheVariants.{Highest, Nearest, Hash}
 use Rattle.mv_base.specs.Number.{number_of, cut_of, only_if, ◌>>?◌}
 use Rattle.mv_base.specs.Dotted.{dotted_of}
+use Rattle.mv_base.specs.AddrText.{addr_of}
 use Rattle.route_targets.specs.declared.communities.Target.{Target}
 use Rattle.route_targets.specs.Targets.{same_target}
 use Rattle.scenario_defs.specs.Prefixes.{same_prefix}
@@ -38,23 +39,39 @@ abbrev pub or_fault : {A : Type 0} → Option A → Row → Placed → Reason �
 or_fault (Some x) row word reason = Ok x
 or_fault None row word reason = fault row.number word.column reason
 
--- the address that a dotted text writes
-abbrev pub addr_of : List ℕ → Option Addr
-addr_of text = option_map (λ octets. V4 octets) (dotted_of text)
+-- the IPv4 address that a dotted text writes
+abbrev pub ipv4_of : List ℕ → Option Addr
+ipv4_of text = option_map (λ octets. V4 octets) (dotted_of text)
 
--- whether the address is of IPv4 and has a first octet of 1 to 223
+-- whether the octet begins an IPv6 address of 2000::/3 or of fc00::/7 (RFC 4291 section 2.4, RFC 4193 section 3.1)
+abbrev pub is_unicast_front : ℕ → Bool
+is_unicast_front front = (nat_le 32 front && nat_le front 63) || front == 252 || front == 253
+
+-- whether the address is unicast: of IPv4 with a first octet of 1 to 223, or of IPv6 with a first octet of those
 abbrev pub is_unicast : Addr → Bool
 is_unicast (V4 octets) = nat_le 1 (slice_index octets 0) && nat_le (slice_index octets 0) 223
-is_unicast (V6 octets) = false
+is_unicast (V6 octets) = is_unicast_front (slice_index octets 0)
 
--- whether the address is of IPv4, has a first octet of 224 to 239 and is outside 224.0.0.0/24
+-- whether the address is that of a group: of IPv4 with a first octet of 224 to 239, outside 224.0.0.0/24, or of IPv6 and of
+-- ff00::/8, with a scope of 3 to 15, since those below stay on a node or a link (RFC 4291 section 2.7)
 abbrev pub is_group : Addr → Bool
 is_group (V4 octets) =
     nat_le 224 (slice_index octets 0) && nat_le (slice_index octets 0) 239 &&
     not (slice_index octets 0 == 224 && slice_index octets 1 == 0 && slice_index octets 2 == 0)
-is_group (V6 octets) = false
+is_group (V6 octets) = slice_index octets 0 == 255 && nat_le 3 (slice_index octets 1 % 16)
 
--- a word that writes an address
+-- whether both addresses are of one family
+abbrev pub same_family : Addr → Addr → Bool
+same_family (V4 a) (V4 b) = true
+same_family (V6 a) (V6 b) = true
+same_family (V4 a) (V6 b) = false
+same_family (V6 a) (V4 b) = false
+
+-- a word that writes an address of IPv4
+unfoldable pub ipv4_at : Row → Placed → Result Addr TextFault
+ipv4_at row word = or_fault (ipv4_of word.text) row word reasons.Address
+
+-- a word that writes an address of either family
 unfoldable pub addr_at : Row → Placed → Result Addr TextFault
 addr_at row word = or_fault (addr_of word.text) row word reasons.Address
 
@@ -65,6 +82,10 @@ source_at row word = addr_at row word >>= λ addr. if is_unicast addr then Ok ad
 -- a word that writes the address of a group
 unfoldable pub group_at : Row → Placed → Result Addr TextFault
 group_at row word = addr_at row word >>= λ addr. if is_group addr then Ok addr else fault row.number word.column reasons.Group
+
+-- the number from 1 to that limit that a text writes
+unfoldable pub number_to : ℕ → List ℕ → Option ℕ
+number_to limit text = number_of text >>? λ number. only_if (nat_le 1 number && nat_le number limit) number
 
 -- the number of a VRF that a text writes
 unfoldable pub vrf_number_of : List ℕ → Option ℕ
@@ -116,12 +137,13 @@ unfoldable pub rule_at : Row → Placed → Result Rule TextFault
 rule_at row word =
     if pointwise nat_eq word.text (codes "highest") then Ok Highest else
     if pointwise nat_eq word.text (codes "nearest") then Ok Nearest else
+    if pointwise nat_eq word.text (codes "hash") then Ok Hash else
     fault row.number word.column reasons.Choice
 
 -- whether the address has that many bits, and none behind them is set
 abbrev pub is_prefix : Addr → ℕ → Bool
 is_prefix (V4 octets) bits = nat_le bits 32 && (from_be_bytes w32 octets % 2 ^ (32 - bits)) == 0
-is_prefix (V6 octets) bits = false
+is_prefix (V6 octets) bits = nat_le bits 128 && (from_be_bytes w128 octets % 2 ^ (128 - bits)) == 0
 
 -- the prefix of that address and that many bits, where there is one
 abbrev pub prefix_if : Addr → ℕ → Option Prefix

@@ -3,4 +3,3 @@ pub mod Answers
 pub mod FaultText
 pub mod Forms
 pub mod Parts
-pub mod Unbuilt

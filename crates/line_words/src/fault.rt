@@ -10,7 +10,6 @@ use thiserror::Error;
 pub enum Reason {
     Line,
     Byte,
-    Later,
     Word,
     Limit,
     Count,
@@ -49,7 +48,6 @@ pub fn reason_word(reason: Reason) -> &'static [u8]
     match reason {
         Reason::Line => b"line",
         Reason::Byte => b"byte",
-        Reason::Later => b"later",
         Reason::Word => b"word",
         Reason::Limit => b"limit",
         Reason::Count => b"count",

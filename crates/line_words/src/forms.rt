@@ -3,11 +3,13 @@ ghost use Rattle.std.specs.Prelude.{◌≡◌, ◌∷◌, ◌++◌};
 ghost use Rattle.std.specs.Int.{w16, w32, to_be_bytes};
 ghost use Rattle.std.specs.List.{list_all};
 ghost use Rattle.mv_base.specs.Dotted.{dotted_of};
+ghost use Rattle.mv_base.specs.AddrText.{addr_of};
 ghost use Rattle.line_words.specs.Answers.{Gives};
 ghost use Rattle.line_words.specs.Words.{placed_word};
 ghost use Rattle.scenario_defs.specs.Names.{is_letter, is_name_octet as name_octet, is_name};
-ghost use Rattle.line_words.specs.Forms.{addr_of, is_unicast, is_group, addr_at, source_at, group_at, vrf_number_of, numbered_of};
-ghost use Rattle.line_words.specs.Forms.{addressed_of, rd_of, target_of, rule_at, prefix_if, prefix_of, payload_at, or_fault};
+ghost use Rattle.line_words.specs.Forms.{or_fault, is_unicast_front, is_unicast, is_group, same_family, ipv4_at, addr_at, source_at};
+ghost use Rattle.line_words.specs.Forms.{group_at, number_to, vrf_number_of, numbered_of, addressed_of, rd_of, target_of, rule_at};
+ghost use Rattle.line_words.specs.Forms.{prefix_if, prefix_of, payload_at};
 
 use crate::fault::fault_at;
 use crate::{ReadFault, Reason, Row, TextFault, Word};
@@ -58,13 +60,20 @@ pub fn or_fault<T: Drop>(
     }
 }
 
-/// Whether the address is of IPv4 and its first octet is 1 to 223.
+/// Whether the octet begins an IPv6 address of 2000::/3 or of fc00::/7.
+fn is_unicast_front(front: u8) -> bool
+    ensures { result ≡ is_unicast_front front }
+{
+    (front >= 32 && front <= 63) || front == 252 || front == 253
+}
+
+/// Whether the address is unicast: of IPv4 with a first octet of 1 to 223, or of IPv6, global or local.
 pub fn is_unicast(addr: Addr) -> bool
     ensures { result ≡ is_unicast addr }
 {
     match addr {
         Addr::V4(octets) => octets[0] >= 1 && octets[0] <= 223,
-        Addr::V6(_) => false,
+        Addr::V6(octets) => is_unicast_front(octets[0]),
     }
 }
 
@@ -76,16 +85,45 @@ fn is_group(addr: Addr) -> bool
             let local = octets[0] == 224 && octets[1] == 0 && octets[2] == 0;
             octets[0] >= 224 && octets[0] <= 239 && !local
         }
-        Addr::V6(_) => false,
+        Addr::V6(octets) => octets[0] == 255 && octets[1] % 16 >= 3,
+    }
+}
+
+/// Whether both addresses are of one family.
+pub fn same_family(a: Addr, b: Addr) -> bool
+    ensures { result ≡ same_family a b }
+{
+    match (a, b) {
+        (Addr::V4(_), Addr::V4(_)) => true,
+        (Addr::V6(_), Addr::V6(_)) => true,
+        _ => false,
+    }
+}
+
+/// The address of either family that a text writes.
+pub(crate) fn addr_of(text: &[u8]) -> Option<Addr>
+    ensures { result ≡ addr_of text.now }
+{
+    match std::str::from_utf8(text) {
+        Ok(text) => Addr::read_text(text),
+        Err(_) => None,
     }
 }
 
 /// The IPv4 address that a word writes in dotted form, or `Address`.
+#[tactic(auto, unfolding(crate::specs::Forms::ipv4_at))]
+pub fn ipv4_at(row: Row, word: &Word) -> Result<Addr, TextFault>
+    ensures { result ≡ ipv4_at row (placed_word word.now) }
+{
+    or_fault(Addr::read_dotted(word.text), row, word, Reason::Address)
+}
+
+/// The address of either family that a word writes, or `Address`.
 #[tactic(auto, unfolding(crate::specs::Forms::addr_at))]
 pub fn addr_at(row: Row, word: &Word) -> Result<Addr, TextFault>
     ensures { result ≡ addr_at row (placed_word word.now) }
 {
-    or_fault(Addr::read_dotted(word.text), row, word, Reason::Address)
+    or_fault(addr_of(word.text), row, word, Reason::Address)
 }
 
 /// The address of a source that a word writes: `Address` where it writes none, `Source` where it is not unicast.
@@ -100,8 +138,8 @@ pub fn source_at(row: Row, word: &Word) -> Result<Addr, TextFault>
     Ok(addr)
 }
 
-/// The address of a group that a word writes: `Address` where it writes none, `Group` where its first octet is not 224 to
-/// 239, or it is one of 224.0.0.0/24, whose groups are not forwarded (RFC 5771 section 4).
+/// The address of a group that a word writes: `Address` where it writes none, `Group` where it is not multicast, or one of
+/// 224.0.0.0/24 or of a scope below 3 in IPv6, whose groups are not forwarded (RFC 5771 section 4, RFC 4291 section 2.7).
 #[tactic(auto, unfolding(crate::specs::Forms::group_at))]
 pub fn group_at(row: Row, word: &Word) -> Result<Addr, TextFault>
     ensures { result ≡ group_at row (placed_word word.now) }
@@ -111,6 +149,19 @@ pub fn group_at(row: Row, word: &Word) -> Result<Addr, TextFault>
         return Err(fault_at(row.number, word.column, Reason::Group));
     }
     Ok(addr)
+}
+
+/// The number from 1 to the limit that a text writes.
+#[tactic(auto, unfolding(crate::specs::Forms::number_to))]
+pub fn number_to(text: &[u8], limit: u32) -> Option<u32>
+    ensures { result ≡ number_to limit text.now }
+{
+    let number = read_number(text)?;
+    if number >= 1 && number <= u64::from(limit) {
+        Some(number as u32)
+    } else {
+        None
+    }
 }
 
 /// The number of a VRF that a text writes: 1 to 4,095.
@@ -215,6 +266,8 @@ pub fn rule_at(row: Row, word: &Word) -> Result<Rule, TextFault>
         Ok(Rule::Highest)
     } else if word.text == b"nearest".as_slice() {
         Ok(Rule::Nearest)
+    } else if word.text == b"hash".as_slice() {
+        Ok(Rule::Hash)
     } else {
         Err(fault_at(row.number, word.column, Reason::Choice))
     }
@@ -225,17 +278,18 @@ fn prefix_if(addr: Addr, bits: u64) -> Option<Prefix>
 {
     match addr {
         Addr::V4(_) if bits <= 32 => Prefix::of(addr, bits as u8),
+        Addr::V6(_) if bits <= 128 => Prefix::of(addr, bits as u8),
         _ => None,
     }
 }
 
-/// The prefix that a text `ADDR/N` writes, with no bit set behind the first N.
+/// The prefix of either family that a text `ADDR/N` writes, with no bit set behind the first N.
 #[tactic(auto, unfolding(crate::specs::Forms::prefix_of))]
 pub(crate) fn prefix_of(text: &[u8]) -> Option<Prefix>
     ensures { result ≡ prefix_of text.now }
 {
     let (front, rest) = cut_at(text, b'/')?;
-    let addr = Addr::read_dotted(front)?;
+    let addr = addr_of(front)?;
     let bits = read_number(rest)?;
     prefix_if(addr, bits)
 }

@@ -4,14 +4,12 @@
 mod fault;
 mod forms;
 mod lists;
-mod unbuilt;
 mod words;
 
 pub use fault::{ReadFault, Reason, TEXT_LIMIT, TextFault, fault_at, reason_word};
 pub use forms::{
-    addr_at, group_at, is_name, is_unicast, or_fault, payload_at, rd_of, rule_at, source_at,
-    target_of, vrf_number_of,
+    addr_at, group_at, ipv4_at, is_name, is_unicast, number_to, or_fault, payload_at, rd_of,
+    rule_at, same_family, source_at, target_of, vrf_number_of,
 };
 pub use lists::{prefixes_at, targets_at};
-pub use unbuilt::{has_ipv6_prefix, is_ipv6};
 pub use words::{Row, Word, split_line, words_of};

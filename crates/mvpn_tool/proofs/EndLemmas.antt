@@ -6,18 +6,15 @@ use Rattle.std.proofs.Math.Seq.{drop-append_seam}
 use Rattle.std.specs.Prelude.{Option, None, Some, Result, Ok, Err, IfErr, nat_lt, Bool, true}
 use Rattle.mv_io.specs.Octets.{Appended, AppendedPart}
 use Rattle.scenario_defs.specs.declared.event.Script.{Script}
-use Rattle.scenario_defs.specs.Rules.{ScriptRules}
-use Rattle.scenario_defs.specs.Built.{AreBuilt}
 use Rattle.line_words.specs.declared.fault.TextFault.{TextFault}
 use Rattle.line_words.specs.FaultText.{fault_text}
 use Rattle.scenario_text.specs.Grammar.{script_of}
-use Rattle.net_laws.proofs.SafeLemmas.{run_is_safe}
-use Rattle.net_laws.proofs.OnceLemmas.{run_is_once}
+use Rattle.network_events.specs.WorldView.{WorldView}
+use Rattle.mvpn_tool.specs.declared.command.Detail.{Detail}
 use Rattle.mvpn_tool.specs.declared.stop.Stop.{Stop}
 use Rattle.mvpn_tool.specs.declared.stop.Stop.TheVariants as stops
 use Rattle.mvpn_tool.specs.Input.{IsInput, IsReadUpTo, Taken}
 use Rattle.mvpn_tool.specs.Outcome.{ReplayEnds, Replays, Takes}
-use Rattle.net_world.specs.WorldState.{WorldState}
 use Rattle.decode_text.specs.HexText.{octets_of}
 
 -- Some input that the source may have had says what these octets say.
@@ -63,41 +60,35 @@ read-taken (Some xs) (Some ys) octets h = elim (cases_lt 16777216 (length octets
 ]
 
 -- The input was taken, however the replay ended.
-pub takes : (left new : Option (List ℕ)) (result : Result WorldState Stop) → Taken left new → Takes result left new
-takes left new (Ok world) t = t
+pub takes : (left new : Option (List ℕ)) (result : Result WorldView Stop) → Taken left new → Takes result left new
+takes left new (Ok view) t = t
 takes left new (Err stops.Text) t = t
 takes left new (Err stops.Source) t = tt
 takes left new (Err stops.Sink) t = t
 takes left new (Err stops.Memory) t = tt
+takes left new (Err stops.Label) t = t
 
 -- The text had a fault.
-pub ends-fault : (left old new : Option (List ℕ)) (octets : List ℕ) (fault : TextFault) (stop : Stop) → SaysAlike script_of left octets → script_of octets ≡ Err fault →
-    (stop ≡ stops.Text → Appended old new (fault_text fault)) → (stop ≡ stops.Text) ⊎ AppendedPart old new (fault_text fault) → stop ≢ stops.Source → ReplayEnds left (Err stop) old new
-ends-fault left old new octets fault stops.Text a e w p n = record { input = a.input; is_input = a.is_input; fault = fault; said = a.same ∙ e; text = w refl }
-ends-fault left old new octets fault stops.Source a e w p n = absurd (n refl)
-ends-fault left old new octets fault stops.Sink a e w (inl t) n = absurd cc
-ends-fault left old new octets fault stops.Sink a e w (inr p) n = record { input = a.input; is_input = a.is_input; part = rw (a.same, e) p }
-ends-fault left old new octets fault stops.Memory a e w (inl t) n = absurd cc
-ends-fault left old new octets fault stops.Memory a e w (inr p) n = inr (record { input = a.input; is_input = a.is_input; part = rw (a.same, e) p })
+pub ends-fault : (detail : Detail) (left old new : Option (List ℕ)) (octets : List ℕ) (fault : TextFault) (stop : Stop) → SaysAlike script_of left octets → script_of octets ≡ Err fault →
+    (stop ≡ stops.Text → Appended old new (fault_text fault)) → (stop ≡ stops.Text) ⊎ AppendedPart old new (fault_text fault) → (stop ≢ stops.Source) × (stop ≢ stops.Label) → ReplayEnds detail left (Err stop) old new
+ends-fault detail left old new octets fault stops.Text a e w p n = record { input = a.input; is_input = a.is_input; fault = fault; said = a.same ∙ e; text = w refl }
+ends-fault detail left old new octets fault stops.Source a e w p n = absurd (n.0 refl)
+ends-fault detail left old new octets fault stops.Sink a e w (inl t) n = absurd cc
+ends-fault detail left old new octets fault stops.Sink a e w (inr p) n = record { input = a.input; is_input = a.is_input; part = rw (a.same, e) p }
+ends-fault detail left old new octets fault stops.Memory a e w (inl t) n = absurd cc
+ends-fault detail left old new octets fault stops.Memory a e w (inr p) n = inr (record { input = a.input; is_input = a.is_input; part = rw (a.same, e) p })
+ends-fault detail left old new octets fault stops.Label a e w p n = absurd (n.1 refl)
 
 -- The script was replayed.
-pub ends-script : (left old new : Option (List ℕ)) (octets : List ℕ) (script : Script) (result : Result WorldState Stop) → ScriptRules script → AreBuilt script.events → SaysAlike script_of left octets → script_of octets ≡ Ok script →
-    Replays script result old new → IfErr result (λ e. (e ≡ stops.Sink) ⊎ (e ≡ stops.Memory)) → ReplayEnds left result old new
-ends-script left old new octets script (Ok world) rules built a e r o = record {
-  input = a.input;
-  is_input = a.is_input;
-  script = script;
-  said = a.same ∙ e;
-  report = r.report;
-  run = r.run;
-  running = r.running;
-  text = r.text;
-  safe = run_is_safe script r.report world.network rules built r.run;
-  once = run_is_once script r.report world.network rules built r.run;
-}
-ends-script left old new octets script (Err stops.Sink) rules built a e r o = record { input = a.input; is_input = a.is_input; part = rw (a.same, e) r }
-ends-script left old new octets script (Err stops.Memory) rules built a e r o = inr (record { input = a.input; is_input = a.is_input; part = rw (a.same, e) r })
-ends-script left old new octets script (Err stops.Text) rules built a e r (inl t) = absurd cc
-ends-script left old new octets script (Err stops.Text) rules built a e r (inr t) = absurd cc
-ends-script left old new octets script (Err stops.Source) rules built a e r (inl t) = absurd cc
-ends-script left old new octets script (Err stops.Source) rules built a e r (inr t) = absurd cc
+pub ends-script : (detail : Detail) (left old new : Option (List ℕ)) (octets : List ℕ) (script : Script) (result : Result WorldView Stop) → SaysAlike script_of left octets → script_of octets ≡ Ok script →
+    Replays detail script result old new → IfErr result (λ e. (e ≡ stops.Label) ⊎ (e ≡ stops.Sink) ⊎ (e ≡ stops.Memory)) → ReplayEnds detail left result old new
+ends-script detail left old new octets script (Ok view) a e r o = record { input = a.input; is_input = a.is_input; script = script; said = a.same ∙ e; holds = r }
+ends-script detail left old new octets script (Err stops.Label) a e r o = record { input = a.input; is_input = a.is_input; script = script; said = a.same ∙ e; holds = r }
+ends-script detail left old new octets script (Err stops.Sink) a e r o = record { input = a.input; is_input = a.is_input; part = rw (a.same, e) r }
+ends-script detail left old new octets script (Err stops.Memory) a e r o = inr (record { input = a.input; is_input = a.is_input; part = rw (a.same, e) r })
+ends-script detail left old new octets script (Err stops.Text) a e r (inl t) = absurd cc
+ends-script detail left old new octets script (Err stops.Text) a e r (inr (inl t)) = absurd cc
+ends-script detail left old new octets script (Err stops.Text) a e r (inr (inr t)) = absurd cc
+ends-script detail left old new octets script (Err stops.Source) a e r (inl t) = absurd cc
+ends-script detail left old new octets script (Err stops.Source) a e r (inr (inl t)) = absurd cc
+ends-script detail left old new octets script (Err stops.Source) a e r (inr (inr t)) = absurd cc

@@ -1,3 +1,6 @@
+pub mod TextLemmas
+pub mod KnownLemmas
+pub mod EventLemmas
 pub mod OutcomeLemmas
 pub mod EndLemmas
 pub mod DecodeLemmas

@@ -1,117 +1,195 @@
 -- Laws of what was replayed so far.
-use Rattle.std.proofs.Common.{◌≡◌, ℕ, ◌+◌, ◌<◌, ◌≤◌, List, [], ◌++◌, length, take, get_or, refl, sym, ap, subst, ◌∙◌}
+use Rattle.std.proofs.Common.{◌≡◌, ℕ, zero, suc, ◌+◌, ◌<◌, ◌≤◌, ◌⊎◌, inl, inr, List, [], ◌∷◌, ◌++◌, length, take, drop, get_or, slice_get, refl, sym, ap, subst, ◌∙◌, append-nil, arith}
+use Rattle.std.specs.Prelude.{Option, None, Some, Result, Ok, Err, OnOk}
 use Rattle.std.proofs.lemmas.List.{take_all}
-use Rattle.std.proofs.lemmas.List.Concat.{flat_map-append}
-use Rattle.std.specs.Prelude.{Option, Result, Ok, Err, OnOk}
-use Rattle.std.specs.List.{flat_map, All}
-use Rattle.std.proofs.lemmas.List.Elements.{All-get_or, All-from_recursion}
+use Rattle.std.proofs.lemmas.Option.{slice_get_read}
+use Rattle.mv_base.specs.declared.ids.NodeId.{NodeId}
 use Rattle.mv_io.specs.Octets.{Appended, AppendedPart}
-use Rattle.mv_io.proofs.OctetsLemmas.{appended-append, appended-nil, part_after, part_of_front, part_whole}
-use Rattle.scenario_defs.specs.declared.scenario.Scenario.{Scenario}
-use Rattle.scenario_defs.specs.declared.event.Timed.{Timed}
+use Rattle.mv_io.proofs.OctetsLemmas.{appended-append, appended-nil, part_after, part_of_front, prefix-nil}
+use Rattle.scenario_defs.specs.Rules.{ScriptRules}
 use Rattle.scenario_defs.specs.declared.event.Script.{Script}
-use Rattle.scenario_defs.specs.declared.report.ReportLine.{ReportLine}
-use Rattle.scenario_defs.specs.Rules.{ScriptRules, IsEventOf}
-use Rattle.scenario_defs.specs.Built.{IsBuilt, AreBuilt}
-use Rattle.scenario_defs.specs.Text.{line_text}
-use Rattle.mvpn_model.specs.Report.{Entry, lines_of, report_text}
-use Rattle.net_defs.specs.Network.{Network, start, acts_of, after}
-use Rattle.net_defs.specs.Run.{Run, entries_of}
-use Rattle.net_laws.proofs.RunLemmas.{run-take_zero, runs_go_on_lemma}
-use Rattle.net_laws.proofs.FrameLemmas.{after-scenario, lines_of-append, report_text-snoc}
-use Rattle.net_laws.proofs.SafeLemmas.{run_is_safe}
-use Rattle.net_laws.proofs.OnceLemmas.{run_is_once}
+use Rattle.scenario_defs.specs.declared.event.Timed.{Timed}
+use Rattle.scenario_defs.specs.declared.report.ReportLine.TheVariants as lines
+use Rattle.scenario_defs.specs.declared.scenario.Scenario.{Scenario}
+use Rattle.mvpn_model.specs.Report.{Entry}
+use Rattle.world_defs.specs.Events.{Happened, Outcome, Done, Halted}
+use Rattle.world_defs.specs.Run.{Halts, Run, Traced, outcome, report_of, traced}
+use Rattle.world_defs.specs.World.{World, start}
+use Rattle.delivery_laws.specs.Flood.{lines_in}
+use Rattle.delivery_laws.proofs.Splits.{cut_at, runs_join, take_to}
+use Rattle.run_laws.specs.Octets.{ScriptHasOctets}
+use Rattle.network_events.specs.Behind.{IsBegun}
+use Rattle.network_events.specs.WorldView.{WorldView}
+use Rattle.mvpn_tool.specs.Known.{KnownRuns}
+use Rattle.mvpn_tool.specs.Outcome.{EventEnds, GoesOn, Lacks, Place, Replayed, Replays, ReplaysPart, ReplaysUpToHalt, ReplaysWhole, event_text}
+use Rattle.mvpn_tool.specs.Report.{OfAll, UpToHalt, event_lines, lines_text, text_of}
+use Rattle.mvpn_tool.specs.declared.command.Detail.{Detail}
 use Rattle.mvpn_tool.specs.declared.stop.Stop.{Stop}
-use Rattle.mvpn_tool.specs.Outcome.{EventReplayed, Replayed, ReplayedPart, event_text}
-use Rattle.net_world.specs.WorldState.{WorldState, Acts, event_lines}
+use Rattle.mvpn_tool.specs.declared.stop.Stop.TheVariants as stops
+use Rattle.mvpn_tool.proofs.TextLemmas.{text_halted, text_more, text_none, text_of-append}
 
--- The text of two reports is that of the first and then that of the second.
-report_text-append : (scenario : Scenario) (report more : List Entry) → report_text scenario (report ++ more) ≡ report_text scenario report ++ report_text scenario more
-report_text-append scenario report more = ap (flat_map (line_text scenario)) (lines_of-append report more) ∙ flat_map-append (line_text scenario) (lines_of report) (lines_of more)
+abbrev ended : Stop → Result WorldView Stop
+ended stop = Err stop
 
--- What was written of the first events is a part of the report of all.
-part_of_all : (script : Script) (count : ℕ) (part : List Entry) (middle : Network) (old new : Option (List ℕ)) → ScriptRules script → AreBuilt script.events →
-    Run script (take count script.events) part middle → AppendedPart old new (report_text script.scenario part) → ReplayedPart script old new
-part_of_all script count part middle old new rules built h w =
-    let on = runs_go_on_lemma (start script.scenario) 0 script.events count part middle h in
-    record {
-      report = part ++ on.more;
-      network = on.new;
-      run = on.run;
-      safe = run_is_safe script (part ++ on.more) on.new rules built on.run;
-      once = run_is_once script (part ++ on.more) on.new rules built on.run;
-      text = rw (report_text-append script.scenario part on.more) (part_of_front old new (report_text script.scenario part) (report_text script.scenario on.more) w);
+length_first : {X : Type 0} (xs : List X) (place : ℕ) (x : X) → slice_get xs place ≡ Some x → length (take place xs) ≡ place
+length_first [] place x e = absurd cc
+length_first (y ∷ xs) zero x e = refl
+length_first (y ∷ xs) (suc place) x e = ap suc (length_first xs place x e)
+
+module _ (known : KnownRuns) (detail : Detail) (script : Script) (rules : ScriptRules script) (octets : ScriptHasOctets script) where
+  abbrev text : List Entry → List ℕ
+  text report = text_of detail script.scenario report
+
+  -- Nothing was written.
+  replayed-nothing : (old : Option (List ℕ)) → ReplaysPart detail script old old
+  replayed-nothing old =
+      let own = known.cores script.scenario rules.scenario in
+      let on = known.begins own.0 script 0 [] (start script.scenario own.0) rules octets own.1 (refl, refl) in
+      record { report = on.report; is_report = on.is_report; text = ([], prefix-nil (text on.report), appended-nil old) }
+
+  -- No event was replayed yet.
+  pub replayed-none : (old : Option (List ℕ)) (view : WorldView) → IsBegun script.scenario view → Replayed detail script 0 old old view
+  replayed-none old view begun =
+      let own = known.cores script.scenario rules.scenario in
+      record {
+        cores = own.0;
+        trace = [];
+        state = start script.scenario own.0;
+        behind = begun.behind own.0 script refl rules own.1;
+        text = subst (Appended old old) (sym (text_none known.text detail script.scenario)) (appended-nil old);
+      }
+
+  module _ (scenario : Scenario) (names : script.scenario ≡ scenario) (count : ℕ) (timed : Timed) (old mid new : Option (List ℕ)) (view : WorldView)
+      (at : slice_get script.events count ≡ Some timed) (r : Replayed detail script count old mid view) where
+    -- where the next event is met
+    abbrev pub place_of : Place scenario timed view
+    place_of = record {
+      cores = r.cores;
+      script = script;
+      count = count;
+      trace = r.trace;
+      state = r.state;
+      of_scenario = names;
+      octets = octets;
+      behind = r.behind;
+      next = at;
     }
 
--- Nothing was written.
-pub replayed-nothing : (script : Script) (old : Option (List ℕ)) → ScriptRules script → AreBuilt script.events → ReplayedPart script old old
-replayed-nothing script old rules built = part_of_all script 0 [] (start script.scenario) old old rules built (refl, refl) (part_whole old old [] (appended-nil old))
+    -- the text of the event, by the names of the script's scenario
+    abbrev text_by : Outcome → List ℕ
+    text_by o = lines_text detail script.scenario (event_lines timed.line o)
 
--- the text of an event, by the names of the script's scenario
-abbrev named_text : Script → WorldState → Timed → List ℕ
-named_text script world timed = flat_map (line_text script.scenario) (event_lines world.network timed.line timed.event)
+    own_text : event_text detail scenario timed view place_of ≡ text_by (outcome r.state timed)
+    own_text = ap (λ (s : Scenario). lines_text detail s (event_lines timed.line (outcome r.state timed))) (sym names)
 
--- One event more.
-pub replayed-more : (script : Script) (events : List Timed) (i : ℕ) (default timed : Timed) (old mid new : Option (List ℕ)) (world now : WorldState) → i < length events →
-    timed ≡ get_or events i default → world.network.scenario ≡ script.scenario → Replayed script (take i events) old mid world → EventReplayed world timed mid new now →
-    Replayed script (take (i + 1) events) old new now
-replayed-more script events i default timed old mid new world now lt is e h k =
-    let acts = acts_of world.network timed.line timed.event in
-    let named = subst (λ (s : Scenario). Appended mid new (flat_map (line_text s) (event_lines world.network timed.line timed.event))) e k.text in
-    record {
-      report = h.report ++ entries_of i acts;
-      run = rw (k.network, is) (run-take_zero (start script.scenario) events i default h.report world.network lt h.run);
-      running = k.running;
-      text = rw (report_text-snoc script.scenario h.report i acts) (appended-append old mid new (report_text script.scenario h.report) (named_text script world timed) h.text named);
+    -- One event more.
+    replayed-more : (now : WorldView) → GoesOn detail scenario timed view place_of mid new now → Replayed detail script (count + 1) old new now
+    replayed-more now g =
+        let both : text (report_of (r.trace ++ traced count g.acts)) ≡ text (report_of r.trace) ++ event_text detail scenario timed view place_of =
+        text_more known.text detail script.scenario r.trace count g.acts ∙ ap (λ (l : List ℕ). text (report_of r.trace) ++ l) (ap text_by (sym g.is) ∙ sym own_text) in
+        record {
+          cores = r.cores;
+          trace = r.trace ++ traced count g.acts;
+          state = g.state;
+          behind = g.behind;
+          text = subst (Appended old new) (sym both) (appended-append old mid new (text (report_of r.trace)) (event_text detail scenario timed view place_of) r.text g.text);
+        }
+
+    -- ---- where the event lacks a label
+
+    abbrev halted_report : List Happened → NodeId → List Entry
+    halted_report acts node = report_of (r.trace ++ traced count acts) ++ record { event = count; lines = lines.Halt timed.line node ∷ [] } ∷ []
+
+    halts_here : (acts : List Happened) (node : NodeId) → outcome r.state timed ≡ Halted acts node → Halts r.cores script (halted_report acts node) node
+    halts_here acts node lacks = record {
+      of_scenario = r.behind.of_scenario;
+      before = take count script.events;
+      timed = timed;
+      after = drop (suc count) script.events;
+      events = cut_at script.events count timed at;
+      trace = r.trace;
+      world = r.state;
+      run = r.behind.run;
+      acts = acts;
+      lacks = lacks;
+      whole = ap (λ (n : ℕ). report_of (r.trace ++ traced n acts) ++ record { event = n; lines = lines.Halt timed.line node ∷ [] } ∷ []) (sym (length_first script.events count timed at));
     }
 
--- An event that ended early.
-pub replayed-part : (script : Script) (events : List Timed) (i : ℕ) (default timed : Timed) (old mid new : Option (List ℕ)) (world : WorldState) → ScriptRules script → AreBuilt script.events →
-    events ≡ script.events → i < length events → timed ≡ get_or events i default → world.network.scenario ≡ script.scenario → Replayed script (take i events) old mid world →
-    AppendedPart mid new (event_text world timed) → ReplayedPart script old new
-replayed-part script events i default timed old mid new world rules built same lt is e h k =
-    let acts = acts_of world.network timed.line timed.event in
-    let run : Run script (take (i + 1) events) (h.report ++ entries_of i acts) (after world.network timed.event) = rw is (run-take_zero (start script.scenario) events i default h.report world.network lt h.run) in
-    let named = subst (λ (s : Scenario). AppendedPart mid new (flat_map (line_text s) (event_lines world.network timed.line timed.event))) e k in
-    part_of_all script (i + 1) (h.report ++ entries_of i acts) (after world.network timed.event) old new rules built
-    (subst (λ (l : List Timed). Run script (take (i + 1) l) (h.report ++ entries_of i acts) (after world.network timed.event)) same run)
-    (rw (report_text-snoc script.scenario h.report i acts) (part_after old mid new (report_text script.scenario h.report) (named_text script world timed) h.text named))
+    halted_text : (acts : List Happened) (node : NodeId) → outcome r.state timed ≡ Halted acts node → text (halted_report acts node) ≡ text (report_of r.trace) ++ event_text detail scenario timed view place_of
+    halted_text acts node lacks =
+        text_halted known.text detail script.scenario r.trace count acts (lines.Halt timed.line node)
+        ∙ ap (λ (l : List ℕ). text (report_of r.trace) ++ l) (ap text_by (sym lacks) ∙ sym own_text)
 
--- All events were replayed.
-pub replayed-all : (script : Script) (events : List Timed) (i : ℕ) (old new : Option (List ℕ)) (world : WorldState) →
-    events ≡ script.events → length events ≤ i → Replayed script (take i events) old new world → Replayed script script.events old new world
-replayed-all script events i old new world same le h = subst (λ (l : List Timed). Replayed script l old new world) (take_all i events le ∙ same) h
+    replayed-halted : Lacks detail scenario timed view place_of mid new → ReplaysUpToHalt detail script old new
+    replayed-halted l = record {
+      cores = r.cores;
+      report = halted_report l.acts l.node;
+      node = l.node;
+      halted = known.halted r.cores script (halted_report l.acts l.node) l.node rules octets (halts_here l.acts l.node l.is);
+      text = subst (Appended old new) (sym (halted_text l.acts l.node l.is)) (appended-append old mid new (text (report_of r.trace)) (event_text detail scenario timed view place_of) r.text l.text);
+    }
 
--- The lines that a step appended to none have the text of the event.
-same_text : (world : WorldState) (timed : Timed) (now : WorldState) (before lines : List ReportLine) → before ≡ [] → Acts world timed.line timed.event now before lines →
-    flat_map (line_text now.network.scenario) lines ≡ event_text world timed
-same_text world timed now before lines b a =
-    let s : now.network.scenario ≡ world.network.scenario = ap (λ (n : Network). n.scenario) a.network ∙ after-scenario world.network timed.event in
-    let l : lines ≡ event_lines world.network timed.line timed.event = a.lines ∙ ap (λ (front : List ReportLine). front ++ event_lines world.network timed.line timed.event) b in
-    ap (λ (scenario : Scenario). flat_map (line_text scenario) lines) s ∙ ap (flat_map (line_text world.network.scenario)) l
+    -- ---- where it ended early
 
--- An event whose step was made is replayed where its lines are written.
-pub event-replayed : (world : WorldState) (timed : Timed) (old new : Option (List ℕ)) (now : WorldState) (before lines : List ReportLine) (result : Result (Unit {0}) Stop) → before ≡ [] →
-    Acts world timed.line timed.event now before lines → OnOk result (Appended old new (flat_map (line_text now.network.scenario) lines)) →
-    OnOk result (EventReplayed world timed old new now)
-event-replayed world timed old new now before lines (Ok x) b a w = record {
-  running = a.runs;
-  network = a.network;
-  text = subst (λ (l : List ℕ). Appended old new l) (same_text world timed now before lines b a) w;
-}
-event-replayed world timed old new now before lines (Err e) b a w = tt
+    run_more : (acts : List Happened) (next : World) → outcome r.state timed ≡ Done acts next → Run r.cores script (take (suc count) script.events) (r.trace ++ traced count acts) next
+    run_more acts next is =
+        let place : count ≡ 0 + length (take count script.events) = omega (arith, length_first script.events count timed at) in
+        subst (λ (l : List Timed). Run r.cores script l (r.trace ++ traced count acts) next) (sym (take_to script.events count timed at))
+        (runs_join (take count script.events) (timed ∷ []) (start script.scenario r.cores) r.state next 0 r.trace (traced count acts) r.behind.run count place
+        (acts, next, [], is, sym (append-nil (traced count acts)), (refl, refl)))
 
--- An event of a script is one of the world's scenario.
-pub event-at : (script : Script) (scenario : Scenario) (timeds : List Timed) (i : ℕ) (default timed : Timed) → ScriptRules script → timeds ≡ script.events → i < length timeds → timed ≡ get_or timeds i default →
-    scenario ≡ script.scenario → IsEventOf scenario timed.event
-event-at script scenario timeds i default timed rules same lt is e =
-    let each = All-from_recursion (λ (t : Timed). IsEventOf script.scenario t.event) script.events rules.events in
-    let here : IsEventOf script.scenario (get_or timeds i default).event = All-get_or (λ (t : Timed). IsEventOf script.scenario t.event) timeds i default lt (subst (λ (l : List Timed). All (λ (t : Timed). IsEventOf script.scenario t.event) l) (sym same) each) in
-    subst (λ (s : Scenario). IsEventOf s timed.event) (sym e) (subst (λ (t : Timed). IsEventOf script.scenario t.event) (sym is) here)
+    module _ (part : AppendedPart mid new (event_text detail scenario timed view place_of)) where
+      both_parts : AppendedPart old new (text (report_of r.trace) ++ event_text detail scenario timed view place_of)
+      both_parts = part_after old mid new (text (report_of r.trace)) (event_text detail scenario timed view place_of) r.text part
 
--- An event of a script of built lines is of one.
-pub built-at : (script : Script) (timeds : List Timed) (i : ℕ) (default timed : Timed) → AreBuilt script.events → timeds ≡ script.events → i < length timeds → timed ≡ get_or timeds i default →
-    IsBuilt timed.event
-built-at script timeds i default timed built same lt is =
-    let each = All-from_recursion (λ (t : Timed). IsBuilt t.event) timeds (subst AreBuilt (sym same) built) in
-    subst (λ (t : Timed). IsBuilt t.event) (sym is) (All-get_or (λ (t : Timed). IsBuilt t.event) timeds i default lt each)
+      part_by : (o : Outcome) → outcome r.state timed ≡ o → ReplaysPart detail script old new
+      part_by (Done acts next) is =
+          let trace : List Traced = r.trace ++ traced count acts in
+          let on = known.begins r.cores script (suc count) trace next rules octets r.behind.of_scenario (run_more acts next is) in
+          let so_far : text (report_of trace) ≡ text (report_of r.trace) ++ event_text detail scenario timed view place_of =
+          text_more known.text detail script.scenario r.trace count acts ∙ ap (λ (l : List ℕ). text (report_of r.trace) ++ l) (ap text_by (sym is) ∙ sym own_text) in
+          let all : text on.report ≡ (text (report_of r.trace) ++ event_text detail scenario timed view place_of) ++ text on.more =
+          ap text on.whole ∙ text_of-append known.text detail script.scenario (report_of trace) on.more ∙ ap (λ (l : List ℕ). l ++ text on.more) so_far in
+          record {
+            report = on.report;
+            is_report = on.is_report;
+            text = subst (AppendedPart old new) (sym all) (part_of_front old new (text (report_of r.trace) ++ event_text detail scenario timed view place_of) (text on.more) both_parts);
+          }
+      part_by (Halted acts node) is = record {
+        report = halted_report acts node;
+        is_report = UpToHalt r.cores node (known.halted r.cores script (halted_report acts node) node rules octets (halts_here acts node is));
+        text = subst (AppendedPart old new) (sym (halted_text acts node is)) both_parts;
+      }
+
+      replayed-part : ReplaysPart detail script old new
+      replayed-part = part_by (outcome r.state timed) refl
+
+    -- ---- what an event leaves
+
+    pub after-event : (now : WorldView) → EventEnds detail scenario timed view now mid new (Ok tt) → Replayed detail script (count + 1) old new now
+    after-event now ends = replayed-more now (ends.made place_of)
+
+    pub after-stop : (now : WorldView) (stop : Stop) → EventEnds detail scenario timed view now mid new (Err stop) → Replays detail script (Err stop) old new
+    after-stop now stops.Label ends = replayed-halted (ends.lacks refl place_of)
+    after-stop now stops.Text ends = replayed-part (ends.part place_of)
+    after-stop now stops.Source ends = replayed-part (ends.part place_of)
+    after-stop now stops.Sink ends = replayed-part (ends.part place_of)
+    after-stop now stops.Memory ends = replayed-part (ends.part place_of)
+
+  -- There was no memory to begin with.
+  pub never-begun : (old : Option (List ℕ)) (result : Result WorldView Stop) (stop : Stop) → result ≡ Err stop → stop ≡ stops.Memory → Replays detail script result old old
+  never-begun old result stop is memory = subst (λ (r : Result WorldView Stop). Replays detail script r old old) (sym (is ∙ ap ended memory)) (replayed-nothing old)
+
+  -- All events were replayed.
+  pub replayed-all : (count : ℕ) (old new : Option (List ℕ)) (view : WorldView) → count ≡ length script.events → Replayed detail script count old new view → ReplaysWhole detail script old new view
+  replayed-all count old new view all r =
+      let whole : Replayed detail script (length script.events) old new view = subst (λ (n : ℕ). Replayed detail script n old new view) all r in
+      record {
+        replayed = whole;
+        whole = known.whole whole.cores script whole.trace whole.state rules octets whole.behind.of_scenario
+            (subst (λ (l : List Timed). Run whole.cores script l whole.trace whole.state) (take_all (length script.events) script.events (omega arith)) whole.behind.run);
+      }
+
+-- The event at a place of the list is that of the script.
+pub event_at : (script : Script) (timeds : List Timed) (i : ℕ) (timed : Timed) → timeds ≡ script.events → i < length timeds → timed ≡ get_or timeds i timed → slice_get script.events i ≡ Some timed
+event_at script timeds i timed same less is = subst (λ (l : List Timed). slice_get l i ≡ Some timed) same (slice_get_read timeds (length timeds) i timed refl less is)

@@ -6,6 +6,8 @@ use Rattle.decode_text.specs.declared.format.Format.{Format}
 use Rattle.decode_text.specs.declared.format.Format.TheVariants as formats
 use Rattle.mvpn_tool.specs.declared.command.Command.{Command}
 use Rattle.mvpn_tool.specs.declared.command.Command.TheVariants as commands
+use Rattle.mvpn_tool.specs.declared.command.Detail.{Detail}
+use Rattle.mvpn_tool.specs.declared.command.Detail.TheVariants as details
 
 -- the format of that word
 abbrev pub format_of : List ℕ → Option Format
@@ -21,16 +23,21 @@ format_of word =
 unfoldable pub made_number_of : List ℕ → Option ℕ
 made_number_of word = number_of word >>? λ number. only_if (nat_le 1 number && nat_le number 1000000) number
 
--- the command of two words: `decode` and a format, or `make` and a number
+-- the detail that a word behind `replay` asks for
+abbrev pub detail_of : List ℕ → Option Detail
+detail_of word = if pointwise nat_eq word (codes "--wire") then Some details.Wire else None
+
+-- the command of two words: `replay` and its detail, `decode` and a format, or `make` and a number
 abbrev pub command_with : List ℕ → List ℕ → Option Command
 command_with a b =
+    if pointwise nat_eq a (codes "replay") then option_map (λ detail. commands.Replay detail) (detail_of b) else
     if pointwise nat_eq a (codes "decode") then option_map (λ format. commands.Decode format) (format_of b) else
     if pointwise nat_eq a (codes "make") then option_map (λ number. commands.Make number) (made_number_of b) else None
 
--- the command that the words name: `replay`, `decode` and a format, or `make` and a number
+-- the command that the words name: `replay` with or without `--wire`, `decode` and a format, or `make` and a number
 abbrev pub command_of : List (List ℕ) → Option Command
 command_of [] = None
-command_of (a ∷ []) = if pointwise nat_eq a (codes "replay") then Some commands.Replay else None
+command_of (a ∷ []) = if pointwise nat_eq a (codes "replay") then Some (commands.Replay details.Plain) else None
 command_of (a ∷ b ∷ []) = command_with a b
 command_of (a ∷ b ∷ c ∷ more) = None
 

@@ -54,6 +54,7 @@ DecodeEnds format left (Err stops.Text) old new = DecodesFaulty left old new
 DecodeEnds format left (Err stops.Source) old new = Appended old new []
 DecodeEnds format left (Err stops.Sink) old new = DecodesEarly format left old new
 DecodeEnds format left (Err stops.Memory) old new = Appended old new [] ⊎ DecodesEarly format left old new
+DecodeEnds format left (Err stops.Label) old new = ⊥
 
 -- The input was taken, unless the source failed or memory ran out.
 abbrev pub DecodeTakes : Result Bool Stop → Option (List ℕ) → Option (List ℕ) → Type 0
@@ -62,3 +63,4 @@ DecodeTakes (Err stops.Text) left rest = Taken left rest
 DecodeTakes (Err stops.Source) left rest = ⊤
 DecodeTakes (Err stops.Sink) left rest = Taken left rest
 DecodeTakes (Err stops.Memory) left rest = ⊤
+DecodeTakes (Err stops.Label) left rest = ⊥

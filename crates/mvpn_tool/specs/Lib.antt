@@ -1,5 +1,7 @@
 pub mod Input
+pub mod Report
 pub mod Outcome
+pub mod Known
 pub mod DecodeOutcome
 pub mod Commands
 pub mod Runs

@@ -9,19 +9,21 @@ use Rattle.decode_text.specs.declared.format.Format.{Format}
 use Rattle.decode_text.specs.HexText.{octets_of}
 use Rattle.decode_text.specs.Formats.{IsWhole, HasFault}
 use Rattle.generator.specs.Made.{made}
-use Rattle.net_world.specs.WorldState.{WorldState}
+use Rattle.network_events.specs.WorldView.{WorldView}
 use Rattle.mvpn_tool.specs.Commands.{usage_line}
 use Rattle.mvpn_tool.specs.Input.{Taken}
-use Rattle.mvpn_tool.specs.Outcome.{EndsFaulty, EndsEarly, EndsWellSome}
+use Rattle.mvpn_tool.specs.Report.{AllRun, OneHalts}
+use Rattle.mvpn_tool.specs.Outcome.{EndsFaulty, EndsEarly, EndsHalted, EndsWellSome}
 use Rattle.mvpn_tool.specs.DecodeOutcome.{Decoded, DecodesFaulty, DecodesEarly}
 use Rattle.mvpn_tool.specs.declared.command.Command.{Command}
 use Rattle.mvpn_tool.specs.declared.command.Command.TheVariants as commands
+use Rattle.mvpn_tool.specs.declared.command.Detail.{Detail}
 
 -- A call and its end: the status and the world that it answers; what the source had left before it and has left behind it, and what
 -- the sink had written, where they tell that; and how often each of them has failed, before and behind.
 pub record Ending : Type 0 where
   pub status : ℕ
-  pub world : Option WorldState
+  pub world : Option WorldView
   pub left : Option (List ℕ)
   pub rest : Option (List ℕ)
   pub old : Option (List ℕ)
@@ -59,10 +61,15 @@ pub record UsageRun (e : Ending) : Type 0 where
   pub untouched : e.rest ≡ e.left
   pub worldless : e.world ≡ None
 
--- `replay`
-pub record ReplayRun (e : Ending) : Type 0 where
+-- the source tells what it had left, which is this script
+abbrev pub Gives : Ending → Script → Type 0
+Gives e script = (input : List ℕ) × (e.left ≡ Some input) × (script_of input ≡ Ok script)
+
+-- `replay` without or with the lines of the wire
+pub record ReplayRun (detail : Detail) (e : Ending) : Type 0 where
   -- all was read, replayed and written, and there is a world exactly there
-  pub zero : e.status ≡ 0 → EndsWellSome e.left e.old e.new e.world
+  pub zero : e.status ≡ 0 → EndsWellSome detail e.left e.old e.new e.world
+  pub zero_always : (script : Script) → Gives e script → AllRun script → (e.status ≡ 0) ⊎ IsStopped e.status
   pub worldless : (e.status ≡ 0 → ⊥) → e.world ≡ None
   -- the text has a fault, and the line that tells it is written alone
   pub three : e.status ≡ 3 → EndsFaulty e.left e.old e.new
@@ -72,17 +79,19 @@ pub record ReplayRun (e : Ending) : Type 0 where
   pub four : e.status ≡ 4 → Wrote e []
   pub four_cause : e.status ≡ 4 → SourceFailed e
   -- the sink failed, with a prefix of the output written
-  pub five : e.status ≡ 5 → EndsEarly e.left e.old e.new
+  pub five : e.status ≡ 5 → EndsEarly detail e.left e.old e.new
   pub five_cause : e.status ≡ 5 → SinkFailed e
   -- there was no memory, and nothing or a prefix of the output is written
-  pub six : e.status ≡ 6 → Wrote e [] ⊎ EndsEarly e.left e.old e.new
+  pub six : e.status ≡ 6 → Wrote e [] ⊎ EndsEarly detail e.left e.old e.new
+  -- an event lacks a label, and the report is written up to there
+  pub seven : e.status ≡ 7 → EndsHalted detail e.left e.old e.new
+  pub seven_always : (script : Script) → Gives e script → OneHalts script → (e.status ≡ 7) ⊎ IsStopped e.status
   -- the input was taken to its end, or one octet past the limit
   pub taken : e.status ≢ 4 → e.status ≢ 6 → Taken e.left e.rest
-  -- nothing but memory keeps a script from being replayed, where neither end failed
+  -- where neither end failed, nothing but memory keeps a script from being replayed, to its end or to the halt
   pub complete :
-      (input : List ℕ) (script : Script) → (SourceFailed e → ⊥) → (SinkFailed e → ⊥) → e.left ≡ Some input →
-      script_of input ≡ Ok script → (e.status ≡ 0) ⊎ (e.status ≡ 6)
-  pub only : (e.status ≡ 0) ⊎ (e.status ≡ 3) ⊎ IsStopped e.status
+      (script : Script) → (SourceFailed e → ⊥) → (SinkFailed e → ⊥) → Gives e script → (e.status ≡ 0) ⊎ (e.status ≡ 6) ⊎ (e.status ≡ 7)
+  pub only : (e.status ≡ 0) ⊎ (e.status ≡ 3) ⊎ (e.status ≡ 7) ⊎ IsStopped e.status
 
 -- `decode` and a format
 pub record DecodeRun (format : Format) (e : Ending) : Type 0 where
@@ -122,6 +131,6 @@ pub record MakeRun (number : ℕ) (e : Ending) : Type 0 where
 -- how a call ends whose words name that command, or none
 abbrev pub Runs : Option Command → Ending → Type 0
 Runs None e = UsageRun e
-Runs (Some commands.Replay) e = ReplayRun e
+Runs (Some (commands.Replay detail)) e = ReplayRun detail e
 Runs (Some (commands.Decode format)) e = DecodeRun format e
 Runs (Some (commands.Make number)) e = MakeRun number e

@@ -1,19 +1,38 @@
 //! The words of commands.
 ghost use Rattle.std.specs.Prelude.{◌≡◌, map, string_bytes};
-ghost use Rattle.mvpn_tool.specs.Commands.{command_of, command_with, format_of, made_number_of};
+ghost use Rattle.mvpn_tool.specs.Commands.{command_of, command_with, detail_of, format_of, made_number_of};
 
 use decode_text::Format;
 use mv_base::read_number;
 
+/// How much of a report `replay` writes.
+#[derive(Clone, Copy, PartialEq, Eq)]
+pub enum Detail {
+    /// All but the lines of the wire.
+    Plain,
+    /// All, with `--wire`.
+    Wire,
+}
+
 /// A command that is built.
 #[derive(Clone, Copy, PartialEq, Eq)]
 pub enum Command {
-    /// `replay`
-    Replay,
+    /// `replay`, with or without `--wire`
+    Replay(Detail),
     /// `decode` and the word of a format
     Decode(Format),
     /// `make` and the number of a network, 1 to 1,000,000
     Make(u32),
+}
+
+/// The detail that a word behind `replay` asks for.
+fn detail_of(word: &str) -> Option<Detail>
+    ensures { result ≡ detail_of word.now }
+{
+    match word {
+        "--wire" => Some(Detail::Wire),
+        _ => None,
+    }
 }
 
 /// The format of a word.
@@ -49,6 +68,7 @@ fn command_with(word: &str, kind: &str) -> Option<Command>
     ensures { result ≡ command_with word.now kind.now }
 {
     match word {
+        "replay" => detail_of(kind).map(Command::Replay),
         "decode" => format_of(kind).map(Command::Decode),
         "make" => made_number_of(kind).map(Command::Make),
         _ => None,
@@ -60,7 +80,7 @@ pub fn command_of(words: &[String]) -> Option<Command>
     ensures { result ≡ command_of (map string_bytes words.now) }
 {
     match words {
-        [word] if word.as_str() == "replay" => Some(Command::Replay),
+        [word] if word.as_str() == "replay" => Some(Command::Replay(Detail::Plain)),
         [word, kind] => command_with(word.as_str(), kind.as_str()),
         _ => None,
     }

@@ -2,15 +2,17 @@
 #![tactic(auto)]
 
 mod command;
+mod copying;
 mod decode;
 mod input;
+mod laws;
 mod make;
 mod replay;
 mod report;
 mod stop;
 mod top;
 
-pub use command::Command;
-pub use net_world::World;
+pub use command::{Command, Detail};
+pub use network_events::World;
 pub use stop::Stop;
 pub use top::{End, run};

@@ -1,92 +1,129 @@
 //! Replays the script of a source into a sink.
-ghost use Rattle.std.specs.Prelude.{All, ◌≡◌, ◌≢◌, ◌≤◌, ◌<◌, ◌+◌, ◌^◌, ◌⊎◌, None, OnOk, OnErr, IsErrOf, IfErr, IfOk};
+ghost use Rattle.std.specs.Prelude.{All, ◌≡◌, ◌≢◌, ◌≤◌, ◌⊎◌, [], ◌∷◌, ◌++◌, OnOk, OnErr, IsErrOf, IfErr};
 ghost use Rattle.mv_io.specs.Causes.{Rose};
 ghost use Rattle.mv_io.specs.Octets.{Appended, AppendedPart};
-ghost use Rattle.std.specs.List.{flat_map};
-ghost use Rattle.scenario_defs.specs.Text.{line_text, IsLineOf};
-ghost use Rattle.scenario_defs.specs.Rules.{IsEventOf, ScriptRules, tick_limit};
-ghost use Rattle.scenario_defs.specs.Built.{IsBuilt, AreBuilt};
+ghost use Rattle.scenario_defs.specs.Rules.{ScriptRules};
+ghost use Rattle.scenario_defs.specs.Text.{IsLineOf};
+ghost use Rattle.scenario_defs.specs.declared.report.ReportLine.TheVariants as told;
 ghost use Rattle.line_words.specs.FaultText.{fault_text};
-ghost use Rattle.mvpn_tool.specs.Outcome.{EventReplayed, Replays, ReplayEnds, Takes, event_text};
+ghost use Rattle.mvpn_tool.specs.Outcome.{EventEnds, Place, Replays, ReplayEnds, Takes};
+ghost use Rattle.mvpn_tool.specs.Report.{lines_text};
 ghost use Rattle.mvpn_tool.specs.declared.stop.Stop.TheVariants as stops;
 
+use crate::command::Detail;
+use crate::copying::copy_of;
 use crate::input::read_all;
+use crate::laws::{lines_are_known, runs_are_known, script_has_octets};
 use crate::report::{put_lines, text_of_fault};
 use crate::stop::Stop;
-use mv_base::Bytes;
+use mv_base::{Bytes, NodeId};
 use mv_io::{Sink, Source, write_all};
-use net_world::{Halt, World};
-use scenario_defs::{Lines, Script, Timed};
+use network_events::{Halt, World};
+use scenario_defs::{Lines, ReportLine, Scenario, Script, Timed};
 use scenario_text::{ReadFault, TextFault, read};
 use std::alloc::Global;
 
-/// Writes the lines of an event. The text is room for them.
+/// Writes those of the lines that are told. The text is room for them.
 fn write_lines<K: Sink>(
-    world: &World,
+    detail: Detail,
+    scenario: &Scenario,
     lines: &Lines,
     text: &mut Bytes,
     sink: &mut K,
 ) -> Result<(), Stop>
-    requires { All (IsLineOf world.now.network.scenario) lines.now }
-    ensures ok { OnOk result (
-        Appended (K.written sink.old) (K.written sink.new) (flat_map (line_text world.now.network.scenario) lines.now)) }
-    ensures err { OnErr result (
-        AppendedPart (K.written sink.old) (K.written sink.new) (flat_map (line_text world.now.network.scenario) lines.now)) }
+    requires { All (IsLineOf scenario.now) lines.now }
+    ensures ok { OnOk result (Appended (K.written sink.old) (K.written sink.new) (lines_text detail scenario.now lines.now)) }
+    ensures err { OnErr result (AppendedPart (K.written sink.old) (K.written sink.new) (lines_text detail scenario.now lines.now)) }
     ensures later { K.faults sink.old ≤ K.faults sink.new }
     ensures failed { IsErrOf result stops.Sink → Rose (K.faults sink.old) (K.faults sink.new) }
     ensures others { IfErr result (λ stop. (stop ≡ stops.Sink) ⊎ (stop ≡ stops.Memory)) }
 {
     text.clear();
-    put_lines(lines.as_slice(), world.scenario(), text)?;
+    put_lines(detail, lines.as_slice(), scenario, text)?;
     write_all(sink, text.as_slice())?;
     Ok(())
+}
+
+/// Writes the lines of an event that lacks a label at that node, and then the line that says so. Answers why the replay ended.
+fn write_halt<K: Sink>(
+    detail: Detail,
+    scenario: &Scenario,
+    line: u32,
+    node: NodeId,
+    lines: &mut Lines,
+    text: &mut Bytes,
+    sink: &mut K,
+) -> Stop
+    requires { All (IsLineOf scenario.now) (lines.old ++ told.Halt line node ∷ []) }
+    ensures label { result ≡ stops.Label →
+        Appended (K.written sink.old) (K.written sink.new) (lines_text detail scenario.now (lines.old ++ told.Halt line node ∷ [])) }
+    ensures part { AppendedPart (K.written sink.old) (K.written sink.new) (lines_text detail scenario.now (lines.old ++ told.Halt line node ∷ [])) }
+    ensures later { K.faults sink.old ≤ K.faults sink.new }
+    ensures failed { result ≡ stops.Sink → Rose (K.faults sink.old) (K.faults sink.new) }
+    ensures others { (result ≡ stops.Label) ⊎ (result ≡ stops.Sink) ⊎ (result ≡ stops.Memory) }
+{
+    if lines.push(ReportLine::Halt { line, node }).is_err() {
+        return Stop::Memory;
+    }
+    match write_lines(detail, scenario, lines, text, sink) {
+        Ok(()) => Stop::Label,
+        Err(stop) => stop,
+    }
 }
 
 /// One event: a step of the world, and its lines. The text is room for them.
 fn replay_event<K: Sink>(
     alloc: Global,
+    detail: Detail,
+    scenario: &Scenario,
     world: &mut World,
     timed: &Timed,
     text: &mut Bytes,
     sink: &mut K,
 ) -> Result<(), Stop>
-    requires event { IsEventOf world.old.network.scenario timed.now.event }
-    requires built { IsBuilt timed.now.event }
-    requires clock { world.old.network.clock + tick_limit < 2 ^ 63 }
-    requires running { world.old.halt ≡ None }
-    ensures ok { OnOk result (EventReplayed world.old timed.now (K.written sink.old) (K.written sink.new) world.new) }
-    ensures err { OnErr result (AppendedPart (K.written sink.old) (K.written sink.new) (event_text world.old timed.now)) }
+    requires { Place scenario.now timed.now world.old }
+    ensures ends { EventEnds detail scenario.now timed.now world.old world.new (K.written sink.old) (K.written sink.new) result }
     ensures later { K.faults sink.old ≤ K.faults sink.new }
     ensures failed { IsErrOf result stops.Sink → Rose (K.faults sink.old) (K.faults sink.new) }
-    ensures others { IfErr result (λ stop. (stop ≡ stops.Sink) ⊎ (stop ≡ stops.Memory)) }
+    ensures others { IfErr result (λ stop. (stop ≡ stops.Label) ⊎ (stop ≡ stops.Sink) ⊎ (stop ≡ stops.Memory)) }
 {
+    lines_are_known();
     let mut lines = Lines::new(alloc);
-    match world.step(timed.line, &timed.event, &mut lines) {
-        Ok(()) => write_lines(world, &lines, text, sink),
+    match world.step(timed, &mut lines) {
+        Ok(()) => write_lines(detail, scenario, &lines, text, sink),
         Err(Halt::NoMemory) => Err(Stop::Memory),
-        Err(Halt::NoLabel(_)) => unreachable!(),
+        Err(Halt::NoLabel(node)) => {
+            Err(write_halt(detail, scenario, timed.line, node, &mut lines, text, sink))
+        }
     }
 }
 
-/// All events of the script.
-fn replay_script<K: Sink>(alloc: Global, script: Script, sink: &mut K) -> Result<World, Stop>
-    requires rules { ScriptRules script }
-    requires built { AreBuilt script.events }
-    ensures replays { Replays script result (K.written sink.old) (K.written sink.new) }
+/// All events of the script, or those up to one that lacks a label.
+fn replay_script<K: Sink>(
+    alloc: Global,
+    detail: Detail,
+    script: Script,
+    sink: &mut K,
+) -> Result<World, Stop>
+    requires { ScriptRules script }
+    ensures replays { Replays detail script result (K.written sink.old) (K.written sink.new) }
     ensures later { K.faults sink.old ≤ K.faults sink.new }
     ensures failed { IsErrOf result stops.Sink → Rose (K.faults sink.old) (K.faults sink.new) }
-    ensures others { IfErr result (λ stop. (stop ≡ stops.Sink) ⊎ (stop ≡ stops.Memory)) }
+    ensures others { IfErr result (λ stop. (stop ≡ stops.Label) ⊎ (stop ≡ stops.Sink) ⊎ (stop ≡ stops.Memory)) }
 {
+    runs_are_known();
+    script_has_octets(&script);
     let Script {
         scenario,
         events,
         end: _,
     } = script;
+    let names = copy_of(alloc, &scenario)?;
     let mut world = World::of(alloc, scenario)?;
     let mut text = Bytes::new(alloc);
     let timeds = events.as_slice();
     for timed in timeds {
-        match replay_event(alloc, &mut world, timed, &mut text, sink) {
+        match replay_event(alloc, detail, &names, &mut world, timed, &mut text, sink) {
             Ok(()) => {}
             Err(stop) => {
                 world.close();
@@ -103,7 +140,7 @@ pub fn write_fault<K: Sink>(alloc: Global, fault: TextFault, sink: &mut K) -> St
     ensures part { (result ≡ stops.Text) ⊎ AppendedPart (K.written sink.old) (K.written sink.new) (fault_text fault) }
     ensures later { K.faults sink.old ≤ K.faults sink.new }
     ensures failed { result ≡ stops.Sink → Rose (K.faults sink.old) (K.faults sink.new) }
-    ensures others { result ≢ stops.Source }
+    ensures others { (result ≢ stops.Source) × (result ≢ stops.Label) }
 {
     match text_of_fault(alloc, fault) {
         Err(_) => Stop::Memory,
@@ -117,10 +154,11 @@ pub fn write_fault<K: Sink>(alloc: Global, fault: TextFault, sink: &mut K) -> St
 /// Reads all of the source, replays what it says, and writes the report.
 pub fn replay<S: Source, K: Sink>(
     alloc: Global,
+    detail: Detail,
     source: &mut S,
     sink: &mut K,
 ) -> Result<World, Stop>
-    ensures ends { ReplayEnds (S.left source.old) result (K.written sink.old) (K.written sink.new) }
+    ensures ends { ReplayEnds detail (S.left source.old) result (K.written sink.old) (K.written sink.new) }
     ensures taken { Takes result (S.left source.old) (S.left source.new) }
     ensures source_later { S.faults source.old ≤ S.faults source.new }
     ensures source_failed { IsErrOf result stops.Source → Rose (S.faults source.old) (S.faults source.new) }
@@ -131,6 +169,6 @@ pub fn replay<S: Source, K: Sink>(
     match read(alloc, &input) {
         Err(ReadFault::NoMemory) => Err(Stop::Memory),
         Err(ReadFault::Text(fault)) => Err(write_fault(alloc, fault, sink)),
-        Ok(script) => replay_script(alloc, script, sink),
+        Ok(script) => replay_script(alloc, detail, script, sink),
     }
 }

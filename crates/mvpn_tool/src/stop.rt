@@ -14,6 +14,8 @@ pub enum Stop {
     Sink,
     /// There was no memory.
     Memory,
+    /// An event lacks a label, and the report was written up to there.
+    Label,
 }
 
 impl From<SourceFailed> for Stop {

@@ -3,14 +3,15 @@ ghost use Rattle.std.specs.Prelude.{◌≡◌, ℕ, Option, List, None, map, str
 ghost use Rattle.mvpn_tool.specs.Commands.{command_of};
 ghost use Rattle.mvpn_tool.specs.Runs.{Runs, UsageRun, ReplayRun, DecodeRun, MakeRun};
 
-use crate::command::{Command, command_of};
+use crate::command::{Command, Detail, command_of};
 use crate::decode::decode;
 use crate::make::make;
 use crate::replay::replay;
 use crate::stop::Stop;
 use decode_text::Format;
 use mv_io::{Sink, Source, write_all};
-use net_world::World;
+use network_events::World;
+use run_laws::one_run_or_one_halt;
 use std::alloc::Global;
 
 /// The line that tells the forms of a command.
@@ -74,8 +75,13 @@ fn run_make<K: Sink>(alloc: Global, number: u32, sink: &mut K) -> End
     }
 }
 
-fn run_replay<S: Source, K: Sink>(alloc: Global, source: &mut S, sink: &mut K) -> End
-    ensures { ReplayRun (record {
+fn run_replay<S: Source, K: Sink>(
+    alloc: Global,
+    detail: Detail,
+    source: &mut S,
+    sink: &mut K,
+) -> End
+    ensures { ReplayRun detail (record {
       status = result.status;
       world = result.world;
       left = S.left source.old;
@@ -88,7 +94,8 @@ fn run_replay<S: Source, K: Sink>(alloc: Global, source: &mut S, sink: &mut K) -
       sink_now = K.faults sink.new;
     }) }
 {
-    match replay(alloc, source, sink) {
+    one_run_or_one_halt();
+    match replay(alloc, detail, source, sink) {
         Ok(world) => End {
             status: 0,
             world: Some(world),
@@ -97,6 +104,7 @@ fn run_replay<S: Source, K: Sink>(alloc: Global, source: &mut S, sink: &mut K) -
         Err(Stop::Source) => ended(4),
         Err(Stop::Sink) => ended(5),
         Err(Stop::Memory) => ended(6),
+        Err(Stop::Label) => ended(7),
     }
 }
 
@@ -126,6 +134,7 @@ fn run_decode<S: Source, K: Sink>(
         Err(Stop::Source) => ended(4),
         Err(Stop::Sink) => ended(5),
         Err(Stop::Memory) => ended(6),
+        Err(Stop::Label) => unreachable!(),
     }
 }
 
@@ -146,7 +155,7 @@ pub fn run<S: Source, K: Sink>(alloc: Global, words: &[String], source: &mut S, 
 {
     match command_of(words) {
         None => run_usage(sink),
-        Some(Command::Replay) => run_replay(alloc, source, sink),
+        Some(Command::Replay(detail)) => run_replay(alloc, detail, source, sink),
         Some(Command::Decode(format)) => run_decode(alloc, format, source, sink),
         Some(Command::Make(number)) => run_make(alloc, number, sink),
     }

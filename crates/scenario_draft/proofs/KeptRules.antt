@@ -1,6 +1,6 @@
 -- Lines that keep to what is asked of each keep the rules of a scenario.
 use Rattle.std.proofs.Common.{◌≡◌, ℕ, ◌≤◌, true, [], ◌∷◌, ◌++◌, length, sym, ◌∙◌, arith, Some}
-use Rattle.std.proofs.lemmas.List.Elements.{All-nil, All-push}
+use Rattle.std.proofs.lemmas.List.Elements.{All-nil}
 use Rattle.mv_base.specs.declared.core_link.Link.{Link}
 use Rattle.mv_base.specs.declared.ids.NodeId.{NodeId}
 use Rattle.mv_base.specs.declared.ids.VrfId.{VrfId}
@@ -14,8 +14,7 @@ use Rattle.scenario_defs.specs.declared.scenario.Iface.{Iface}
 use Rattle.scenario_defs.specs.declared.scenario.Scenario.{Scenario}
 use Rattle.scenario_defs.specs.declared.scenario.Thing.TheVariants as things
 use Rattle.scenario_defs.specs.declared.event.Event.{Event}
-use Rattle.scenario_defs.specs.Built.{HasBuiltRule, IsIpv4Site, IsBuiltScenario}
-use Rattle.scenario_defs.specs.Rules.{Rules, IsIpv4, SettingRules, CoreRules, VrfRules, SiteRules, IfaceRules}
+use Rattle.scenario_defs.specs.Rules.{Rules, SettingRules, CoreRules, VrfRules, SiteRules, IfaceRules}
 use Rattle.scenario_draft.specs.declared.line.Line.{Line}
 use Rattle.scenario_draft.specs.declared.line.Line.TheVariants as says
 use Rattle.scenario_draft.specs.declared.setting.Setting.{Setting}
@@ -26,7 +25,7 @@ use Rattle.scenario_draft.specs.Settings.{highest, with_given, with_setting}
 use Rattle.scenario_draft.specs.Adding.{added, empty_draft}
 use Rattle.scenario_draft.specs.Declaring.{IsDeclared, IsNewName, MayBeNode, MayBeLink, MayBeVrf, MayBeSite, MayBeIface}
 use Rattle.scenario_draft.proofs.OneMore.{still_get}
-use Rattle.scenario_draft.proofs.OtherRules.{settings_else, core_else, vrfs_still, vrfs_else, sites_else, ifaces_known, ifaces_else, built_else}
+use Rattle.scenario_draft.proofs.OtherRules.{settings_else, core_else, vrfs_still, vrfs_else, sites_else, ifaces_known, ifaces_else}
 use Rattle.scenario_draft.proofs.MoreRules.{node_core, link_core, vrf_more, site_more, vrf_known, site_known, iface_more}
 use Rattle.scenario_draft.proofs.MoreNames.{AreNamed, no_names, names_else, one_more_name, names_with_node, names_with_vrf, names_with_site, names_with_iface}
 
@@ -37,12 +36,11 @@ pub record Kept (draft : Drafted) : Type 0 where
   pub vrfs : VrfRules draft.scenario
   pub sites : SiteRules draft.scenario
   pub ifaces : IfaceRules draft.scenario
-  pub built : IsBuiltScenario draft.scenario
   pub names : AreNamed draft.scenario draft.names
 
 -- Nothing of the scenario changes.
 kept_else : (draft other : Drafted) → Kept draft → Kept (record other { scenario = draft.scenario; names = draft.names })
-kept_else draft other k = record { settings = k.settings; core = k.core; vrfs = k.vrfs; sites = k.sites; ifaces = k.ifaces; built = k.built; names = k.names }
+kept_else draft other k = record { settings = k.settings; core = k.core; vrfs = k.vrfs; sites = k.sites; ifaces = k.ifaces; names = k.names }
 
 pub kept_empty : Kept empty_draft
 kept_empty = record {
@@ -57,7 +55,6 @@ kept_empty = record {
   vrfs = record { few = omega arith; each = All-nil _; apart = λ i j d lt within. absurd (omega arith) };
   sites = record { few = omega arith; each = All-nil _ };
   ifaces = record { few = omega arith; each = All-nil _; vpns = λ i j d lt within. absurd (omega arith) };
-  built = record { vrfs = All-nil _; sites = All-nil _; ifaces = All-nil _ };
   names = no_names;
 }
 
@@ -65,7 +62,7 @@ kept_values : (draft : Drafted) (given : Given) (life delay labels system : ℕ)
 kept_values draft given life delay labels system new k =
     let s : Scenario = draft.scenario in
     let t : Scenario = record s { life = life; delay = delay; labels = labels; system = system } in
-    record { settings = new; core = core_else s t k.core; vrfs = vrfs_else s t k.vrfs; sites = sites_else s t k.sites; ifaces = ifaces_else s t k.ifaces; built = built_else s t k.built; names = names_else s t draft.names k.names }
+    record { settings = new; core = core_else s t k.core; vrfs = vrfs_else s t k.vrfs; sites = sites_else s t k.sites; ifaces = ifaces_else s t k.ifaces; names = names_else s t draft.names k.names }
 
 kept_setting : (draft : Drafted) (setting : Setting) (value : ℕ) → (1 ≤ value) × (value ≤ highest setting) → Kept draft → Kept (record draft { scenario = with_setting draft.scenario setting value; given = with_given draft.given setting })
 kept_setting draft settings.Life value within k =
@@ -91,7 +88,6 @@ kept_node draft id node next new may k =
       vrfs = vrfs_still s t (still_get s.nodes node) k.vrfs;
       sites = sites_else s t k.sites;
       ifaces = ifaces_else s t k.ifaces;
-      built = built_else s t k.built;
       names = one_more_name draft t node.name (things.Node id) new (names_with_node s id node next) k.names;
     }
 
@@ -99,7 +95,7 @@ kept_link : (draft : Drafted) (link : Link) → MayBeLink draft.scenario link �
 kept_link draft link may k =
     let s : Scenario = draft.scenario in
     let t : Scenario = record s { links = s.links ++ link ∷ [] } in
-    record { settings = settings_else s t k.settings; core = link_core s link may k.core; vrfs = vrfs_else s t k.vrfs; sites = sites_else s t k.sites; ifaces = ifaces_else s t k.ifaces; built = built_else s t k.built; names = names_else s t draft.names k.names }
+    record { settings = settings_else s t k.settings; core = link_core s link may k.core; vrfs = vrfs_else s t k.vrfs; sites = sites_else s t k.sites; ifaces = ifaces_else s t k.ifaces; names = names_else s t draft.names k.names }
 
 kept_vrf : (draft : Drafted) (id : VrfId) (vrf : Vrf) → id.0 ≡ length draft.scenario.vrfs → IsNewName draft vrf.name → MayBeVrf draft.scenario vrf → Kept draft → Kept (record draft { scenario = record draft.scenario { vrfs = draft.scenario.vrfs ++ vrf ∷ [] }; names = draft.names ++ (vrf.name, (things.Vrf id)) ∷ [] })
 kept_vrf draft id vrf next new may k =
@@ -111,7 +107,6 @@ kept_vrf draft id vrf next new may k =
       vrfs = vrf_more s vrf may k.vrfs;
       sites = sites_else s t k.sites;
       ifaces = ifaces_known s t (vrf_known s vrf) k.ifaces;
-      built = record { vrfs = All-push HasBuiltRule s.vrfs vrf k.built.vrfs may.built; sites = k.built.sites; ifaces = k.built.ifaces };
       names = one_more_name draft t vrf.name (things.Vrf id) new (names_with_vrf s id vrf next) k.names;
     }
 
@@ -125,7 +120,6 @@ kept_site draft id site next new may k =
       vrfs = vrfs_else s t k.vrfs;
       sites = site_more s site may k.sites;
       ifaces = ifaces_known s t (site_known s site) k.ifaces;
-      built = record { vrfs = k.built.vrfs; sites = All-push IsIpv4Site s.sites site k.built.sites may.built; ifaces = k.built.ifaces };
       names = one_more_name draft t site.name (things.Site id) new (names_with_site s id site next) k.names;
     }
 
@@ -139,7 +133,6 @@ kept_iface draft id iface next new may k =
       vrfs = vrfs_else s t k.vrfs;
       sites = sites_else s t k.sites;
       ifaces = iface_more s iface may k.ifaces;
-      built = record { vrfs = k.built.vrfs; sites = k.built.sites; ifaces = All-push (λ other. IsIpv4 other.addr) s.ifaces iface k.built.ifaces may.built };
       names = one_more_name draft t iface.name (things.Iface id) new (names_with_iface s id iface next) k.names;
     }
 

@@ -13,7 +13,6 @@ use Rattle.scenario_defs.specs.declared.scenario.Scenario.{Scenario}
 use Rattle.scenario_defs.specs.Prefixes.{prefixes_of, share_prefix}
 use Rattle.scenario_defs.specs.Vpn.{targets_of, same_vpn}
 use Rattle.scenario_defs.specs.Rules.{SettingRules, CoreRules, VrfRules, SiteRules, IfaceRules, IsEdge, IsVrf, IsIface, AreOfVpns}
-use Rattle.scenario_defs.specs.Built.{IsBuiltScenario}
 use Rattle.scenario_draft.proofs.OneMore.{pairs_with}
 
 pub settings_else : (s t : Scenario) → SettingRules s → SettingRules (record t { life = s.life; delay = s.delay; labels = s.labels; system = s.system })
@@ -72,7 +71,3 @@ pub ifaces_else : (s t : Scenario) → IfaceRules s → IfaceRules (record t { v
 ifaces_else s t r =
     let same : AreKnown s (record t { vrfs = s.vrfs; sites = s.sites; ifaces = s.ifaces }) = record { more_vrfs = omega arith; more_sites = omega arith; targets = λ id h. refl; prefixes = λ id h. refl } in
     ifaces_known s (record t { vrfs = s.vrfs; sites = s.sites }) same r
-
--- The forms of VRFs, sites and interfaces do not rest on anything else.
-pub built_else : (s t : Scenario) → IsBuiltScenario s → IsBuiltScenario (record t { vrfs = s.vrfs; sites = s.sites; ifaces = s.ifaces })
-built_else s t r = record { vrfs = r.vrfs; sites = r.sites; ifaces = r.ifaces }

@@ -1,11 +1,12 @@
 -- What a word that is without fault keeps to.
 use Rattle.std.proofs.Common.{◌≡◌, ℕ, ◌-◌, ◌%◌, ◌^◌, ◌<◌, ◌≤◌, ◌==◌, Bool, true, false, not, ◌&&◌, ◌||◌, List, [], ◌∷◌, ◌++◌, length, take, length-append, refl, sym, ap, subst, cond, arith, nat_eq, nat_le, slice_index, slice_get, Option, Some, None, inl, inr}
-use Rattle.std.specs.Prelude.{◌≢◌, ◌⊎◌, Result, Ok, Err, option_map, All, AllPairs}
+use Rattle.std.specs.Prelude.{◌≢◌, ◌⊎◌, Result, Ok, Err, IfSome, option_map, All, AllPairs}
 use Rattle.std.specs.Option.{option_or}
 use Rattle.std.specs.List.{list_any, slice_split}
-use Rattle.std.specs.Int.{w16, w32, to_be_bytes, from_be_bytes}
+use Rattle.std.specs.Int.{w16, w32, w128, to_be_bytes, from_be_bytes}
 use Rattle.std.specs.Map.{lookup}
 use Rattle.std.specs.Cmp.Lexicographic.{pointwise, other_text}
+use Rattle.std.proofs.lemmas.Bool.{eqb-true, or_cases}
 use Rattle.std.proofs.lemmas.Bool.Decides.{nat_tests}
 use Rattle.std.proofs.lemmas.Option.{slice_get_within}
 use Rattle.hex.specs.declared.error.FromHexError.{FromHexError}
@@ -14,29 +15,32 @@ use Rattle.hex.proofs.HexLemmas.{decode_of-ok}
 use Rattle.mv_base.specs.declared.addr.Addr.{Addr}
 use Rattle.mv_base.specs.declared.addr.Addr.TheVariants.{V4, V6}
 use Rattle.mv_base.specs.declared.ids.NodeId.{NodeId}
+use Rattle.mv_base.specs.declared.ids.IfaceId.{IfaceId}
 use Rattle.mv_base.specs.declared.core_link.Link.{Link}
 use Rattle.mv_base.specs.declared.prefix.Prefix.{Prefix}
 use Rattle.mv_base.specs.declared.rd.Rd.{Rd}
-use Rattle.mv_base.specs.declared.rd.Rule.TheVariants.{Highest, Nearest}
-use Rattle.mv_base.specs.Address.{same_addr}
+use Rattle.mv_base.specs.Address.{same_addr, IsAddr}
+use Rattle.mv_base.specs.AddrText.{group_of as groups_last, group_front_of, groups_of, addr_of}
+use Rattle.mv_base.specs.Prefix.{IsPrefixOf}
 use Rattle.mv_base.specs.Number.{number_of, cut_of, ◌>>?◌, only_if}
 use Rattle.mv_base.specs.Dotted.{octet_of, octet_front_of, dotted_of}
 use Rattle.core_walks.specs.Topology.{JoinsSamePair}
 use Rattle.route_targets.specs.Targets.{same_target}
 use Rattle.scenario_defs.specs.declared.scenario.Vrf.{Vrf}
+use Rattle.scenario_defs.specs.declared.scenario.Iface.{Iface}
 use Rattle.scenario_defs.specs.Prefixes.{same_prefix}
-use Rattle.scenario_defs.specs.Rules.{IsIpv4, IsUnicast, IsGroup, AreOfOneFamily, NamesFlow, IsEdge, IsRd, IsTarget, IsSitePrefix}
+use Rattle.scenario_defs.specs.Rules.{IsIpv4, IsUnicastFront, IsUnicast, IsGroup, AreOfOneFamily, IsOfIface, NamesFlow, IsEdge, IsRd, IsTarget, IsSitePrefix}
 use Rattle.line_words.specs.declared.fault.TextFault.{TextFault}
 use Rattle.line_words.specs.declared.fault.Reason.{Reason}
 use Rattle.line_words.specs.declared.fault.Reason.TheVariants as reasons
 use Rattle.line_words.specs.declared.words.Row.{Row}
 use Rattle.line_words.specs.Words.{Placed}
-use Rattle.line_words.specs.Forms.{◌>>=◌, or_fault, addr_of, addr_at, source_at, group_at, payload_at, is_unicast, is_group, vrf_number_of, numbered_of, addressed_of, rd_of, target_of, targets_at, rule_at, is_prefix, prefix_of, prefixes_at}
+use Rattle.line_words.specs.Forms.{◌>>=◌, or_fault, ipv4_of, ipv4_at, addr_at, source_at, group_at, payload_at, is_unicast_front, is_unicast, is_group, same_family, number_to, vrf_number_of, numbered_of, addressed_of, rd_of, target_of, targets_at, is_prefix, prefix_of, prefixes_at}
 use Rattle.line_words.proofs.ListFacts.{none_any, distinct_pairs, each_holds, list_is}
 use Rattle.scenario_defs.specs.declared.scenario.Thing.{Thing}
 use Rattle.scenario_defs.specs.Names.{is_name}
 use Rattle.scenario_draft.specs.Drafted.{Drafted}
-use Rattle.scenario_draft.specs.Naming.{new_name, node_of, vrf_of, site_of, iface_of, named, node_named, edge_named, vrf_named, site_named, iface_named, node_at, edge_at, vrf_at, site_at, iface_at, is_at, node_addr_at, has_number, vrf_number_at, has_rd, rd_at, joins, other_end_at}
+use Rattle.scenario_draft.specs.Naming.{new_name, node_of, vrf_of, site_of, iface_of, named, node_named, edge_named, vrf_named, site_named, iface_named, node_at, edge_at, vrf_at, site_at, iface_at, is_of_iface, is_at, node_addr_at, has_number, vrf_number_at, has_rd, rd_at, joins, other_end_at}
 use Rattle.scenario_draft.specs.Declaring.{IsNewName}
 
 -- Each value without fault has the property.
@@ -145,10 +149,29 @@ dotted_finds : (text : List ℕ) → Finds (λ octets. length octets ≡ 4) (dot
 unfolding dotted_of
 dotted_finds text = bind_finds _ (octet_front_of text) _ (λ a _. bind_finds _ (octet_front_of a.1) _ (λ b _. bind_finds _ (octet_front_of b.1) _ (λ c _. bind_finds _ (octet_of c.1) _ (λ d _. some_finds _ _ refl))))
 
-addr_finds : (text : List ℕ) → Finds IsIpv4 (addr_of text)
-addr_finds text = map_finds IsIpv4 (λ octets. V4 octets) (dotted_of text) (dotted_finds text)
+ipv4_finds : (text : List ℕ) → Finds IsIpv4 (ipv4_of text)
+ipv4_finds text = map_finds IsIpv4 (λ octets. V4 octets) (dotted_of text) (dotted_finds text)
 
-pub addr_meets : (row : Row) (word : Placed) → Meets IsIpv4 (addr_at row word)
+pub ipv4_meets : (row : Row) (word : Placed) → Meets IsIpv4 (ipv4_at row word)
+unfolding ipv4_at
+ipv4_meets row word = or_fault_meets _ _ row word _ (ipv4_finds word.text)
+
+-- An address of eight groups has sixteen octets.
+groups_finds : (text : List ℕ) → Finds (λ octets. length octets ≡ 16) (groups_of text)
+unfolding groups_of
+groups_finds text =
+    bind_finds _ (group_front_of text) _ (λ a _. bind_finds _ (group_front_of a.1) _ (λ b _. bind_finds _ (group_front_of b.1) _ (λ c _. bind_finds _ (group_front_of c.1) _ (λ d _.
+    bind_finds _ (group_front_of d.1) _ (λ e _. bind_finds _ (group_front_of e.1) _ (λ f _. bind_finds _ (group_front_of f.1) _ (λ g _. bind_finds _ (groups_last g.1) _ (λ h _. some_finds _ _ refl))))))))
+
+either_finds : (o p : Option (List ℕ)) → Finds (λ octets. length octets ≡ 4) o → Finds (λ octets. length octets ≡ 16) p → Finds IsAddr (elim o [ Some octets ↦ Some (V4 octets) | None ↦ p >>? λ octets. Some (V6 octets) ])
+either_finds (Some octets) p h k = some_finds IsAddr (V4 octets) (h.holds octets refl)
+either_finds None p h k = bind_finds IsAddr p _ (λ octets e. some_finds IsAddr (V6 octets) (k.holds octets e))
+
+pub addr_finds : (text : List ℕ) → Finds IsAddr (addr_of text)
+unfolding addr_of
+addr_finds text = either_finds (dotted_of text) (groups_of text) (dotted_finds text) (groups_finds text)
+
+pub addr_meets : (row : Row) (word : Placed) → Meets IsAddr (addr_at row word)
 unfolding addr_at
 addr_meets row word = or_fault_meets _ _ row word _ (addr_finds word.text)
 
@@ -156,9 +179,20 @@ addr_meets row word = or_fault_meets _ _ row word _ (addr_finds word.text)
 pub within : (x low high : ℕ) → (nat_le low x && nat_le x high) ≡ true → (low ≤ x) × (x ≤ high)
 within x low high h = grind (arith, nat_tests)
 
-is_source : (addr : Addr) → IsIpv4 addr → is_unicast addr ≡ true → IsUnicast addr
+low_front : (x : ℕ) → ((nat_le 32 x && nat_le x 63) ≡ true) ⊎ ((x == 252) ≡ true) → IsUnicastFront x
+low_front x (inl h) = inl (within x 32 63 h)
+low_front x (inr h) = inr (inl (eqb-true x 252 h))
+
+any_front : (x : ℕ) → (((nat_le 32 x && nat_le x 63) || x == 252) ≡ true) ⊎ ((x == 253) ≡ true) → IsUnicastFront x
+any_front x (inl h) = low_front x (or_cases (nat_le 32 x && nat_le x 63) (x == 252) h)
+any_front x (inr h) = inr (inr (eqb-true x 253 h))
+
+is_front : (x : ℕ) → is_unicast_front x ≡ true → IsUnicastFront x
+is_front x h = any_front x (or_cases ((nat_le 32 x && nat_le x 63) || x == 252) (x == 253) h)
+
+is_source : (addr : Addr) → IsAddr addr → is_unicast addr ≡ true → IsUnicast addr
 is_source (V4 octets) four h = let w = within (slice_index octets 0) 1 223 h in (four, w.0, w.1)
-is_source (V6 octets) four h = absurd four
+is_source (V6 octets) sixteen h = (sixteen, is_front (slice_index octets 0) h)
 
 group_parts : (a b c : Bool) → (a && b && not c) ≡ true → ((a && b) ≡ true) × (c ≡ false)
 group_parts true true false h = (refl, refl)
@@ -169,39 +203,47 @@ group_parts false b c h = absurd cc
 not_local : (x y z : ℕ) → (x == 224 && y == 0 && z == 0) ≡ false → (x ≡ 224) × (y ≡ 0) × (z ≡ 0) → ⊥
 not_local x y z h (a, b, c) = grind (arith, nat_tests)
 
-is_group_addr : (addr : Addr) → IsIpv4 addr → is_group addr ≡ true → IsGroup addr
+is_scoped : (x y : ℕ) → (x == 255 && nat_le 3 y) ≡ true → (x ≡ 255) × (3 ≤ y)
+is_scoped x y h = grind (arith, nat_tests)
+
+is_group_addr : (addr : Addr) → IsAddr addr → is_group addr ≡ true → IsGroup addr
 is_group_addr (V4 octets) four h =
     let p = group_parts (nat_le 224 (slice_index octets 0)) (nat_le (slice_index octets 0) 239) (slice_index octets 0 == 224 && slice_index octets 1 == 0 && slice_index octets 2 == 0) h in
     let w = within (slice_index octets 0) 224 239 p.0 in
     (four, w.0, w.1, not_local (slice_index octets 0) (slice_index octets 1) (slice_index octets 2) p.1)
-is_group_addr (V6 octets) four h = absurd four
+is_group_addr (V6 octets) sixteen h = let p = is_scoped (slice_index octets 0) (slice_index octets 1 % 16) h in (sixteen, p.0, p.1)
 
-pub source_meets : (row : Row) (word : Placed) → Meets (λ addr. IsIpv4 addr × IsUnicast addr) (source_at row word)
+pub source_meets : (row : Row) (word : Placed) → Meets IsUnicast (source_at row word)
 unfolding source_at
 source_meets row word =
-    bind_meets _ (addr_at row word) _ (λ addr a. then_meets _ _ _ _ (λ b.
-    let four = (addr_meets row word).holds addr a in
-    let facts : IsIpv4 addr × IsUnicast addr = (four, is_source addr four b) in ok_meets _ addr facts))
+    bind_meets _ (addr_at row word) _ (λ addr a. then_meets _ _ _ _ (λ b. ok_meets IsUnicast addr (is_source addr ((addr_meets row word).holds addr a) b)))
 
-pub group_meets : (row : Row) (word : Placed) → Meets (λ addr. IsIpv4 addr × IsGroup addr) (group_at row word)
+pub group_meets : (row : Row) (word : Placed) → Meets IsGroup (group_at row word)
 unfolding group_at
 group_meets row word =
-    bind_meets _ (addr_at row word) _ (λ addr a. then_meets _ _ _ _ (λ b.
-    let four = (addr_meets row word).holds addr a in
-    let facts : IsIpv4 addr × IsGroup addr = (four, is_group_addr addr four b) in ok_meets _ addr facts))
+    bind_meets _ (addr_at row word) _ (λ addr a. then_meets _ _ _ _ (λ b. ok_meets IsGroup addr (is_group_addr addr ((addr_meets row word).holds addr a) b)))
 
--- Two addresses of IPv4 are of one family.
-pub one_family : (a b : Addr) → IsIpv4 a → IsIpv4 b → AreOfOneFamily a b
-one_family (V4 a) (V4 b) h k = tt
-one_family (V6 a) b h k = absurd h
-one_family (V4 a) (V6 b) h k = absurd k
+-- What the rule of families asks for.
+pub one_family : (a b : Addr) → same_family a b ≡ true → AreOfOneFamily a b
+one_family (V4 a) (V4 b) h = tt
+one_family (V6 a) (V6 b) h = tt
+one_family (V4 a) (V6 b) h = absurd cc
+one_family (V6 a) (V4 b) h = absurd cc
+
+of_found : (found : Option Iface) (group : Addr) → elim found [ None ↦ false | Some own ↦ same_family own.addr group ] ≡ true → IfSome found (λ own. AreOfOneFamily own.addr group)
+of_found (Some own) group h = one_family own.addr group h
+of_found None group h = absurd cc
+
+pub of_iface : (draft : Drafted) (iface : IfaceId) (group : Addr) → is_of_iface draft iface group ≡ true → IsOfIface draft.scenario iface group
+of_iface draft iface group h = of_found (slice_get draft.scenario.ifaces iface.0) group h
 
 -- The two words name a flow.
-pub names_flow : (row : Row) (b c : Placed) (source group : Addr) → source_at row b ≡ Ok source → group_at row c ≡ Ok group → NamesFlow source group
-names_flow row b c source group s g =
-    let own = (source_meets row b).holds source s in
-    let all = (group_meets row c).holds group g in
-    record { unicast = own.1; multicast = all.1; family = one_family source group own.0 all.0 }
+pub names_flow : (row : Row) (b c : Placed) (source group : Addr) → source_at row b ≡ Ok source → group_at row c ≡ Ok group → same_family source group ≡ true → NamesFlow source group
+names_flow row b c source group s g family = record {
+  unicast = (source_meets row b).holds source s;
+  multicast = (group_meets row c).holds group g;
+  family = one_family source group family;
+}
 
 decoded : (text : List ℕ) (e : TextFault) (r : Result (List ℕ) FromHexError) → length text ≤ 4096 → decode_of text ≡ r → Meets (λ payload. length payload ≤ 2048) (elim r [ Ok octets ↦ Ok octets | Err error ↦ Err e ])
 decoded text e (Ok octets) l h = ok_meets _ octets (omega (arith, (decode_of-ok text octets h).2))
@@ -223,12 +265,20 @@ below limit n h = grind (arith, nat_tests)
 all_weaker : {A : Type 0} (P Q : A → Type 0) (xs : List A) → ((x : A) → P x → Q x) → All P xs → All Q xs
 all_weaker P Q xs f h = λ k d within. f _ (h k d within)
 
+ipv4_addr : (addr : Addr) → IsIpv4 addr → IsAddr addr
+ipv4_addr (V4 octets) four = four
+ipv4_addr (V6 octets) four = absurd four
+
 pub node_addr_meets : (draft : Drafted) (row : Row) (word : Placed) → Meets (λ addr. IsIpv4 addr × IsUnicast addr × All (λ other. same_addr other.addr addr ≡ false) draft.scenario.nodes) (node_addr_at draft row word)
 unfolding node_addr_at
 node_addr_meets draft row word =
-    bind_meets _ (addr_at row word) _ (λ addr a. then_meets _ _ _ _ (λ b. if_meets _ (list_any (is_at addr) draft.scenario.nodes) _ _ (λ new.
-    let four = (addr_meets row word).holds addr a in
-    ok_meets _ addr (four, is_source addr four b, none_any (is_at addr) draft.scenario.nodes new))))
+    bind_meets _ (ipv4_at row word) _ (λ addr a. then_meets _ _ _ _ (λ b. if_meets _ (list_any (is_at addr) draft.scenario.nodes) _ _ (λ new.
+    let four = (ipv4_meets row word).holds addr a in
+    ok_meets _ addr (four, is_source addr (ipv4_addr addr four) b, none_any (is_at addr) draft.scenario.nodes new))))
+
+pub to_limit : (limit : ℕ) (text : List ℕ) → Finds (λ number. (1 ≤ number) × (number ≤ limit)) (number_to limit text)
+unfolding number_to
+to_limit limit text = bind_finds _ (number_of text) _ (λ number _. only_finds _ (nat_le 1 number && nat_le number limit) number (within number 1 limit))
 
 number_finds : (text : List ℕ) → Finds (λ number. (1 ≤ number) × (number ≤ 4095)) (vrf_number_of text)
 unfolding vrf_number_of
@@ -331,26 +381,23 @@ targets_formed row word = or_fault_meets _ _ row word _ (record {
       each_holds IsTarget target_of (λ text target e. (target_finds text).holds target e) (slice_split (λ b. b == 44) word.text) targets list.each;
 })
 
-no_rest : (bits rest : ℕ) → (nat_le bits 32 && rest == 0) ≡ true → (bits ≤ 32) × (rest ≡ 0)
-no_rest bits rest h = grind (arith, nat_tests)
+no_rest : (most bits rest : ℕ) → (nat_le bits most && rest == 0) ≡ true → (bits ≤ most) × (rest ≡ 0)
+no_rest most bits rest h = grind (arith, nat_tests)
 
--- a prefix of a site, of IPv4
-abbrev IsIpv4Prefix : Prefix → Type 0
-IsIpv4Prefix prefix = IsIpv4 prefix.addr × IsSitePrefix prefix
+has_bits : (addr : Addr) (bits : ℕ) → is_prefix addr bits ≡ true → IsPrefixOf addr bits
+has_bits (V4 octets) bits h = no_rest 32 bits (from_be_bytes w32 octets % 2 ^ (32 - bits)) h
+has_bits (V6 octets) bits h = no_rest 128 bits (from_be_bytes w128 octets % 2 ^ (128 - bits)) h
 
-site_prefix : (addr : Addr) (bits : ℕ) → IsIpv4 addr → is_prefix addr bits ≡ true → IsIpv4Prefix (record { addr = addr; bits = bits })
-site_prefix (V4 octets) bits four h = (four, record { addr = four; bits = no_rest bits (from_be_bytes w32 octets % 2 ^ (32 - bits)) h })
-site_prefix (V6 octets) bits four h = absurd four
-
-prefix_finds : (text : List ℕ) → Finds IsIpv4Prefix (prefix_of text)
+prefix_finds : (text : List ℕ) → Finds IsSitePrefix (prefix_of text)
 unfolding prefix_of
-prefix_finds text = bind_finds _ (cut_of 47 text) _ (λ cut _. bind_finds _ (addr_of cut.0) _ (λ addr a. bind_finds _ (number_of cut.1) _ (λ bits _. only_finds _ (is_prefix addr bits) _ (site_prefix addr bits ((addr_finds cut.0).holds addr a)))))
+prefix_finds text =
+    bind_finds _ (cut_of 47 text) _ (λ cut _. bind_finds _ (addr_of cut.0) _ (λ addr a. bind_finds _ (number_of cut.1) _ (λ bits _. only_finds _ (is_prefix addr bits) _ (λ p.
+    record { addr = (addr_finds cut.0).holds addr a; bits = has_bits addr bits p }))))
 
--- The prefixes are those of a site, and of IPv4.
+-- The prefixes are those of a site.
 pub record ArePrefixes (prefixes : List Prefix) : Type 0 where
   pub some : 0 < length prefixes
   pub few : length prefixes ≤ 8
-  pub ipv4 : All (λ prefix. IsIpv4 prefix.addr) prefixes
   pub each : All IsSitePrefix prefixes
   pub distinct : AllPairs (λ prefix other. same_prefix prefix other ≡ false) prefixes
 
@@ -360,16 +407,10 @@ prefixes_meets row word =
     or_fault_meets _ _ row word _ (record {
       holds = λ prefixes h.
           let list = list_is same_prefix prefix_of word.text prefixes h in
-          let each = each_holds IsIpv4Prefix prefix_of (λ text prefix p. (prefix_finds text).holds prefix p) _ prefixes list.each in
           record {
             some = list.some;
             few = list.few;
-            ipv4 = all_weaker IsIpv4Prefix (λ prefix. IsIpv4 prefix.addr) prefixes (λ prefix p. p.0) each;
-            each = all_weaker IsIpv4Prefix IsSitePrefix prefixes (λ prefix p. p.1) each;
+            each = each_holds IsSitePrefix prefix_of (λ text prefix p. (prefix_finds text).holds prefix p) _ prefixes list.each;
             distinct = distinct_pairs same_prefix prefixes list.distinct;
           };
     })
-
-pub rule_meets : (row : Row) (word : Placed) → Meets (λ rule. (rule ≡ Highest) ⊎ (rule ≡ Nearest)) (rule_at row word)
-unfolding rule_at
-rule_meets row word = either_meets _ _ _ _ (ok_meets _ Highest (inl refl)) (then_meets _ _ _ _ (λ _. ok_meets _ Nearest (inr refl)))

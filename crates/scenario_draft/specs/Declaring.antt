@@ -1,5 +1,5 @@
--- What a line of the scenario keeps to, given what the lines before it declared: the rules of a scenario and the forms that are
--- built, said of the one thing that the line declares and of each that is there.
+-- What a line of the scenario keeps to, given what the lines before it declared: the rules of a scenario, said of the one thing
+-- that the line declares and of each that is there.
 use Rattle.std.specs.Prelude.{◌≡◌, ℕ, ◌≤◌, ◌<◌, true, false, List, length, All, count_by}
 use Rattle.mv_base.specs.declared.core_link.Link.{Link}
 use Rattle.mv_base.specs.Address.{same_addr}
@@ -10,7 +10,6 @@ use Rattle.scenario_defs.specs.declared.scenario.Site.{Site}
 use Rattle.scenario_defs.specs.declared.scenario.Iface.{Iface}
 use Rattle.scenario_defs.specs.declared.scenario.Scenario.{Scenario}
 use Rattle.scenario_defs.specs.Names.{is_name}
-use Rattle.scenario_defs.specs.Built.{HasBuiltRule, IsIpv4Site}
 use Rattle.scenario_defs.specs.Rules.{IsIpv4, IsUnicast, IsVrf, AreApart, IsSite, IsIface, AreOfVpns}
 use Rattle.scenario_draft.specs.declared.line.Line.{Line}
 use Rattle.scenario_draft.specs.declared.line.Line.TheVariants as says
@@ -38,18 +37,15 @@ pub record MayBeLink (scenario : Scenario) (link : Link) : Type 0 where
 pub record MayBeVrf (scenario : Scenario) (vrf : Vrf) : Type 0 where
   pub few : length scenario.vrfs < 256
   pub own : IsVrf scenario vrf
-  pub built : HasBuiltRule vrf
   pub apart : All (λ other. AreApart other vrf) scenario.vrfs
 
 pub record MayBeSite (scenario : Scenario) (site : Site) : Type 0 where
   pub few : length scenario.sites < 512
   pub own : IsSite site
-  pub built : IsIpv4Site site
 
 pub record MayBeIface (scenario : Scenario) (iface : Iface) : Type 0 where
   pub few : length scenario.ifaces < 1024
   pub own : IsIface scenario iface
-  pub built : IsIpv4 iface.addr
   pub vpns : All (λ other. AreOfVpns scenario other iface) scenario.ifaces
 
 -- A line of the scenario declares what may be declared, numbered as the next one, or ends it where the core is connected.

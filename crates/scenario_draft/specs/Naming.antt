@@ -1,5 +1,5 @@
 -- The words that declare or name a thing: what each says, given what the lines before it declared, or the fault at it.
-use Rattle.std.specs.Prelude.{ℕ, ◌==◌, ◌||◌, ◌&&◌, Bool, nat_eq, List, slice_get, Option, None, Some, Result, Ok, if◌then◌else◌}
+use Rattle.std.specs.Prelude.{ℕ, ◌==◌, ◌||◌, ◌&&◌, Bool, false, nat_eq, List, slice_get, Option, None, Some, Result, Ok, if◌then◌else◌}
 use Rattle.std.specs.List.{list_any}
 use Rattle.std.specs.Map.{lookup}
 use Rattle.std.specs.Cmp.Lexicographic.{pointwise}
@@ -21,7 +21,7 @@ use Rattle.line_words.specs.declared.fault.Reason.TheVariants as reasons
 use Rattle.line_words.specs.declared.fault.TextFault.{TextFault}
 use Rattle.line_words.specs.declared.words.Row.{Row}
 use Rattle.line_words.specs.Words.{Placed}
-use Rattle.line_words.specs.Forms.{◌>>=◌, fault, or_fault, addr_at, is_unicast, vrf_number_of, rd_of}
+use Rattle.line_words.specs.Forms.{◌>>=◌, fault, or_fault, ipv4_at, is_unicast, same_family, vrf_number_of, rd_of}
 use Rattle.scenario_draft.specs.Drafted.{Drafted}
 
 -- the number of a thing, where it is a node
@@ -97,15 +97,19 @@ site_at draft row word = or_fault (site_named draft word.text) row word reasons.
 unfoldable pub iface_at : Drafted → Row → Placed → Result IfaceId TextFault
 iface_at draft row word = or_fault (iface_named draft word.text) row word reasons.Unknown
 
+-- whether the group is of the family of the interface's address
+abbrev pub is_of_iface : Drafted → IfaceId → Addr → Bool
+is_of_iface draft iface group = elim (slice_get draft.scenario.ifaces iface.0) [ None ↦ false | Some own ↦ same_family own.addr group ]
+
 -- whether a node has the address
 abbrev pub is_at : Addr → Node → Bool
 is_at addr node = same_addr node.addr addr
 
--- a word that writes the address of a new node: the fault is `Address` where it writes none, or one that is not unicast,
--- and `Again` where a node has it
+-- a word that writes the address of a new node, of IPv4: the fault is `Address` where it writes none, or one that is not
+-- unicast, and `Again` where a node has it
 unfoldable pub node_addr_at : Drafted → Row → Placed → Result Addr TextFault
 node_addr_at draft row word =
-    addr_at row word >>= λ addr.
+    ipv4_at row word >>= λ addr.
     if is_unicast addr then
     (if list_any (is_at addr) draft.scenario.nodes then fault row.number word.column reasons.Again else Ok addr)
     else

@@ -3,13 +3,13 @@ ghost use Rattle.std.specs.Prelude.{◌≡◌};
 ghost use Rattle.std.specs.List.{list_any};
 ghost use Rattle.line_words.specs.Words.{placed_word};
 ghost use Rattle.scenario_draft.specs.Naming.{node_of, vrf_of, site_of, iface_of, node_named, edge_named, vrf_named, site_named};
-ghost use Rattle.scenario_draft.specs.Naming.{iface_named, new_name, node_at, edge_at, vrf_at, site_at, iface_at, is_at};
+ghost use Rattle.scenario_draft.specs.Naming.{iface_named, new_name, node_at, edge_at, vrf_at, site_at, iface_at, is_of_iface, is_at};
 ghost use Rattle.scenario_draft.specs.Naming.{node_addr_at, has_number, vrf_number_at, has_rd, rd_at, joins, other_end_at};
 
 use crate::draft::Draft;
 use line_words::{
-    Reason, Row, TextFault, Word, addr_at, fault_at, is_name, is_unicast, or_fault, rd_of,
-    vrf_number_of,
+    Reason, Row, TextFault, Word, fault_at, ipv4_at, is_name, is_unicast, or_fault, rd_of,
+    same_family, vrf_number_of,
 };
 use mv_base::{Addr, IfaceId, Link, NodeId, Rd, SiteId, VrfId};
 use scenario_defs::{Name, Node, Thing, Vrf};
@@ -152,19 +152,29 @@ pub fn iface_at(draft: &Draft, row: Row, word: &Word) -> Result<IfaceId, TextFau
     or_fault(iface_named(draft, word.text), row, word, Reason::Unknown)
 }
 
+/// Whether the group is of the family of the interface's address.
+pub fn is_of_iface(draft: &Draft, iface: IfaceId, group: Addr) -> bool
+    ensures { result ≡ is_of_iface draft.now iface group }
+{
+    match draft.scenario().ifaces.as_slice().get(usize::from(iface.0)) {
+        Some(own) => same_family(own.addr, group),
+        None => false,
+    }
+}
+
 fn is_at_any(addr: Addr, nodes: &[Node]) -> bool
     ensures { result ≡ list_any (is_at addr) nodes.now }
 {
     nodes.iter().any(|node| node.addr.same(addr))
 }
 
-/// The address of a new node: `Address` where the word writes none, or one that is not unicast; `Again` where a node
-/// has it.
+/// The address of a new node, of IPv4: `Address` where the word writes none, or one that is not unicast; `Again` where a
+/// node has it.
 #[tactic(auto, unfolding(crate::specs::Naming::node_addr_at))]
 pub fn node_addr_at(draft: &Draft, row: Row, word: &Word) -> Result<Addr, TextFault>
     ensures { result ≡ node_addr_at draft.now row (placed_word word.now) }
 {
-    let addr = addr_at(row, word)?;
+    let addr = ipv4_at(row, word)?;
     if !is_unicast(addr) {
         return Err(fault_at(row.number, word.column, Reason::Address));
     }
@@ -229,7 +239,8 @@ fn joins(a: NodeId, b: NodeId, link: &Link) -> bool
     (link.a.0 == a.0 && link.b.0 == b.0) || (link.a.0 == b.0 && link.b.0 == a.0)
 }
 
-fn are_joined(a: NodeId, b: NodeId, links: &[Link]) -> bool
+/// Whether a link joins both nodes, in either order.
+pub fn are_joined(a: NodeId, b: NodeId, links: &[Link]) -> bool
     ensures { result ≡ list_any (joins a b) links.now }
 {
     links.iter().any(|link| joins(a, b, link))

@@ -5,14 +5,10 @@ use Rattle.std.specs.List.{list_any}
 use Rattle.std.proofs.lemmas.Bool.{or_parts, and_from}
 use Rattle.std.proofs.lemmas.Bool.Decides.{nat_tests}
 use Rattle.mv_base.specs.declared.core_link.Link.{Link}
-use Rattle.mv_base.specs.declared.addr.Addr.{Addr}
-use Rattle.mv_base.specs.declared.addr.Addr.TheVariants.{V4, V6}
-use Rattle.mv_base.specs.Address.{IsAddr}
 use Rattle.mv_base.specs.declared.ids.NodeId.{NodeId}
 use Rattle.mv_base.specs.declared.ids.VrfId.{VrfId}
 use Rattle.mv_base.specs.declared.ids.SiteId.{SiteId}
 use Rattle.mv_base.specs.declared.ids.IfaceId.{IfaceId}
-use Rattle.mv_base.specs.declared.rd.Rule.TheVariants.{Highest, Nearest}
 use Rattle.mv_base.specs.Number.{number_of}
 use Rattle.core_walks.specs.Topology.{JoinsSamePair, IsTopology, IsConnected}
 use Rattle.core_walks.specs.Reached.{is_connected}
@@ -23,24 +19,24 @@ use Rattle.scenario_defs.specs.declared.scenario.Iface.{Iface}
 use Rattle.scenario_defs.specs.declared.scenario.Scenario.{Scenario}
 use Rattle.scenario_defs.specs.Prefixes.{prefixes_of, share_prefix}
 use Rattle.scenario_defs.specs.Vpn.{same_vpn}
-use Rattle.scenario_defs.specs.Rules.{IsIpv4, IsEdge, IsRd, IsTarget, IsVrf, AreApart, IsIface, AreOfVpns}
+use Rattle.scenario_defs.specs.Rules.{IsEdge, IsRd, IsTarget, IsVrf, AreApart, IsIface, AreOfVpns}
 use Rattle.line_words.specs.declared.fault.Reason.TheVariants as reasons
 use Rattle.line_words.specs.declared.words.Row.{Row}
 use Rattle.line_words.specs.Words.{Placed}
 use Rattle.line_words.proofs.ListFacts.{none_any}
-use Rattle.line_words.specs.Forms.{or_fault, addr_at, prefixes_at, rule_at, targets_at}
+use Rattle.line_words.specs.Forms.{number_to, or_fault, addr_at, prefixes_at, rule_at, targets_at}
 use Rattle.scenario_draft.specs.declared.setting.Setting.{Setting}
 use Rattle.scenario_draft.specs.Drafted.{Drafted}
 use Rattle.scenario_draft.specs.Settings.{highest, is_given}
 use Rattle.scenario_draft.specs.Naming.{new_name, node_addr_at, node_at, other_end_at, vrf_number_at, rd_at, edge_at, vrf_at, site_at}
 use Rattle.scenario_draft.specs.Declaring.{IsNewName, MayBeNode, MayBeLink, MayBeVrf, MayBeSite, MayBeIface, IsDeclared}
-use Rattle.scenario_draft.proofs.WordFacts.{Meets, Finds, ok_meets, err_meets, bind_meets, if_meets, then_meets, bind_finds, only_finds, or_fault_meets, within, node_meets, vrf_meets, site_meets, addr_meets, name_meets, edge_meets, node_addr_meets, vrf_number_meets, rd_meets, rd_formed, targets_formed, other_end_meets, targets_meets, prefixes_meets, rule_meets, below}
+use Rattle.scenario_draft.proofs.WordFacts.{Meets, Finds, ok_meets, err_meets, bind_meets, if_meets, then_meets, bind_finds, only_finds, or_fault_meets, within, to_limit, node_meets, vrf_meets, site_meets, addr_meets, name_meets, edge_meets, node_addr_meets, vrf_number_meets, rd_meets, rd_formed, targets_formed, other_end_meets, targets_meets, prefixes_meets, below}
 use Rattle.scenario_lines.specs.declared.vrf_lines.VrfHead.{VrfHead}
 use Rattle.scenario_lines.specs.declared.vrf_lines.VrfTail.{VrfTail}
 use Rattle.scenario_lines.specs.declared.scenario_lines.ScenarioWord.{ScenarioWord}
 use Rattle.scenario_lines.specs.declared.scenario_lines.ScenarioWord.TheVariants as word_kinds
 use Rattle.scenario_lines.specs.SettingGrammar.{value_of, setting_words, setting_line}
-use Rattle.scenario_lines.specs.NodeGrammar.{node_words, node_counted, is_full, node_line, cost_of, link_between, link_words, link_counted, link_line}
+use Rattle.scenario_lines.specs.NodeGrammar.{node_words, node_counted, is_full, node_line, link_between, link_words, link_counted, link_line}
 use Rattle.scenario_lines.specs.VrfGrammar.{vrf_head, vrf_tail, overlaps, is_vpn_at, vrf_rules, vrf_words, vrf_counted, vrf_line}
 use Rattle.scenario_lines.specs.SiteGrammar.{site_words, site_counted, site_line, is_mixed, is_taken, iface_rules, iface_parts, iface_words, iface_counted, iface_line}
 use Rattle.scenario_lines.specs.ScenarioGrammar.{events_line, scenario_word, scenario_words, scenario_line}
@@ -115,10 +111,6 @@ node_line_meets draft row edge first rest =
 
 -- ---- links
 
-cost_finds : (text : List ℕ) → Finds (λ cost. (1 ≤ cost) × (cost ≤ 65535)) (cost_of text)
-unfolding cost_of
-cost_finds text = bind_finds _ (number_of text) _ (λ cost _. only_finds _ (nat_le 1 cost && nat_le cost 65535) cost (λ b. within cost 1 65535 b))
-
 link_between_meets : (draft : Drafted) (row : Row) (b : Placed) (link : Link) → length draft.scenario.links < 256 → link.a.0 < length draft.scenario.nodes → link.b.0 < length draft.scenario.nodes → (1 ≤ link.cost) × (link.cost ≤ 65535) → All (λ other. ¬ (JoinsSamePair other link)) draft.scenario.links → Meets (IsDeclared draft) (link_between row b link.a link.b link.cost)
 unfolding link_between
 link_between_meets draft row b link few from to cost once =
@@ -128,9 +120,9 @@ link_between_meets draft row b link few from to cost once =
 link_words_meets : (draft : Drafted) (row : Row) (a b c : Placed) → length draft.scenario.links < 256 → Meets (IsDeclared draft) (link_words draft row a b c)
 unfolding link_words
 link_words_meets draft row a b c few =
-    bind_meets _ (node_at draft row a) _ (λ from f. bind_meets _ (other_end_at draft row from b) _ (λ to t. bind_meets _ (or_fault (cost_of c.text) row c reasons.Number) _ (λ cost p.
+    bind_meets _ (node_at draft row a) _ (λ from f. bind_meets _ (other_end_at draft row from b) _ (λ to t. bind_meets _ (or_fault (number_to 65535 c.text) row c reasons.Number) _ (λ cost p.
     let other = (other_end_meets draft row from b).holds to t in
-    let price = (or_fault_meets _ (cost_of c.text) row c reasons.Number (cost_finds c.text)).holds cost p in
+    let price = (or_fault_meets _ (number_to 65535 c.text) row c reasons.Number (to_limit 65535 c.text)).holds cost p in
     let link : Link = record { a = from; b = to; cost = cost } in
     link_between_meets draft row b link few ((node_meets draft row a).holds from f) other.0 price (other.1 cost))))
 
@@ -163,7 +155,6 @@ record TailFacts (draft : Drafted) (edge : NodeId) (tail : VrfTail) : Type 0 whe
   some : 0 < length tail.targets
   few : length tail.targets ≤ 8
   distinct : AllPairs (λ target other. same_target target other ≡ false) tail.targets
-  rule : (tail.rule ≡ Highest) ⊎ (tail.rule ≡ Nearest)
 
 vrf_head_meets : (draft : Drafted) (row : Row) (a b c : Placed) → Meets (HeadFacts draft) (vrf_head draft row a b c)
 unfolding vrf_head
@@ -175,9 +166,9 @@ vrf_head_meets draft row a b c =
 vrf_tail_meets : (draft : Drafted) (row : Row) (edge : NodeId) (d e f : Placed) → Meets (TailFacts draft edge) (vrf_tail draft row edge d e f)
 unfolding vrf_tail
 vrf_tail_meets draft row edge d e f =
-    bind_meets _ (rd_at draft row edge d) _ (λ rd r. bind_meets _ (targets_at row e) _ (λ targets t. bind_meets _ (rule_at row f) _ (λ rule u.
+    bind_meets _ (rd_at draft row edge d) _ (λ rd r. bind_meets _ (targets_at row e) _ (λ targets t. bind_meets _ (rule_at row f) _ (λ rule _.
     let own = (targets_meets row e).holds targets t in
-    let facts : TailFacts draft edge (record { rd = rd; targets = targets; rule = rule }) = record { rd = (rd_formed draft row edge d).holds rd r; each = (targets_formed row e).holds targets t; rds = (rd_meets draft row edge d).holds rd r; some = own.0; few = own.1; distinct = own.2; rule = (rule_meets row f).holds rule u } in ok_meets _ _ facts)))
+    let facts : TailFacts draft edge (record { rd = rd; targets = targets; rule = rule }) = record { rd = (rd_formed draft row edge d).holds rd r; each = (targets_formed row e).holds targets t; rds = (rd_meets draft row edge d).holds rd r; some = own.0; few = own.1; distinct = own.2 } in ok_meets _ _ facts)))
 
 -- the sets share no member, unless they are equal
 equal_or_apart : (common equal : Bool) → (common && not equal) ≡ false → (equal ≡ true) ⊎ (common ≡ false)
@@ -202,7 +193,7 @@ vrf_rules_meets draft row id e head tail next few h t =
     let no_overlap = none_any (overlaps tail.targets) draft.scenario.vrfs sets in
     let no_vpn = none_any (is_vpn_at head.edge tail.targets) draft.scenario.vrfs vpns in
     let apart : All (λ other. AreApart other vrf) draft.scenario.vrfs = λ k d l. apart_from (slice_index_or draft.scenario.vrfs k d) vrf (no_overlap k d l) (no_vpn k d l) (h.numbers k d l) (t.rds k d l) in
-    let may : MayBeVrf draft.scenario vrf = record { few = few; own = own; built = t.rule; apart = apart } in
+    let may : MayBeVrf draft.scenario vrf = record { few = few; own = own; apart = apart } in
     let facts : (id.0 ≡ length draft.scenario.vrfs) × IsNewName draft head.name × MayBeVrf draft.scenario vrf = (next, h.name, may) in ok_meets _ _ facts))
 
 vrf_words_meets : (draft : Drafted) (row : Row) (id : VrfId) (a b c d e f : Placed) → id.0 ≡ length draft.scenario.vrfs → length draft.scenario.vrfs < 256 → Meets (IsDeclared draft) (vrf_words draft row id a b c d e f)
@@ -233,7 +224,7 @@ unfolding site_words
 site_words_meets draft row id a b next few =
     bind_meets _ (new_name draft row a) _ (λ name n. bind_meets _ (prefixes_at row b) _ (λ prefixes p.
     let own = (prefixes_meets row b).holds prefixes p in
-    let may : MayBeSite draft.scenario (record { name = name; prefixes = prefixes }) = record { few = few; own = record { some = own.some; few = own.few; each = own.each; distinct = own.distinct }; built = own.ipv4 } in
+    let may : MayBeSite draft.scenario (record { name = name; prefixes = prefixes }) = record { few = few; own = record { some = own.some; few = own.few; each = own.each; distinct = own.distinct } } in
     let facts : (id.0 ≡ length draft.scenario.sites) × IsNewName draft name × MayBeSite draft.scenario (record { name = name; prefixes = prefixes }) = (next, (name_meets draft row a).holds name n, may) in ok_meets _ _ facts))
 
 site_counted_meets : (draft : Drafted) (row : Row) (id : SiteId) (words : List Placed) → id.0 ≡ length draft.scenario.sites → length draft.scenario.sites < 512 → Meets (IsDeclared draft) (site_counted draft row id words)
@@ -255,32 +246,27 @@ of_vpns scenario other iface mixed taken = record {
   taken = λ n e. both_fail (not (other.site.0 == iface.site.0) && same_vpn scenario other.vrf iface.vrf) (share_prefix (prefixes_of scenario iface.site) (prefixes_of scenario other.site)) taken (and_from _ _ (is_unequal other.site.0 iface.site.0 n) e);
 }
 
-iface_rules_meets : (draft : Drafted) (row : Row) (id : IfaceId) (c : Placed) (iface : Iface) → id.0 ≡ length draft.scenario.ifaces → length draft.scenario.ifaces < 1024 → IsNewName draft iface.name → IsIface draft.scenario iface → IsIpv4 iface.addr → Meets (IsDeclared draft) (iface_rules draft row id c iface)
+iface_rules_meets : (draft : Drafted) (row : Row) (id : IfaceId) (c : Placed) (iface : Iface) → id.0 ≡ length draft.scenario.ifaces → length draft.scenario.ifaces < 1024 → IsNewName draft iface.name → IsIface draft.scenario iface → Meets (IsDeclared draft) (iface_rules draft row id c iface)
 unfolding iface_rules
-iface_rules_meets draft row id c iface next few name own four =
+iface_rules_meets draft row id c iface next few name own =
     if_meets _ (list_any (is_mixed draft.scenario iface) draft.scenario.ifaces) _ _ (λ mixed. if_meets _ (list_any (is_taken draft.scenario iface) draft.scenario.ifaces) _ _ (λ taken.
     let none_mixed = none_any (is_mixed draft.scenario iface) draft.scenario.ifaces mixed in
     let none_taken = none_any (is_taken draft.scenario iface) draft.scenario.ifaces taken in
     let vpns : All (λ other. AreOfVpns draft.scenario other iface) draft.scenario.ifaces = λ k d l. of_vpns draft.scenario (slice_index_or draft.scenario.ifaces k d) iface (none_mixed k d l) (none_taken k d l) in
-    let may : MayBeIface draft.scenario iface = record { few = few; own = own; built = four; vpns = vpns } in
+    let may : MayBeIface draft.scenario iface = record { few = few; own = own; vpns = vpns } in
     let facts : (id.0 ≡ length draft.scenario.ifaces) × IsNewName draft iface.name × MayBeIface draft.scenario iface = (next, name, may) in ok_meets _ _ facts))
 
-ipv4_addr : (addr : Addr) → IsIpv4 addr → IsAddr addr
-ipv4_addr (V4 octets) four = four
-ipv4_addr (V6 octets) four = absurd four
-
-iface_parts_meets : (draft : Drafted) (row : Row) (a b c d : Placed) → Meets (λ iface. IsNewName draft iface.name × IsIface draft.scenario iface × IsIpv4 iface.addr) (iface_parts draft row a b c d)
+iface_parts_meets : (draft : Drafted) (row : Row) (a b c d : Placed) → Meets (λ iface. IsNewName draft iface.name × IsIface draft.scenario iface) (iface_parts draft row a b c d)
 unfolding iface_parts
 iface_parts_meets draft row a b c d =
     bind_meets _ (new_name draft row a) _ (λ name n. bind_meets _ (vrf_at draft row b) _ (λ vrf v. bind_meets _ (site_at draft row c) _ (λ site s. bind_meets _ (addr_at row d) _ (λ addr p.
-    let four = (addr_meets row d).holds addr p in
-    let own : IsIface draft.scenario (record { name = name; vrf = vrf; site = site; addr = addr }) = record { vrf = (vrf_meets draft row b).holds vrf v; site = (site_meets draft row c).holds site s; addr = ipv4_addr addr four } in
-    let facts : IsNewName draft name × IsIface draft.scenario (record { name = name; vrf = vrf; site = site; addr = addr }) × IsIpv4 addr = ((name_meets draft row a).holds name n, own, four) in ok_meets _ _ facts))))
+    let own : IsIface draft.scenario (record { name = name; vrf = vrf; site = site; addr = addr }) = record { vrf = (vrf_meets draft row b).holds vrf v; site = (site_meets draft row c).holds site s; addr = (addr_meets row d).holds addr p } in
+    let facts : IsNewName draft name × IsIface draft.scenario (record { name = name; vrf = vrf; site = site; addr = addr }) = ((name_meets draft row a).holds name n, own) in ok_meets _ _ facts))))
 
 iface_words_meets : (draft : Drafted) (row : Row) (id : IfaceId) (a b c d : Placed) → id.0 ≡ length draft.scenario.ifaces → length draft.scenario.ifaces < 1024 → Meets (IsDeclared draft) (iface_words draft row id a b c d)
 unfolding iface_words
 iface_words_meets draft row id a b c d next few =
-    bind_meets _ (iface_parts draft row a b c d) _ (λ iface i. let known = (iface_parts_meets draft row a b c d).holds iface i in iface_rules_meets draft row id c iface next few known.0 known.1 known.2)
+    bind_meets _ (iface_parts draft row a b c d) _ (λ iface i. let known = (iface_parts_meets draft row a b c d).holds iface i in iface_rules_meets draft row id c iface next few known.0 known.1)
 
 iface_counted_meets : (draft : Drafted) (row : Row) (id : IfaceId) (words : List Placed) → id.0 ≡ length draft.scenario.ifaces → length draft.scenario.ifaces < 1024 → Meets (IsDeclared draft) (iface_counted draft row id words)
 unfolding iface_counted
@@ -318,4 +304,4 @@ scenario_words_meets draft row word_kinds.Events first rest topology = events_li
 -- A line of the scenario that is without fault declares what may be declared.
 pub scenario_line_meets : (draft : Drafted) (row : Row) (first : Placed) (rest : List Placed) → IsTopology (length draft.scenario.nodes) draft.scenario.links → Meets (IsDeclared draft) (scenario_line draft row first rest)
 unfolding scenario_line
-scenario_line_meets draft row first rest topology = bind_meets _ (scenario_word row first) _ (λ kind _. if_meets _ _ _ _ (λ built. scenario_words_meets draft row kind first rest topology))
+scenario_line_meets draft row first rest topology = bind_meets _ (scenario_word row first) _ (λ kind _. scenario_words_meets draft row kind first rest topology)

@@ -1,13 +1,12 @@
 -- The lines of nodes and links: what each says, or its first fault.
-use Rattle.std.specs.Prelude.{ℕ, ◌==◌, ◌||◌, ◌&&◌, Bool, nat_le, List, [], ◌∷◌, length, count_by, Option, Result, Ok, if◌then◌else◌}
+use Rattle.std.specs.Prelude.{ℕ, ◌==◌, ◌||◌, ◌&&◌, Bool, nat_le, List, [], ◌∷◌, length, count_by, Result, Ok, if◌then◌else◌}
 use Rattle.mv_base.specs.declared.ids.NodeId.{NodeId}
-use Rattle.mv_base.specs.Number.{number_of, only_if, ◌>>?◌}
 use Rattle.scenario_defs.specs.declared.scenario.Scenario.{Scenario}
 use Rattle.line_words.specs.declared.fault.Reason.TheVariants as reasons
 use Rattle.line_words.specs.declared.fault.TextFault.{TextFault}
 use Rattle.line_words.specs.declared.words.Row.{Row}
 use Rattle.line_words.specs.Words.{Placed}
-use Rattle.line_words.specs.Forms.{fault, ◌>>=◌, or_fault}
+use Rattle.line_words.specs.Forms.{fault, ◌>>=◌, number_to, or_fault}
 use Rattle.scenario_draft.specs.declared.line.Line.{Line}
 use Rattle.scenario_draft.specs.declared.line.Line.TheVariants as says
 use Rattle.scenario_draft.specs.Drafted.{Drafted}
@@ -37,10 +36,6 @@ node_line draft row edge first rest =
     if is_full draft.scenario edge then fault row.number first.column reasons.Limit else
     node_counted draft row edge (record { 0 = length draft.scenario.nodes }) rest
 
--- the cost of a link that a text writes
-unfoldable pub cost_of : List ℕ → Option ℕ
-cost_of text = number_of text >>? λ cost. only_if (nat_le 1 cost && nat_le cost 65535) cost
-
 -- the link, whose ends are two nodes
 unfoldable pub link_between : Row → Placed → NodeId → NodeId → ℕ → Result Line TextFault
 link_between row b from to cost =
@@ -50,7 +45,7 @@ link_between row b from to cost =
 unfoldable pub link_words : Drafted → Row → Placed → Placed → Placed → Result Line TextFault
 link_words draft row a b c =
     node_at draft row a >>= λ from. other_end_at draft row from b >>= λ to.
-    or_fault (cost_of c.text) row c reasons.Number >>= λ cost. link_between row b from to cost
+    or_fault (number_to 65535 c.text) row c reasons.Number >>= λ cost. link_between row b from to cost
 
 -- the words behind `link`
 unfoldable pub link_counted : Drafted → Row → List Placed → Result Line TextFault

@@ -1,5 +1,5 @@
 -- The lines of a scenario: what each says, or its first fault.
-use Rattle.std.specs.Prelude.{Bool, true, false, nat_eq, List, [], ◌∷◌, length, None, Some, Result, Ok, if◌then◌else◌, codes}
+use Rattle.std.specs.Prelude.{true, false, nat_eq, List, [], ◌∷◌, length, None, Some, Result, Ok, if◌then◌else◌, codes}
 use Rattle.std.specs.Cmp.Lexicographic.{pointwise}
 use Rattle.core_walks.specs.Reached.{is_connected}
 use Rattle.line_words.specs.declared.fault.Reason.TheVariants as reasons
@@ -7,7 +7,6 @@ use Rattle.line_words.specs.declared.fault.TextFault.{TextFault}
 use Rattle.line_words.specs.declared.words.Row.{Row}
 use Rattle.line_words.specs.Words.{Placed}
 use Rattle.line_words.specs.Forms.{fault, ◌>>=◌}
-use Rattle.line_words.specs.Unbuilt.{is_ipv6, has_ipv6_prefix}
 use Rattle.scenario_draft.specs.declared.line.Line.{Line}
 use Rattle.scenario_draft.specs.declared.line.Line.TheVariants as says
 use Rattle.scenario_draft.specs.Drafted.{Drafted}
@@ -50,35 +49,6 @@ scenario_words draft row word_kinds.Iface first rest = iface_line draft row firs
 scenario_words draft row (word_kinds.Setting setting) first rest = setting_line draft row setting first rest
 scenario_words draft row word_kinds.Events first rest = events_line draft row rest
 
--- whether the rule behind the RD and the targets of a VRF is one that is not built yet
-abbrev pub ends_in_hash : List Placed → Bool
-ends_in_hash (d ∷ e ∷ f ∷ more) = pointwise nat_eq f.text (codes "hash")
-ends_in_hash other = false
-
--- the same, behind the name, the edge and the number
-abbrev pub names_hash : List Placed → Bool
-names_hash (a ∷ b ∷ c ∷ more) = ends_in_hash more
-names_hash other = false
-
--- whether a site has a prefix of IPv6
-abbrev pub has_ipv6_site : List Placed → Bool
-has_ipv6_site (a ∷ b ∷ more) = has_ipv6_prefix b.text
-has_ipv6_site other = false
-
--- whether an interface has an address of IPv6
-abbrev pub has_ipv6_addr : List Placed → Bool
-has_ipv6_addr (a ∷ b ∷ c ∷ d ∷ more) = is_ipv6 d.text
-has_ipv6_addr other = false
-
--- whether the line is of a form that is not built yet
-abbrev pub is_unbuilt_form : ScenarioWord → List Placed → Bool
-is_unbuilt_form word_kinds.Vrf rest = names_hash rest
-is_unbuilt_form word_kinds.Site rest = has_ipv6_site rest
-is_unbuilt_form word_kinds.Iface rest = has_ipv6_addr rest
-is_unbuilt_form other rest = false
-
 -- a line of the scenario
 unfoldable pub scenario_line : Drafted → Row → Placed → List Placed → Result Line TextFault
-scenario_line draft row first rest =
-    scenario_word row first >>= λ kind.
-    if is_unbuilt_form kind rest then fault row.number first.column reasons.Later else scenario_words draft row kind first rest
+scenario_line draft row first rest = scenario_word row first >>= λ kind. scenario_words draft row kind first rest

@@ -1,11 +1,11 @@
 //! The lines of nodes and links.
 ghost use Rattle.std.specs.Prelude.{◌≡◌, map, count_by};
 ghost use Rattle.line_words.specs.Words.{placed_word};
-ghost use Rattle.scenario_lines.specs.NodeGrammar.{node_words, node_counted, is_full, node_line, cost_of, link_between, link_words};
+ghost use Rattle.scenario_lines.specs.NodeGrammar.{node_words, node_counted, is_full, node_line, link_between, link_words};
 ghost use Rattle.scenario_lines.specs.NodeGrammar.{link_counted, link_line};
 
-use line_words::{Reason, Row, TextFault, Word, fault_at, or_fault};
-use mv_base::{Link, NodeId, read_number};
+use line_words::{Reason, Row, TextFault, Word, fault_at, number_to, or_fault};
+use mv_base::{Link, NodeId};
 use scenario_defs::{Node, Scenario};
 use scenario_draft::{Draft, Line, new_name, node_addr_at, node_at, other_end_at};
 
@@ -16,7 +16,7 @@ const EDGE_LIMIT: usize = 32;
 
 const LINK_LIMIT: usize = 256;
 
-const COST_LIMIT: u64 = 65535;
+const COST_LIMIT: u32 = 65535;
 
 #[tactic(auto, unfolding(crate::specs::NodeGrammar::node_words))]
 fn node_words(
@@ -87,18 +87,6 @@ pub fn node_line(
     node_counted(draft, row, edge, NodeId(number as u16), rest)
 }
 
-#[tactic(auto, unfolding(crate::specs::NodeGrammar::cost_of))]
-fn cost_of(text: &[u8]) -> Option<u32>
-    ensures { result ≡ cost_of text.now }
-{
-    let cost = read_number(text)?;
-    if cost >= 1 && cost <= COST_LIMIT {
-        Some(cost as u32)
-    } else {
-        None
-    }
-}
-
 #[tactic(auto, unfolding(crate::specs::NodeGrammar::link_between))]
 fn link_between(row: Row, b: &Word, from: NodeId, to: NodeId, cost: u32) -> Result<Line, TextFault>
     ensures { result ≡ link_between row (placed_word b.now) from to cost }
@@ -121,7 +109,7 @@ fn link_words(draft: &Draft, row: Row, a: &Word, b: &Word, cost: &Word) -> Resul
 {
     let from = node_at(draft, row, a)?;
     let to = other_end_at(draft, row, from, b)?;
-    let cost = or_fault(cost_of(cost.text), row, cost, Reason::Number)?;
+    let cost = or_fault(number_to(cost.text, COST_LIMIT), row, cost, Reason::Number)?;
     link_between(row, b, from, to, cost)
 }
 

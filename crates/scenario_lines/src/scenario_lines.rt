@@ -4,17 +4,16 @@ ghost use Rattle.core_walks.specs.Topology.{IsTopology};
 ghost use Rattle.core_walks.specs.Reached.{is_connected};
 ghost use Rattle.line_words.specs.Answers.{Gives};
 ghost use Rattle.line_words.specs.Words.{placed_word};
-ghost use Rattle.scenario_lines.specs.ScenarioGrammar.{scenario_word, events_line, scenario_words, ends_in_hash, names_hash};
-ghost use Rattle.scenario_lines.specs.ScenarioGrammar.{has_ipv6_site, has_ipv6_addr, is_unbuilt_form, scenario_line};
+ghost use Rattle.scenario_lines.specs.ScenarioGrammar.{scenario_word, events_line, scenario_words, scenario_line};
 
 use crate::node_lines::{link_line, node_line};
 use crate::setting_lines::{setting_line, setting_of};
 use crate::site_lines::{iface_line, site_line};
 use crate::vrf_lines::vrf_line;
 use core_walks::is_connected;
-use line_words::{ReadFault, Reason, Row, TextFault, Word, fault_at, has_ipv6_prefix, is_ipv6};
+use line_words::{ReadFault, Reason, Row, TextFault, Word, fault_at};
 use scenario_draft::{Draft, Line, Setting};
-use std::alloc::{AllocError, Global};
+use std::alloc::Global;
 
 /// What the first word of a line begins.
 #[derive(Clone, Copy)]
@@ -103,56 +102,6 @@ fn scenario_words(
     }
 }
 
-/// Whether the rule behind the RD and the targets of a VRF is one that is not built yet.
-fn ends_in_hash(words: &[Word]) -> bool
-    ensures { result ≡ ends_in_hash (map placed_word words.now) }
-{
-    match words {
-        [_, _, rule, ..] => rule.text == b"hash".as_slice(),
-        _ => false,
-    }
-}
-
-/// The same, behind the name, the edge and the number.
-fn names_hash(words: &[Word]) -> bool
-    ensures { result ≡ names_hash (map placed_word words.now) }
-{
-    match words {
-        [_, _, _, rest @ ..] => ends_in_hash(rest),
-        _ => false,
-    }
-}
-
-fn has_ipv6_site(alloc: Global, words: &[Word]) -> Result<bool, AllocError>
-    ensures { IfOk result (λ found. found ≡ has_ipv6_site (map placed_word words.now)) }
-{
-    match words {
-        [_, prefixes, ..] => has_ipv6_prefix(alloc, prefixes.text),
-        _ => Ok(false),
-    }
-}
-
-fn has_ipv6_addr(words: &[Word]) -> bool
-    ensures { result ≡ has_ipv6_addr (map placed_word words.now) }
-{
-    match words {
-        [_, _, _, addr, ..] => is_ipv6(addr.text),
-        _ => false,
-    }
-}
-
-/// Whether the line is of a form that is not built yet; or want of memory.
-fn is_unbuilt_form(alloc: Global, kind: ScenarioWord, rest: &[Word]) -> Result<bool, AllocError>
-    ensures { IfOk result (λ found. found ≡ is_unbuilt_form kind (map placed_word rest.now)) }
-{
-    match kind {
-        ScenarioWord::Vrf => Ok(names_hash(rest)),
-        ScenarioWord::Site => has_ipv6_site(alloc, rest),
-        ScenarioWord::Iface => Ok(has_ipv6_addr(rest)),
-        _ => Ok(false),
-    }
-}
-
 /// A line of the scenario by its words. The nodes and links so far are a topology, so that the last line can ask whether it
 /// is connected.
 #[tactic(auto, unfolding(crate::specs::ScenarioGrammar::scenario_line))]
@@ -167,8 +116,5 @@ pub fn scenario_line(
     ensures { Gives result (scenario_line draft.now row (placed_word first.now) (map placed_word rest.now)) }
 {
     let kind = scenario_word(row, first)?;
-    if is_unbuilt_form(alloc, kind, rest)? {
-        return Err(ReadFault::Text(fault_at(row.number, first.column, Reason::Later)));
-    }
     scenario_words(alloc, draft, row, kind, first, rest)
 }

@@ -4,7 +4,6 @@ use Rattle.std.specs.Prelude.{Result, Ok, Err}
 use Rattle.std.specs.List.{AllByRecursion, slice_split}
 use Rattle.std.proofs.lemmas.Bool.Decides.{nat_tests}
 use Rattle.core_walks.specs.Topology.{IsTopology}
-use Rattle.scenario_defs.specs.Built.{IsBuiltScenario}
 use Rattle.line_words.specs.declared.fault.TextFault.{TextFault}
 use Rattle.line_words.specs.declared.words.Row.{Row}
 use Rattle.line_words.specs.Words.{Placed, placed, words_of}
@@ -16,13 +15,13 @@ use Rattle.scenario_draft.specs.Adding.{IsNew}
 use Rattle.scenario_draft.specs.Declaring.{IsDeclared}
 use Rattle.scenario_draft.proofs.WordFacts.{Meets, ok_meets, err_meets, if_meets}
 use Rattle.scenario_lines.proofs.LineFacts.{scenario_line_meets}
-use Rattle.event_lines.proofs.EventFacts.{IsTold, IsToldBelow, event_line_meets}
+use Rattle.event_lines.proofs.RuleFacts.{IsTold}
+use Rattle.event_lines.proofs.EventFacts.{IsToldBelow, event_line_meets}
 use Rattle.scenario_text.specs.Grammar.{row_of, words_line, line_of}
 
--- The nodes and links so far are a topology, and all is of forms that are built.
-pub record IsSound (draft : Drafted) : Type 0 where
-  pub topology : IsTopology (length draft.scenario.nodes) draft.scenario.links
-  pub built : IsBuiltScenario draft.scenario
+-- The nodes and links so far are a topology.
+abbrev pub IsSound : Drafted → Type 0
+IsSound draft = IsTopology (length draft.scenario.nodes) draft.scenario.links
 
 -- What a line keeps to: it says nothing, is of the scenario, or is of an event.
 abbrev pub IsSaid : Drafted → Line → Type 0
@@ -35,7 +34,7 @@ begun_meets draft false x y e h k = record { holds = λ said s. inr (inl (e, k.h
 words_line_meets : (draft : Drafted) (row : Row) (words : List Placed) → IsSound draft → AllByRecursion (λ w. length w.text ≤ 4096) words → Meets (IsSaid draft) (words_line draft row words)
 unfolding words_line
 words_line_meets draft row [] core h = ok_meets _ _ (inl refl)
-words_line_meets draft row (first ∷ rest) core h = begun_meets draft draft.begun _ _ refl (event_line_meets draft core.built row first rest h.1) (scenario_line_meets draft row first rest core.topology)
+words_line_meets draft row (first ∷ rest) core h = begun_meets draft draft.begun _ _ refl (event_line_meets draft row first rest h.1) (scenario_line_meets draft row first rest core)
 
 -- The words of a line are no longer than the line.
 placed_if : (n column : ℕ) (part : List ℕ) (more : List Placed) (b : Bool) → length part ≤ n → AllByRecursion (λ w. length w.text ≤ n) more → AllByRecursion (λ w. length w.text ≤ n) (cond b more (record { column = column; text = part } ∷ more))
@@ -50,11 +49,11 @@ words_short : (octets : List ℕ) → length octets ≤ 4096 → AllByRecursion 
 unfolding words_of
 words_short octets h = placed_short 4096 1 (slice_split (λ b. b == 32) octets) (omega (arith, total-slice_split (λ b. b == 32) octets))
 
-blank_meets : (draft : Drafted) (b : Bool) (r : Result Line TextFault) → Meets (IsSaid draft) r → Meets (IsSaid draft) (cond b (Ok says.Blank) r)
-blank_meets draft true r h = ok_meets _ _ (inl refl)
-blank_meets draft false r h = h
+pub blank_meets : (P : Line → Type 0) (b : Bool) (r : Result Line TextFault) → P says.Blank → Meets P r → Meets P (cond b (Ok says.Blank) r)
+blank_meets P true r blank h = ok_meets P says.Blank blank
+blank_meets P false r blank h = h
 
-outside_meets : (P : Line → Type 0) (o : Option ℕ) (f : ℕ → TextFault) (r : Result Line TextFault) → Meets P r → Meets P (elim o [ Some place ↦ Err (f place) | None ↦ r ])
+pub outside_meets : (P : Line → Type 0) (o : Option ℕ) (f : ℕ → TextFault) (r : Result Line TextFault) → Meets P r → Meets P (elim o [ Some place ↦ Err (f place) | None ↦ r ])
 outside_meets P (Some place) f r h = err_meets P _
 outside_meets P None f r h = h
 
@@ -65,7 +64,7 @@ at_most_line n h = grind (arith, nat_tests)
 pub line_meets : (draft : Drafted) (number : ℕ) (octets : List ℕ) → IsSound draft → Meets (IsSaid draft) (line_of draft number octets)
 unfolding line_of
 line_meets draft number octets core =
-    blank_meets draft _ _ (if_meets _ _ _ _ (λ short. outside_meets _ _ _ _ (words_line_meets draft (row_of number octets) (words_of octets) core (words_short octets (at_most_line (length octets) short)))))
+    blank_meets (IsSaid draft) _ _ (inl refl) (if_meets _ _ _ _ (λ short. outside_meets _ _ _ _ (words_line_meets draft (row_of number octets) (words_of octets) core (words_short octets (at_most_line (length octets) short)))))
 
 declared_new : (draft : Drafted) (said : Line) → IsDeclared draft said → IsNew draft said
 declared_new draft (says.Setting setting value) h = (h.0, h.2)

@@ -5,7 +5,6 @@ use Rattle.std.specs.List.{AllByRecursion}
 use Rattle.core_walks.specs.Topology.{IsConnected}
 use Rattle.scenario_defs.specs.declared.event.Timed.{Timed}
 use Rattle.scenario_defs.specs.Rules.{ScriptRules, Rises, IsEventOf}
-use Rattle.scenario_defs.specs.Built.{IsBuilt, AreBuilt}
 use Rattle.scenario_draft.specs.declared.line.Line.{Line}
 use Rattle.scenario_draft.specs.declared.line.Line.TheVariants as says
 use Rattle.scenario_draft.specs.Drafted.{Drafted}
@@ -17,7 +16,7 @@ use Rattle.scenario_text.specs.Grammar.{line_of, script_at}
 use Rattle.scenario_text.proofs.LineMeets.{IsSaid, IsSound, line_meets}
 
 -- Events one after the other.
-all_snoc : (P : Timed → Type 0) (xs : List Timed) (y : Timed) → AllByRecursion P xs → P y → AllByRecursion P (xs ++ y ∷ [])
+pub all_snoc : (P : Timed → Type 0) (xs : List Timed) (y : Timed) → AllByRecursion P xs → P y → AllByRecursion P (xs ++ y ∷ [])
 all_snoc P [] y h k = (k, tt)
 all_snoc P (x ∷ xs) y h k = (h.0, all_snoc P xs y h.1 k)
 
@@ -39,14 +38,13 @@ pub record Holds (draft : Drafted) (number : ℕ) : Type 0 where
   pub connected : draft.begun ≡ true → IsConnected (length draft.scenario.nodes) draft.scenario.links
   pub quiet : draft.begun ≡ false → draft.events ≡ []
   pub events : AllByRecursion (λ timed. IsEventOf draft.scenario timed.event) draft.events
-  pub built : AreBuilt draft.events
   pub lines : Rises 0 draft.events
   pub before : AreBefore number draft.events
   pub few : length draft.events ≤ 200000
   pub counted : 0 < number
 
 pub empty_holds : Holds empty_draft 1
-empty_holds = record { kept = kept_empty; connected = λ b. absurd cc; quiet = λ b. refl; events = tt; built = tt; lines = tt; before = tt; few = omega arith; counted = omega arith }
+empty_holds = record { kept = kept_empty; connected = λ b. absurd cc; quiet = λ b. refl; events = tt; lines = tt; before = tt; few = omega arith; counted = omega arith }
 
 -- A line of the scenario, behind which no event stands yet.
 quiet_holds : (draft new : Drafted) (number : ℕ) → Holds draft number → draft.begun ≡ false → new.begun ≡ false → new.events ≡ draft.events → Kept new → Holds new (number + 1)
@@ -57,7 +55,6 @@ quiet_holds draft new number h b same events kept =
       connected = λ t. absurd cc;
       quiet = λ _. none;
       events = rw none tt;
-      built = rw none tt;
       lines = rw none tt;
       before = rw none tt;
       few = rw none (omega arith);
@@ -76,7 +73,6 @@ declared_holds draft number says.Events h b d = record {
   connected = λ _. d;
   quiet = λ t. absurd cc;
   events = h.events;
-  built = h.built;
   lines = h.lines;
   before = before_more number draft.events h.before;
   few = h.few;
@@ -93,8 +89,7 @@ told_holds draft number (says.Event event) h b f =
       kept = kept_told draft number event h.kept;
       connected = h.connected;
       quiet = λ t. absurd cc;
-      events = all_snoc (λ t. IsEventOf draft.scenario t.event) draft.events timed h.events f.1.0;
-      built = all_snoc (λ t. IsBuilt t.event) draft.events timed h.built f.1.1;
+      events = all_snoc (λ t. IsEventOf draft.scenario t.event) draft.events timed h.events f.1;
       lines = rises_snoc 0 draft.events timed h.counted h.before h.lines;
       before = all_snoc (λ t. t.line < number + 1) draft.events timed (before_more number draft.events h.before) last;
       few = omega (arith, f.0, length-append draft.events (timed ∷ []));
@@ -115,7 +110,6 @@ blank_holds draft number h = record {
   connected = h.connected;
   quiet = h.quiet;
   events = h.events;
-  built = h.built;
   lines = h.lines;
   before = before_more number draft.events h.before;
   few = h.few;
@@ -128,7 +122,7 @@ said_holds draft number said h (inr (inl declared)) = declared_holds draft numbe
 said_holds draft number said h (inr (inr told)) = told_holds draft number said h told.0 told.1
 
 pub sound : (draft : Drafted) (number : ℕ) → Holds draft number → IsSound draft
-sound draft number h = record { topology = h.kept.core.topology; built = h.kept.built }
+sound draft number h = h.kept.core.topology
 
 -- A line that is without fault keeps that.
 pub line_holds : (draft : Drafted) (number : ℕ) (octets : List ℕ) (said : Line) → Holds draft number → line_of draft number octets ≡ Ok said → Holds (added draft number said) (number + 1)

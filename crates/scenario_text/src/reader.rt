@@ -3,7 +3,6 @@ ghost use Rattle.std.specs.Prelude.{◌≡◌, ◌==◌, ◌≤◌, length, map,
 ghost use Rattle.std.specs.List.{list_all};
 ghost use Rattle.core_walks.specs.Topology.{IsTopology};
 ghost use Rattle.scenario_defs.specs.Rules.{ScriptRules};
-ghost use Rattle.scenario_defs.specs.Built.{IsBuiltScenario, AreBuilt};
 ghost use Rattle.line_words.specs.Answers.{Gives};
 ghost use Rattle.line_words.specs.Words.{placed_word};
 ghost use Rattle.scenario_text.specs.Grammar.{is_outside, is_blank, row_of, words_line, line_of, script_of};
@@ -95,8 +94,6 @@ fn line_of(alloc: Global, draft: &Draft, number: u32, octets: &[u8]) -> Result<L
 pub fn read(alloc: Global, text: &[u8]) -> Result<Script, ReadFault>
     ensures value { Gives result (script_of text.now) }
     ensures rules { IfOk result ScriptRules }
-    ensures forms { IfOk result (λ script. IsBuiltScenario script.scenario) }
-    ensures built { IfOk result (λ script. AreBuilt script.events) }
 {
     if text.len() > TEXT_LIMIT {
         return Err(ReadFault::Text(fault_at(1, 1, Reason::Long)));

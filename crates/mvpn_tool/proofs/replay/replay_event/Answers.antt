@@ -1,11 +1,25 @@
-use Rattle.net_laws.proofs.FrameLemmas.{after-scenario, acts-named}
-use Rattle.mvpn_tool.proofs.OutcomeLemmas.{event-replayed}
+use Rattle.mvpn_tool.proofs.EventLemmas.{event_lacks, event_made, event_stops, lacking_are_known, made_are_known}
 use Rattle.mvpn_tool.proofs.replay.replay_event.Goals as goal
 
 pub write_lines-requires : goal.write_lines-requires
 write_lines-requires g c =
-    let a = c.in-Ok.ensures.ok in
-    rw (a.network, after-scenario c.args.world.now.network c.args.timed.now.event, a.lines, c.new-lines.ensures) (acts-named c.args.world.now.network c.args.timed.now.line c.args.timed.now.event)
+    made_are_known c.args.scenario.now c.args.timed.now c.args.world.now c.args.detail c.step.new.self _ _ c.new-lines.ensures c.in-Ok.ensures c.requires
+    (c.lines_are_known.ensures _ _ _ c.requires)
 
-pub returns-in-Ok-clause-ok : goal.returns-in-Ok-clause-ok
-returns-in-Ok-clause-ok g c = event-replayed _ _ _ _ _ _ _ _ c.new-lines.ensures c.in-Ok.ensures.ok c.write_lines.ensures.ok
+pub returns-in-Ok-clause-ends : goal.returns-in-Ok-clause-ends
+returns-in-Ok-clause-ends g c =
+    event_made c.args.scenario.now c.args.timed.now c.args.world.now c.args.detail c.step.new.self _ _ c.new-lines.ensures c.in-Ok.ensures _ _ c.write_lines.result
+    c.write_lines.ensures.ok c.write_lines.ensures.err c.write_lines.ensures.others
+
+pub returns-in-Err-NoMemory-clause-ends : goal.returns-in-Err-NoMemory-clause-ends
+returns-in-Err-NoMemory-clause-ends g c = event_stops c.args.scenario.now c.args.timed.now c.args.world.now c.args.detail c.step.new.self (g.K.Sink.written c.args.sink.now)
+
+pub write_halt-requires : goal.write_halt-requires
+write_halt-requires g c =
+    lacking_are_known c.args.scenario.now c.args.timed.now c.args.world.now c.args.detail c.step.new.self _ _ c.new-lines.ensures c.in-Err-NoLabel.node
+    (rw c.in-Err-NoLabel.field-0-is at c.in-Err-NoLabel.ensures) c.requires (c.lines_are_known.ensures _ _ _ c.requires)
+
+pub returns-clause-ends : goal.returns-clause-ends
+returns-clause-ends g c =
+    event_lacks c.args.scenario.now c.args.timed.now c.args.world.now c.args.detail c.step.new.self _ _ c.new-lines.ensures c.in-Err-NoLabel.node
+    (rw c.in-Err-NoLabel.field-0-is at c.in-Err-NoLabel.ensures) _ _ c.write_halt.result c.write_halt.ensures.label c.write_halt.ensures.part

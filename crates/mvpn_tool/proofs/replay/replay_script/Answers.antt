@@ -1,28 +1,50 @@
-use Rattle.std.proofs.Common.{ap, ◌∙◌, arith}
+use Rattle.std.proofs.Common.{ap, sym, length, arith}
 use Rattle.std.proofs.lemmas.Result.{err_from_is_err_and}
-use Rattle.net_defs.specs.Network.{Network}
-use Rattle.net_laws.proofs.FrameLemmas.{after-scenario, after-clock}
-use Rattle.mvpn_tool.proofs.OutcomeLemmas.{replayed-nothing, replayed-more, replayed-part, replayed-all, event-at, built-at}
+use Rattle.mvpn_tool.proofs.OutcomeLemmas.{after-event, after-stop, event_at, never-begun, place_of, replayed-all, replayed-none}
 use Rattle.mvpn_tool.proofs.replay.replay_script.Goals as goal
+
+pub returns-in_err-names-clause-replays : goal.returns-in_err-names-clause-replays
+returns-in_err-names-clause-replays g c =
+    let p = err_from_is_err_and c.from_residual.result c.from_residual.ensures.1 in
+    never-begun c.runs_are_known.ensures c.args.detail c.args.script c.requires c.script_has_octets.ensures _ c.from_residual.result p.0 p.1 p.2
 
 pub returns-in_err-world-clause-replays : goal.returns-in_err-world-clause-replays
 returns-in_err-world-clause-replays g c =
-    let p = err_from_is_err_and c.from_residual.result c.from_residual.ensures.1 in
-    rw p.1 (replayed-nothing _ _ c.requires.rules c.requires.built)
+    let p = err_from_is_err_and c.from_residual-in_err-world.result c.from_residual-in_err-world.ensures.1 in
+    never-begun c.runs_are_known.ensures c.args.detail c.args.script c.requires c.script_has_octets.ensures _ c.from_residual-in_err-world.result p.0 p.1 p.2
+
+pub loop-timed-init : goal.loop-timed-init
+loop-timed-init g c = record {
+  replayed = replayed-none c.runs_are_known.ensures c.args.detail c.args.script c.requires c.script_has_octets.ensures (g.K.Sink.written c.args.sink.now) c.in_ok-world.world c.in_ok-world.ensures;
+  within = omega arith;
+  later = omega arith;
+}
+
+pub replay_event-requires : goal.replay_event-requires
+replay_event-requires g c =
+    place_of c.runs_are_known.ensures c.args.detail c.args.script c.requires c.script_has_octets.ensures c.in_ok-names.names (sym c.in_ok-names.ensures) c.loop-timed.timed-index c.timed-item.result
+    (g.K.Sink.written c.args.sink.now) (g.K.Sink.written c.loop-timed.sink) (g.K.Sink.written c.loop-timed.sink) c.loop-timed.world
+    (event_at c.args.script _ _ c.timed-item.result c.as_slice-timeds.ensures c.loop-timed-test.true c.timed-item.is) c.loop-timed.invariant.replayed
 
 pub returns-in-Err-clause-replays : goal.returns-in-Err-clause-replays
 returns-in-Err-clause-replays g c =
-    replayed-part _ _ _ _ _ _ _ _ _ c.requires.rules c.requires.built c.as_slice-timeds.ensures c.loop-timed-test.true c.timed-item.is c.loop-timed.invariant.scenario c.loop-timed.invariant.replayed c.in-Err.ensures.err
+    after-stop c.runs_are_known.ensures c.args.detail c.args.script c.requires c.script_has_octets.ensures c.in_ok-names.names (sym c.in_ok-names.ensures) c.loop-timed.timed-index c.timed-item.result
+    (g.K.Sink.written c.args.sink.now) (g.K.Sink.written c.loop-timed.sink) (g.K.Sink.written c.replay_event.new.sink) c.loop-timed.world
+    (event_at c.args.script _ _ c.timed-item.result c.as_slice-timeds.ensures c.loop-timed-test.true c.timed-item.is) c.loop-timed.invariant.replayed
+    c.replay_event.new.world c.in-Err.stop c.in-Err.ensures.ends
 
 pub loop-timed-preserved : goal.loop-timed-preserved
-loop-timed-preserved g c =
-    let event = c.in-Ok.ensures.ok in
-    record {
-      replayed = replayed-more _ _ _ _ _ _ _ _ _ _ c.loop-timed-test.true c.timed-item.is c.loop-timed.invariant.scenario c.loop-timed.invariant.replayed event;
-      scenario = ap (λ (n : Network). n.scenario) event.network ∙ after-scenario _ c.timed-item.result.event ∙ c.loop-timed.invariant.scenario;
-      clock = omega (arith, ap (λ (n : Network). n.clock) event.network, after-clock c.loop-timed.world.network c.timed-item.result.event (event-at c.args.script c.loop-timed.world.network.scenario c.as_slice-timeds.result.now c.loop-timed.timed-index c.timed-item.result c.timed-item.result c.requires.rules c.as_slice-timeds.ensures c.loop-timed-test.true c.timed-item.is c.loop-timed.invariant.scenario), c.loop-timed.invariant.clock);
-      later = omega (arith, c.in-Ok.ensures.later, c.loop-timed.invariant.later);
-    }
+loop-timed-preserved g c = record {
+  replayed =
+      after-event c.runs_are_known.ensures c.args.detail c.args.script c.requires c.script_has_octets.ensures c.in_ok-names.names (sym c.in_ok-names.ensures) c.loop-timed.timed-index c.timed-item.result
+      (g.K.Sink.written c.args.sink.now) (g.K.Sink.written c.loop-timed.sink) (g.K.Sink.written c.replay_event.new.sink) c.loop-timed.world
+      (event_at c.args.script _ _ c.timed-item.result c.as_slice-timeds.ensures c.loop-timed-test.true c.timed-item.is) c.loop-timed.invariant.replayed
+      c.replay_event.new.world c.in-Ok.ensures.ends;
+  within = omega (arith, c.loop-timed-test.true);
+  later = omega (arith, c.in-Ok.ensures.later, c.loop-timed.invariant.later);
+}
 
 pub returns-clause-replays : goal.returns-clause-replays
-returns-clause-replays g c = replayed-all _ _ _ _ _ _ c.as_slice-timeds.ensures (omega (arith, c.loop-timed-test.false)) c.loop-timed.invariant.replayed
+returns-clause-replays g c =
+    replayed-all c.runs_are_known.ensures c.args.detail c.args.script c.requires c.script_has_octets.ensures c.loop-timed.timed-index _ _ _
+    (omega (arith, c.loop-timed-test.false, c.loop-timed.invariant.within, ap length c.as_slice-timeds.ensures)) c.loop-timed.invariant.replayed

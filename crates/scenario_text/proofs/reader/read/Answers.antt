@@ -17,9 +17,3 @@ pub returns-clause-rules : goal.returns-clause-rules
 returns-clause-rules c =
     let begun : c.lines.draft.begun ≡ true = sym c.if-not-begun.ensures in
     rw c.into_script.ensures (script_rules c.lines.draft c.lines.number c.lines.invariant.holds begun)
-
-pub returns-clause-built : goal.returns-clause-built
-returns-clause-built c = rw c.into_script.ensures c.lines.invariant.holds.built
-
-pub returns-clause-forms : goal.returns-clause-forms
-returns-clause-forms c = rw c.into_script.ensures c.lines.invariant.holds.kept.built

@@ -15,5 +15,5 @@ returns c = λ at own is edge e.
     let in_plane = subst (IsIn at) (sym c.self.view_is) is in
     let there = c.node.ensures at own.current.within is in
     c.enter.ensures at.network.state c.args.n
-    (stands_in at.scenario at.cores at.moment c.args.n at.network plane c.node.result.now in_plane.around (in_plane.around.known c.args.n own.current.current) there.placed)
+    (stands_in at.scenario at.cores at.moment c.args.n at.network plane c.node.result.now in_plane.around (in_plane.around.known c.args.n own.current.within own.current.current) there.placed)
     (record { id = c.args.vrf; vrf = own.vrf }) (own_here c.args.n c.args.vrf plane at own in_plane) refl edge (sym there.keeps ∙ e)

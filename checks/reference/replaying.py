@@ -1,0 +1,13 @@
+"""A replay, from text to text."""
+
+from .events import run
+from .report import WIRE, line_text
+from .script import read
+
+
+def replay(text, wire):
+    """The text of the report, and the status."""
+    script = read(text)
+    lines, is_halted = run(script)
+    told = [line_text(script.scenario, line) for line in lines if wire or not isinstance(line, WIRE)]
+    return ''.join(told), 7 if is_halted else 0

@@ -1,0 +1,197 @@
+-- What laws of runs come to.
+use Rattle.std.proofs.Common.{◌≡◌, ℕ, suc, ◌+◌, ◌-◌, ◌<◌, ◌≤◌, ◌⊎◌, inl, inr, List, [], ◌∷◌, ◌++◌, length, take, drop, refl, sym, ap, subst, ◌∙◌, arith, All}
+use Rattle.std.specs.List.{AllByRecursion}
+use Rattle.std.proofs.lemmas.Bool.{cases_lt}
+use Rattle.std.proofs.lemmas.List.{take_all, take-append-drop, take-append-le}
+use Rattle.std.proofs.Math.Seq.{take-append-add}
+use Rattle.mv_base.specs.declared.ids.NodeId.{NodeId}
+use Rattle.scenario_defs.specs.Rules.{IsEventOf, Rises, Rules, ScriptRules}
+use Rattle.scenario_defs.specs.Text.{IsLineOf}
+use Rattle.scenario_defs.specs.declared.event.Event.{Event}
+use Rattle.scenario_defs.specs.declared.event.Script.{Script}
+use Rattle.scenario_defs.specs.declared.event.Timed.{Timed}
+use Rattle.scenario_defs.specs.declared.report.ReportLine.TheVariants as lines
+use Rattle.scenario_defs.specs.declared.scenario.Scenario.{Scenario}
+use Rattle.mvpn_model.specs.Once.{Once}
+use Rattle.mvpn_model.specs.Report.{Entry, refused_lines}
+use Rattle.mvpn_model.specs.Safe.{Safe}
+use Rattle.world_defs.specs.Costs.{AreCoresOf, Cores}
+use Rattle.world_defs.specs.Events.{Happened, Outcome, Done, Halted}
+use Rattle.world_defs.specs.Local.{Local}
+use Rattle.world_defs.specs.Run.{Halts, Run, Traced, outcome, report_of, traced}
+use Rattle.world_defs.specs.World.{World}
+use Rattle.world_laws.proofs.Lists.{each_at}
+use Rattle.world_laws.specs.Honest.{IsSoundEvent}
+use Rattle.world_laws.specs.SoundRun.{SoundRun}
+use Rattle.rule_laws.specs.SoundHalt.{SoundHalt}
+use Rattle.delivery_laws.specs.Flood.{lines_in}
+use Rattle.run_laws.specs.Octets.{EventHasOctets, ScriptHasOctets}
+use Rattle.run_laws.specs.Runs as parts
+use Rattle.network_events.specs.WorldView.{WorldView}
+use Rattle.mvpn_tool.specs.Known.{ReportGoesOn}
+use Rattle.mvpn_tool.specs.Outcome.{Place}
+use Rattle.mvpn_tool.specs.Report.{IsHaltedRun, IsReport, IsWholeRun, OfAll, UpToHalt, event_lines}
+use Rattle.mvpn_tool.proofs.TextLemmas.{report_of-append}
+
+abbrev SoundEvents : Script → List Timed → Type 0
+SoundEvents script events = AllByRecursion (λ (timed : Timed). IsSoundEvent script.scenario timed.event) events
+
+-- what `readable_events_are_sound` says of runs
+abbrev pub ReadableRuns : Type 0
+ReadableRuns = (cores : Cores) (script : Script) (count : ℕ) (trace : List Traced) (new : World) → ScriptRules script → ScriptHasOctets script → AreCoresOf script.scenario cores →
+    Run cores script (take count script.events) trace new → SoundRun cores script (take count script.events) trace new
+
+abbrev pub ReadableEvents : Type 0
+ReadableEvents = (script : Script) (count : ℕ) → ScriptRules script → ScriptHasOctets script → SoundEvents script (take count script.events)
+
+abbrev pub ReadableEvent : Type 0
+ReadableEvent = (scenario : Scenario) (event : Event) → Rules scenario → IsEventOf scenario event → EventHasOctets event → IsSoundEvent scenario event
+
+-- ---- lines
+
+module _ (readable_event : ReadableEvent) (readable_runs : ReadableRuns)
+    (done : (cores : Cores) (script : Script) (events : List Timed) (trace : List Traced) (world : World) → SoundRun cores script events trace world → (timed : Timed) → IsSoundEvent script.scenario timed.event →
+    (acts : List Happened) (new : World) → outcome world timed ≡ Done acts new → All (IsLineOf script.scenario) (lines_in acts))
+    (halted : (cores : Cores) (script : Script) (events : List Timed) (trace : List Traced) (world : World) → SoundRun cores script events trace world → (timed : Timed) → IsSoundEvent script.scenario timed.event →
+    (acts : List Happened) (node : NodeId) → outcome world timed ≡ Halted acts node → All (IsLineOf script.scenario) (lines_in acts ++ lines.Halt timed.line node ∷ []))
+    (scenario : Scenario) (timed : Timed) (view : WorldView) (place : Place scenario timed view) where
+  sound_here : SoundRun place.cores place.script (take place.count place.script.events) place.trace place.state
+  sound_here = readable_runs place.cores place.script place.count place.trace place.state place.behind.rules place.octets place.behind.of_scenario place.behind.run
+
+  sound_next : IsSoundEvent place.script.scenario timed.event
+  sound_next =
+      readable_event place.script.scenario timed.event place.behind.rules.scenario
+      (each_at (λ (t : Timed). IsEventOf place.script.scenario t.event) place.script.events place.count timed place.behind.rules.events place.next)
+      (each_at (λ (t : Timed). EventHasOctets t.event) place.script.events place.count timed place.octets.events place.next)
+
+  by_outcome : (o : Outcome) → outcome place.state timed ≡ o → All (IsLineOf place.script.scenario) (event_lines timed.line o)
+  by_outcome (Done acts new) e = done place.cores place.script (take place.count place.script.events) place.trace place.state sound_here timed sound_next acts new e
+  by_outcome (Halted acts node) e = halted place.cores place.script (take place.count place.script.events) place.trace place.state sound_here timed sound_next acts node e
+
+  -- The lines of the next event name what is there.
+  pub lines_known : All (IsLineOf scenario) (event_lines timed.line (outcome place.state timed))
+  lines_known = subst (λ (s : Scenario). All (IsLineOf s) (event_lines timed.line (outcome place.state timed))) place.of_scenario (by_outcome (outcome place.state timed) refl)
+
+-- ---- whole runs, and runs that halt
+
+every_event : (script : Script) → take (length script.events) script.events ≡ script.events
+every_event script = take_all (length script.events) script.events (omega arith)
+
+module _ (readable_runs : ReadableRuns)
+    (safe : (cores : Cores) (script : Script) (events : List Timed) (trace : List Traced) (new : World) → SoundRun cores script events trace new → Rises 0 events →
+    Safe script.scenario events (refused_lines (report_of trace)) (report_of trace))
+    (once : (cores : Cores) (script : Script) (events : List Timed) (trace : List Traced) (new : World) → SoundRun cores script events trace new → Rises 0 events →
+    Once script.scenario events (refused_lines (report_of trace)) (report_of trace))
+    (local : (cores : Cores) (script : Script) (events : List Timed) (trace : List Traced) (new : World) → SoundRun cores script events trace new → Local new trace) where
+  -- A run of all events is as it is to be.
+  pub whole_run : (cores : Cores) (script : Script) (trace : List Traced) (state : World) → ScriptRules script → ScriptHasOctets script → AreCoresOf script.scenario cores →
+      Run cores script script.events trace state → IsWholeRun cores script trace state
+  whole_run cores script trace state rules octets of_scenario run =
+      let all = every_event script in
+      let sound : SoundRun cores script script.events trace state =
+      subst (λ (l : List Timed). SoundRun cores script l trace state) all
+      (readable_runs cores script (length script.events) trace state rules octets of_scenario (subst (λ (l : List Timed). Run cores script l trace state) (sym all) run)) in
+      record {
+        of_scenario = of_scenario;
+        run = run;
+        safe = safe cores script script.events trace state sound rules.lines;
+        once = once cores script script.events trace state sound rules.lines;
+        local = local cores script script.events trace state sound;
+      }
+
+module _ (readable_events : ReadableEvents)
+    (safe : (cores : Cores) (script : Script) (report : List Entry) (node : NodeId) → SoundHalt cores script report node → Rises 0 script.events → Safe script.scenario script.events (refused_lines report) report)
+    (once : (cores : Cores) (script : Script) (report : List Entry) (node : NodeId) → (run : SoundHalt cores script report node) → Rises 0 script.events →
+    Once script.scenario run.halt.before (refused_lines (report_of run.halt.trace)) (report_of run.halt.trace))
+    (local : (cores : Cores) (script : Script) (report : List Entry) (node : NodeId) → (run : SoundHalt cores script report node) →
+    Local run.halt.world (run.halt.trace ++ traced (length run.halt.before) run.halt.acts)) where
+  -- A run that halts is as it is to be.
+  pub halted_run : (cores : Cores) (script : Script) (report : List Entry) (node : NodeId) → ScriptRules script → ScriptHasOctets script → Halts cores script report node → IsHaltedRun cores script report node
+  halted_run cores script report node rules octets halt =
+      let sound : SoundHalt cores script report node = record {
+        scenario = record { rules = rules.scenario; octets = octets.scenario };
+        sound_events = subst (SoundEvents script) (every_event script) (readable_events script (length script.events) rules octets);
+        halt = halt;
+      } in
+      record {
+        halt = halt;
+        safe = safe cores script report node sound rules.lines;
+        once = once cores script report node sound rules.lines;
+        local = local cores script report node sound;
+      }
+
+-- ---- the report that goes on
+
+module _ (whole : (cores : Cores) (script : Script) (trace : List Traced) (state : World) → ScriptRules script → ScriptHasOctets script → AreCoresOf script.scenario cores →
+    Run cores script script.events trace state → IsWholeRun cores script trace state)
+    (halted : (cores : Cores) (script : Script) (report : List Entry) (node : NodeId) → ScriptRules script → ScriptHasOctets script → Halts cores script report node → IsHaltedRun cores script report node)
+    (either : (cores : Cores) (script : Script) (events : List Timed) → AreCoresOf script.scenario cores → parts.RunsOrHalts cores (parts.of_events script events))
+    (never_both : (cores : Cores) (script : Script) (events : List Timed) (trace : List Traced) (new : World) (report : List Entry) (node : NodeId) → Run cores script events trace new →
+    Halts cores (parts.of_events script events) report node → ⊥)
+    (one_run : (cores : Cores) (script : Script) (events : List Timed) (trace other : List Traced) (new last : World) → Run cores script events trace new → Run cores script events other last →
+    (trace ≡ other) × (new ≡ last))
+    (in_two : (cores : Cores) (script : Script) (first more : List Timed) (trace : List Traced) (new : World) → Run cores script (first ++ more) trace new → parts.RunsInTwo cores script first more trace new)
+    (halt_begins : (cores : Cores) (script : Script) (report : List Entry) (node : NodeId) (halt : Halts cores script report node) (first more : List Timed) → halt.before ≡ first ++ more →
+    parts.ReportBegins cores script first report)
+    (cores : Cores) (script : Script) (count : ℕ) (trace : List Traced) (state : World) (rules : ScriptRules script) (octets : ScriptHasOctets script) (of_scenario : AreCoresOf script.scenario cores)
+    (run : Run cores script (take count script.events) trace state) where
+  abbrev first : List Timed
+  first = take count script.events
+
+  on_to_the_end : (all : List Traced) (new : World) → Run cores script script.events all new → ReportGoesOn script (report_of trace)
+  on_to_the_end all new to_end =
+      let two = in_two cores script first (drop count script.events) all new (subst (λ (l : List Timed). Run cores script l all new) (sym (take-append-drop count script.events)) to_end) in
+      let same = one_run cores script first trace two.early state two.middle run two.begins in
+      record {
+        report = report_of all;
+        is_report = OfAll cores all new (whole cores script all new rules octets of_scenario to_end) refl;
+        more = report_of two.late;
+        whole = ap report_of two.whole ∙ report_of-append two.early two.late ∙ ap (λ (t : List Traced). report_of t ++ report_of two.late) (sym same.0);
+      }
+
+  -- The events before the halt are no fewer than those that ran.
+  module _ (report : List Entry) (node : NodeId) (halt : Halts cores script report node) where
+    no_earlier : length halt.before < count → ⊥
+    no_earlier less =
+        let rest : ℕ = count - (length halt.before + 1) in
+        let sum : count ≡ length halt.before + suc rest = omega (arith, less) in
+        let taken : first ≡ halt.before ++ halt.timed ∷ take rest halt.after =
+        ap (take count) halt.events ∙ ap (λ (n : ℕ). take n (halt.before ++ halt.timed ∷ halt.after)) sum ∙ take-append-add halt.before (halt.timed ∷ halt.after) (suc rest) in
+        never_both cores script first trace state report node run (record {
+          of_scenario = of_scenario;
+          before = halt.before;
+          timed = halt.timed;
+          after = take rest halt.after;
+          events = taken;
+          trace = halt.trace;
+          world = halt.world;
+          run = halt.run;
+          acts = halt.acts;
+          lacks = halt.lacks;
+          whole = halt.whole;
+        })
+
+    on_to_the_halt : count ≤ length halt.before → ReportGoesOn script (report_of trace)
+    on_to_the_halt less =
+        let front : first ≡ take count halt.before = ap (take count) halt.events ∙ take-append-le count halt.before (halt.timed ∷ halt.after) less in
+        let cut : halt.before ≡ first ++ drop count halt.before =
+        sym (take-append-drop count halt.before) ∙ ap (λ (l : List Timed). l ++ drop count halt.before) (sym front) in
+        let begins = halt_begins cores script report node halt first (drop count halt.before) cut in
+        let same = one_run cores script first trace begins.early state begins.middle run begins.begins in
+        record {
+          report = report;
+          is_report = UpToHalt cores node (halted cores script report node rules octets halt);
+          more = begins.more;
+          whole = begins.whole ∙ ap (λ (t : List Traced). report_of t ++ begins.more) (sym same.0);
+        }
+
+  by_end : parts.RunsOrHalts cores script → ReportGoesOn script (report_of trace)
+  by_end (parts.AllRun all new to_end) = on_to_the_end all new to_end
+  by_end (parts.OneHalts report node halt) = elim (cases_lt (length halt.before) count) [
+    | inl less ↦ absurd (no_earlier report node halt less)
+    | inr less ↦ on_to_the_halt report node halt less
+  ]
+
+  -- The report of the script begins with what happens in the first events.
+  pub goes_on : ReportGoesOn script (report_of trace)
+  goes_on = by_end (either cores script script.events of_scenario)

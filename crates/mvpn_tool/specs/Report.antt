@@ -1,0 +1,85 @@
+-- The reports of a script, and what `replay` writes of one.
+use Rattle.std.specs.Prelude.{◌≡◌, ℕ, Bool, true, List, [], ◌∷◌, ◌++◌, length, filter}
+use Rattle.std.specs.List.{flat_map}
+use Rattle.mv_base.specs.declared.ids.NodeId.{NodeId}
+use Rattle.scenario_defs.specs.Text.{line_text}
+use Rattle.scenario_defs.specs.declared.event.Script.{Script}
+use Rattle.scenario_defs.specs.declared.report.ReportLine.{ReportLine}
+use Rattle.scenario_defs.specs.declared.report.ReportLine.TheVariants as lines
+use Rattle.scenario_defs.specs.declared.scenario.Scenario.{Scenario}
+use Rattle.mvpn_model.specs.Once.{Once}
+use Rattle.mvpn_model.specs.Report.{Entry, report_text, refused_lines}
+use Rattle.mvpn_model.specs.Safe.{Safe}
+use Rattle.world_defs.specs.Costs.{AreCoresOf, Cores}
+use Rattle.world_defs.specs.Events.{Outcome, Done, Halted}
+use Rattle.world_defs.specs.Local.{Local}
+use Rattle.world_defs.specs.Run.{Halts, Run, Traced, report_of, traced}
+use Rattle.world_defs.specs.World.{World}
+use Rattle.delivery_laws.specs.Flood.{lines_in}
+use Rattle.run_laws.specs.Plain.{is_plain, plain}
+use Rattle.mvpn_tool.specs.declared.command.Detail.{Detail}
+use Rattle.mvpn_tool.specs.declared.command.Detail.TheVariants as details
+
+-- This happens in a run of all events of the script, by the cores of its scenario. No customer sees another's datagram; each datagram
+-- that is sent while the network is calm leaves once at each of its receivers, and nowhere else; and each hop is licensed by what its
+-- node and the neighbour have put and taken.
+pub record IsWholeRun (cores : Cores) (script : Script) (trace : List Traced) (world : World) : Type 0 where
+  pub of_scenario : AreCoresOf script.scenario cores
+  pub run : Run cores script script.events trace world
+  pub safe : Safe script.scenario script.events (refused_lines (report_of trace)) (report_of trace)
+  pub once : Once script.scenario script.events (refused_lines (report_of trace)) (report_of trace)
+  pub local : Local world trace
+
+-- The run halts at that node, for want of a label, with this report, whose last line says so. It is safe and local up to there, and of the
+-- events before the one that halts each datagram of a calm network was delivered once.
+pub record IsHaltedRun (cores : Cores) (script : Script) (report : List Entry) (node : NodeId) : Type 0 where
+  pub halt : Halts cores script report node
+  pub safe : Safe script.scenario script.events (refused_lines report) report
+  pub once : Once script.scenario halt.before (refused_lines (report_of halt.trace)) (report_of halt.trace)
+  pub local : Local halt.world (halt.trace ++ traced (length halt.before) halt.acts)
+
+-- The report is that of the run of all events, or of the run that halts.
+pub data IsReport (script : Script) (report : List Entry) : Type 0 where
+  OfAll : (cores : Cores) → (trace : List Traced) → (world : World) → IsWholeRun cores script trace world → report ≡ report_of trace
+      → IsReport script report
+  UpToHalt : (cores : Cores) → (node : NodeId) → IsHaltedRun cores script report node → IsReport script report
+
+-- All events of the script run, by the cores of its scenario.
+pub record AllRun (script : Script) : Type 0 where
+  pub cores : Cores
+  pub of_scenario : AreCoresOf script.scenario cores
+  pub trace : List Traced
+  pub state : World
+  pub run : Run cores script script.events trace state
+
+-- One of them lacks a label.
+pub record OneHalts (script : Script) : Type 0 where
+  pub cores : Cores
+  pub report : List Entry
+  pub node : NodeId
+  pub halt : Halts cores script report node
+
+-- ---- what is written
+
+-- what is told of a report: all, or all but the lines of the wire
+abbrev pub told : Detail → List Entry → List Entry
+told details.Wire report = report
+told details.Plain report = plain report
+
+-- the text of what is told of a report
+abbrev pub text_of : Detail → Scenario → List Entry → List ℕ
+text_of detail scenario report = report_text scenario (told detail report)
+
+-- whether a line is told
+abbrev pub is_told : Detail → ReportLine → Bool
+is_told details.Wire line = true
+is_told details.Plain line = is_plain line
+
+-- the text of those of some lines that are told
+abbrev pub lines_text : Detail → Scenario → List ReportLine → List ℕ
+lines_text detail scenario all = flat_map (line_text scenario) (filter (is_told detail) all)
+
+-- the lines of an event: those of its acts, and where one lacks a label the line that says so
+abbrev pub event_lines : ℕ → Outcome → List ReportLine
+event_lines line (Done acts world) = lines_in acts
+event_lines line (Halted acts node) = lines_in acts ++ lines.Halt line node ∷ []

@@ -1,0 +1,58 @@
+//! What is known of a script and of its runs. No function here does anything: each says what laws of lower crates come to.
+ghost use Rattle.std.specs.Prelude.{All};
+ghost use Rattle.scenario_defs.specs.Text.{IsLineOf};
+ghost use Rattle.scenario_defs.specs.declared.event.Timed.{Timed};
+ghost use Rattle.scenario_defs.specs.declared.scenario.Scenario.{Scenario};
+ghost use Rattle.world_defs.specs.Run.{outcome};
+ghost use Rattle.run_laws.specs.Octets.{ScriptHasOctets};
+ghost use Rattle.network_events.specs.WorldView.{WorldView};
+ghost use Rattle.mvpn_tool.specs.Known.{KnownRuns};
+ghost use Rattle.mvpn_tool.specs.Outcome.{Place};
+ghost use Rattle.mvpn_tool.specs.Report.{event_lines};
+
+use core_laws::each_scenario_has_cores;
+use license_laws::{halting_runs_are_local, runs_are_local};
+use line_laws::lines_name_what_is_there;
+use once_laws::{
+    each_run_is_safe, halting_runs_are_safe, halting_runs_deliver_once, runs_deliver_once,
+};
+use run_laws::{
+    a_plain_report_says_as_much, first_events_of_a_run_run, one_run_or_one_halt,
+    readable_events_are_sound,
+};
+use scenario_defs::Script;
+use script_values::{events_have_octets, scenario_has_octets};
+
+/// What a script holds is octets.
+pub(crate) fn script_has_octets(script: &Script)
+    ensures { ScriptHasOctets script.now }
+{
+    scenario_has_octets(&script.scenario);
+    events_have_octets(script.events.as_slice());
+}
+
+/// The lines of an event name what is there.
+pub(crate) fn lines_are_known()
+    ensures { (scenario : Scenario) (timed : Timed) (view : WorldView) (place : Place scenario timed view) →
+        All (IsLineOf scenario) (event_lines timed.line (outcome place.state timed)) }
+{
+    readable_events_are_sound();
+    lines_name_what_is_there();
+}
+
+/// What laws of runs say of the reports of a script.
+pub(crate) fn runs_are_known()
+    ensures { KnownRuns }
+{
+    each_scenario_has_cores();
+    readable_events_are_sound();
+    each_run_is_safe();
+    runs_deliver_once();
+    runs_are_local();
+    halting_runs_are_safe();
+    halting_runs_deliver_once();
+    halting_runs_are_local();
+    one_run_or_one_halt();
+    first_events_of_a_run_run();
+    a_plain_report_says_as_much();
+}

@@ -1,6 +1,0 @@
-use Rattle.std.proofs.Common.{◌≡◌, ◌++◌, drop}
-use Rattle.net_world.specs.Tables.{among_from}
-use Rattle.net_world.proofs.tables.among.Given as goal
-
-abbrev pub invariant-loop-number : goal.invariant-loop-number
-invariant-loop-number l = l.found ++ among_from l.own l.number (drop l.number l.vrfs) ≡ among_from l.own 0 l.vrfs

@@ -1,5 +1,0 @@
-pub mod Flows
-pub mod Tables
-pub mod WorldState
-pub mod Entering
-pub mod Codes

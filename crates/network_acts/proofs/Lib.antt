@@ -1,0 +1,3 @@
+mod PlaneActs
+mod CopyActs
+mod Told

@@ -1,0 +1,17 @@
+use Rattle.std.proofs.Common.{refl, [], ◌∷◌}
+use Rattle.session_defs.specs.Octets as octets
+use Rattle.edge_defs.specs.Steps as steps
+use Rattle.world_defs.specs.Acts as acts
+use Rattle.world_defs.specs.System.{Own}
+use Rattle.control_plane.specs.Acted.{no_lines, same_moment}
+use Rattle.control_plane.specs.Customers.{IsIfaceEdge}
+use Rattle.network_acts.proofs.PlaneActs.{acts_as, some_plane}
+use Rattle.network_acts.proofs.network.Network.idle.Goals as goal
+
+pub idle-requires-clause-plane : goal.idle-requires-clause-plane
+idle-requires-clause-plane c = some_plane (IsIfaceEdge c.args.n c.args.iface) _ c.args.self.now c.self.view_is c.requires.network
+
+pub returns : goal.returns
+returns c =
+    acts_as _ c.args.self.now c.self.view_is c.idle.new.self (IsIfaceEdge c.args.n c.args.iface) same_moment (acts.At c.args.n (steps.Idle c.args.iface c.args.source c.args.group)) c.args.n
+    (octets.Call (Own c.args.n (steps.Idle c.args.iface c.args.source c.args.group)) ∷ []) no_lines c.args.lines.now c.idle.new.lines c.idle.result (λ at. refl) c.idle.ensures

@@ -1,0 +1,151 @@
+//! Datagrams: they are accepted, enter at VRFs, and their copies land or are dropped (RFC 6513 sections 9.1.1 and 12, RFC 3032).
+ghost use Rattle.std.specs.Prelude.{◌≡◌, ◌<◌, ◌+◌, ◌^◌, ℕ, IfOk, OnOk, OnErr, length};
+ghost use Rattle.mv_base.specs.declared.addr.Addr.{Addr};
+ghost use Rattle.mv_base.specs.declared.ids.SiteId.{SiteId};
+ghost use Rattle.edge_defs.specs.Datagrams as fates;
+ghost use Rattle.world_defs.specs.Acts as acts;
+ghost use Rattle.world_defs.specs.World as worlds;
+ghost use Rattle.control_plane.specs.Queries.{IsEdgeOf, IsFate};
+ghost use Rattle.datagram_acts.specs.Stored.{with_datagram};
+ghost use Rattle.network_acts.specs.Acting.{Made, Passes};
+ghost use Rattle.network_acts.specs.Handling.{Enters, HasLanded, IsHandling, IsSentBy, IsSomeHandling, IsSomeLanded, Lands, MayLand, landing_fate};
+ghost use Rattle.network_acts.specs.Instant.{Any, Instant, IsSome, IsWorld, OfPlane, standing_of};
+
+use crate::network::Network;
+use control_plane::Fate;
+use label_forwarding::{Datagram, read_packet};
+use link_copies::Landed;
+use mv_base::{NoMemory, NodeId, Seq, SiteId, VrfId};
+use scenario_defs::{Lines, ReportLine};
+use std::alloc::Global;
+
+/// Where the copies of a datagram go on whose TTL is this where they land: nowhere, where it is 1.
+fn with_ttl(alloc: Global, ttl: u8, fate: Fate) -> Fate
+    ensures { (own : fates.Fate) → IsFate own fate → IsFate (acts.with_ttl ttl own) result }
+{
+    if ttl <= 1 {
+        Fate {
+            outs: fate.outs,
+            branches: Seq::new(alloc),
+        }
+    } else {
+        fate
+    }
+}
+
+impl Network {
+    /// A datagram of these octets is accepted, and is the one that is being handled. Answers its number, counted from 1.
+    pub fn accept(&mut self, octets: &[u8]) -> Result<u64, NoMemory>
+        requires network { IsSome Any self.old }
+        requires room { self.old.datagrams.count + 1 < 2 ^ 64 }
+        ensures number { IfOk result (λ number. (at : Instant) → IsWorld at self.old → number ≡ length at.world.datagrams + 1) }
+        ensures accepted { OnOk result ((at : Instant) (site : SiteId) (source group : Addr) → IsWorld at self.old →
+            IsHandling (record at { world = with_datagram (record { site = site; source = source; group = group; octets = octets.now }) at.world })
+            (length at.world.datagrams + 1) (record { site = site; source = source; group = group; octets = octets.now }) self.new) }
+        ensures unchanged { OnErr result (self.new ≡ self.old) }
+    {
+        self.datagrams.accept(octets)
+    }
+
+    /// The datagram that was accepted last, and is being handled, enters at the VRF, whose edge is node n.
+    pub fn enter(
+        &mut self,
+        n: NodeId,
+        vrf: VrfId,
+        site: SiteId,
+        datagram: &Datagram<'_>,
+        lines: &mut Lines,
+    ) -> Result<(), NoMemory>
+        requires network { IsSomeHandling (OfPlane (IsEdgeOf vrf n)) self.old }
+        ensures { OnOk result ((at : Instant) (own : worlds.Datagram) → IsEdgeOf vrf n (standing_of at) → IsSentBy site datagram.now own →
+            IsHandling at (length at.world.datagrams) own self.old → Enters at vrf own lines.old lines.new self.new) }
+    {
+        let alloc = lines.alloc();
+        let fate = self.plane.enter(alloc, vrf, n, site, datagram)?;
+        self.datagrams
+            .leave(n, 255, self.plane.clock(), &fate, lines)
+    }
+
+    /// The datagram is no longer handled.
+    pub fn finish(&mut self)
+        ensures { (at : Instant) (number : ℕ) (datagram : worlds.Datagram) → IsHandling at number datagram self.old → IsWorld at self.new }
+    {
+        self.datagrams.finish();
+    }
+
+    /// Where the copy goes that landed.
+    fn landing(
+        &self,
+        alloc: Global,
+        from: NodeId,
+        to: NodeId,
+        landed: Landed,
+    ) -> Result<Fate, NoMemory>
+        requires network { IsSomeLanded from to landed self.now }
+        ensures { (at : Instant) (place : ℕ) → MayLand to at → (own : HasLanded at from to place landed self.now) →
+            IfOk result (IsFate (landing_fate at from to place own.left.copy own.left.datagram)) }
+    {
+        match read_packet(self.datagrams.octets()) {
+            Ok(packet) => {
+                let fate = self.plane.arrive(alloc, to, from, landed.label, &packet)?;
+                Ok(with_ttl(alloc, landed.ttl, fate))
+            }
+            Err(_) => unreachable!(),
+        }
+    }
+
+    /// The copy that landed goes on: it leaves at interfaces, and copies of it go on branches where its TTL lets them.
+    fn arrive(
+        &mut self,
+        from: NodeId,
+        to: NodeId,
+        landed: Landed,
+        lines: &mut Lines,
+    ) -> Result<(), NoMemory>
+        requires network { IsSomeLanded from to landed self.old }
+        ensures { OnOk result ((at : Instant) (place : ℕ) → MayLand to at → HasLanded at from to place landed self.old →
+            Lands at from to place lines.old lines.new self.new) }
+    {
+        let fate = self.landing(lines.alloc(), from, to, landed)?;
+        lines.push(ReportLine::Land {
+            from,
+            to,
+            label: landed.label,
+            number: landed.number,
+        })?;
+        let ttl = landed.ttl.saturating_sub(1);
+        self.datagrams
+            .leave(to, ttl, self.plane.clock(), &fate, lines)
+    }
+
+    /// The copy at that place of the way lands, counted from 1, where there is one: it leaves at interfaces, and copies of it go on branches
+    /// where its TTL lets them.
+    pub fn hop(
+        &mut self,
+        from: NodeId,
+        to: NodeId,
+        place: usize,
+        lines: &mut Lines,
+    ) -> Result<(), NoMemory>
+        requires network { IsSome (MayLand to) self.old }
+        ensures { OnOk result ((at : Instant) → MayLand to at → IsWorld at self.old →
+            Made at at.moment (acts.Land from to place) lines.old lines.new self.new) }
+    {
+        match self.datagrams.land(from, to, place) {
+            None => Ok(()),
+            Some(landed) => {
+                self.arrive(from, to, landed, lines)?;
+                self.datagrams.finish();
+                Ok(())
+            }
+        }
+    }
+
+    /// The copy at that place of the way, counted from 1, leaves its link, where there is one.
+    pub fn drop_copy(&mut self, from: NodeId, to: NodeId, place: usize)
+        requires network { IsSome Any self.old }
+        ensures { (at : Instant) → IsWorld at self.old → Passes at at.moment (acts.Drop from to place) self.new }
+    {
+        self.datagrams.drop_copy(from, to, place);
+    }
+}

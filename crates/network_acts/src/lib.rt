@@ -1,0 +1,13 @@
+//! A whole network, act by act: its control plane and the datagrams on its links together.
+#![tactic(auto)]
+
+mod customers;
+mod datagrams;
+mod network;
+mod nodes;
+mod queries;
+mod sessions;
+mod telling;
+
+pub use control_plane::Verdict;
+pub use network::Network;

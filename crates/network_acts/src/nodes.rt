@@ -1,0 +1,56 @@
+//! Acts of time and of nodes: the clock, timers, costs and restarts.
+ghost use Rattle.std.specs.Prelude.{◌+◌, ◌<◌, ◌≤◌, ◌^◌, length};
+ghost use Rattle.world_defs.specs.Acts.{Reroute, Restart, SetCost, Tick, Timers};
+ghost use Rattle.control_plane.specs.Acted.{IsCurrent, IsWithin, same_moment, with_current};
+ghost use Rattle.control_plane.specs.Passing.{all_late};
+ghost use Rattle.network_acts.specs.Acting.{ActsAs, Passes, PassesAs};
+ghost use Rattle.network_acts.specs.Instant.{Any, Instant, IsSome, IsWorld, OfPlane};
+
+use crate::network::Network;
+use mldp_node::NodeFault;
+use mv_base::{NoMemory, NodeId};
+use scenario_defs::Lines;
+
+impl Network {
+    /// So many ticks pass, and copies that have been on their link for longer than they may are dropped. It takes no memory.
+    pub fn tick(&mut self, ticks: u64)
+        requires small { self.old.plane.clock + ticks < 2 ^ 63 }
+        ensures { (at : Instant) → IsWorld at self.old → Passes at at.moment (Tick ticks) self.new }
+    {
+        self.plane.elapse(ticks);
+        self.datagrams.age(self.plane.clock(), self.scenario.life);
+    }
+
+    /// The timers of node n run.
+    pub fn timers(&mut self, n: NodeId, lines: &mut Lines) -> Result<(), NodeFault>
+        requires network { IsSome (OfPlane (IsCurrent n)) self.old }
+        ensures { ActsAs (OfPlane (IsCurrent n)) same_moment (Timers n) n self.old self.new lines.old lines.new result }
+    {
+        self.plane.timers(n, lines)
+    }
+
+    /// The link between the two nodes costs so much from now on. Each node has yet to act on it.
+    pub fn set_cost(&mut self, a: NodeId, b: NodeId, cost: u32) -> Result<(), NoMemory>
+        requires cost { (1 ≤ cost) × (cost ≤ 65535) }
+        ensures { PassesAs Any all_late (SetCost a b cost) self.old self.new result }
+    {
+        self.plane.set_cost(a, b, cost)
+    }
+
+    /// Node n acts on the present costs.
+    pub fn reroute(&mut self, n: NodeId, lines: &mut Lines) -> Result<(), NodeFault>
+        requires network { IsSome (OfPlane (IsWithin n)) self.old }
+        ensures { ActsAs (OfPlane (IsWithin n)) (with_current n) (Reroute n) n self.old self.new lines.old lines.new result }
+    {
+        self.plane.reroute(n, lines)
+    }
+
+    /// The node begins anew: its sessions are lost, and it has forgotten all that it knew but the costs of links.
+    pub fn restart(&mut self, n: NodeId) -> Result<(), NoMemory>
+        requires network { IsSome Any self.old }
+        requires within { n.0 < length self.old.scenario.nodes }
+        ensures { PassesAs Any same_moment (Restart n) self.old self.new result }
+    {
+        self.plane.restart(&self.scenario, n)
+    }
+}

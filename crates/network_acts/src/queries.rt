@@ -1,0 +1,84 @@
+//! What is asked of a network. Nothing changes.
+ghost use Rattle.std.specs.Prelude.{◌≡◌, length};
+ghost use Rattle.std.specs.FinMap as maps;
+ghost use Rattle.world_defs.specs.Counts.{all_copies, direction, is_end_up, octets_in_transit};
+ghost use Rattle.control_plane.specs.Acted.{IsWithin};
+ghost use Rattle.control_plane.specs.Customers.{IsVrfEdge, control_at};
+ghost use Rattle.datagram_acts.specs.Stored.{AreLinked};
+ghost use Rattle.network_acts.specs.Instant.{Instant, IsSome, IsWorld, OfPlane, standing_of};
+
+use crate::network::Network;
+use mv_base::{NodeId, Pattern, VrfId};
+use scenario_defs::Kind;
+use session_defs::Direction;
+
+impl Network {
+    /// The clock, in ticks.
+    pub fn clock(&self) -> u64
+        ensures own { result ≡ self.now.plane.clock }
+        ensures is { (at : Instant) → IsWorld at self.now → result ≡ at.world.network.state.clock }
+    {
+        self.plane.clock()
+    }
+
+    /// How many octets are in transit over the direction.
+    pub fn transit(&self, over: Direction) -> usize
+        ensures { (at : Instant) → IsWorld at self.now → result ≡ length (at.world.network.transit over) }
+    {
+        self.plane.waiting(over)
+    }
+
+    /// How many octets are in transit over all sessions of the network together.
+    pub fn total(&self) -> u64
+        ensures { (at : Instant) → IsWorld at self.now → result ≡ octets_in_transit at.world }
+    {
+        self.plane.total()
+    }
+
+    /// Whether the session is joined, as the direction from the first node says it.
+    pub fn is_joined(&self, kind: Kind, a: NodeId, b: NodeId) -> bool
+        ensures { (at : Instant) → IsWorld at self.now → result ≡ at.world.network.joined (direction kind a b) }
+    {
+        self.plane.is_joined(kind, a, b)
+    }
+
+    /// Whether node n's end of the session with the peer is up.
+    pub fn is_up(&self, kind: Kind, n: NodeId, peer: NodeId) -> bool
+        requires network { IsSome (OfPlane (IsWithin n)) self.now }
+        ensures { (at : Instant) → IsWithin n (standing_of at) → IsWorld at self.now →
+            result ≡ is_end_up kind (at.world.network.state.node n) peer }
+    {
+        self.plane.is_up(kind, n, peer)
+    }
+
+    /// Whether the VRF, whose edge is node n, has selected the pattern.
+    pub fn is_selected(&self, n: NodeId, vrf: VrfId, pattern: Pattern) -> bool
+        requires network { IsSome (OfPlane (IsVrfEdge n vrf)) self.now }
+        ensures { (at : Instant) → IsVrfEdge n vrf (standing_of at) → IsWorld at self.now →
+            result ≡ maps.contains_key (control_at n (standing_of at)).selections (record { vrf = vrf; pattern = pattern }) }
+    {
+        self.plane.is_selected(n, vrf, pattern)
+    }
+
+    /// How many copies are on the way.
+    pub fn copies_on(&self, from: NodeId, to: NodeId) -> usize
+        ensures { (at : Instant) → IsWorld at self.now → result ≡ length (at.world.copies from to) }
+    {
+        self.datagrams.count_on(from, to)
+    }
+
+    /// How many copies are on links.
+    pub fn copies(&self) -> u64
+        ensures { (at : Instant) → IsWorld at self.now → AreLinked at.world → result ≡ length (all_copies at.world) }
+    {
+        self.datagrams.copies()
+    }
+
+    /// How many datagrams were accepted.
+    pub fn accepted(&self) -> u64
+        ensures own { result ≡ self.now.datagrams.count }
+        ensures is { (at : Instant) → IsWorld at self.now → result ≡ length at.world.datagrams }
+    {
+        self.datagrams.count()
+    }
+}

@@ -1,0 +1,78 @@
+//! Acts on sessions: octets are moved, a session is lost, its loss is noticed, and its ends come up.
+ghost use Rattle.world_defs.specs.Acts as acts;
+ghost use Rattle.world_defs.specs.Counts.{direction};
+ghost use Rattle.control_plane.specs.Acted.{same_moment};
+ghost use Rattle.control_plane.specs.Moving.{IsMovable};
+ghost use Rattle.control_plane.specs.Sessions.{IsDown, IsHalfUp, IsLost, none_rising, with_rising};
+ghost use Rattle.network_acts.specs.Acting.{ActsAs, Passes};
+ghost use Rattle.network_acts.specs.Instant.{Instant, IsSome, IsWorld, OfPlane};
+
+use crate::network::Network;
+use mldp_node::NodeFault;
+use mv_base::NodeId;
+use scenario_defs::{Kind, Lines};
+use session_defs::Direction;
+
+impl Network {
+    /// The first so many octets in transit over the direction, or all where there are fewer, go to the receiver.
+    pub fn move_octets(
+        &mut self,
+        over: Direction,
+        count: usize,
+        lines: &mut Lines,
+    ) -> Result<(), NodeFault>
+        requires network { IsSome (OfPlane (IsMovable over)) self.old }
+        ensures { ActsAs (OfPlane (IsMovable over)) same_moment (acts.Move over.kind over.from over.to count) over.to self.old self.new lines.old lines.new result }
+    {
+        self.plane.move_octets(over, count, lines)
+    }
+
+    /// The session is lost, and what was in transit there is gone. It takes no memory.
+    pub fn lose(&mut self, kind: Kind, a: NodeId, b: NodeId)
+        ensures { (at : Instant) → IsWorld at self.old → Passes at at.moment (acts.Lose kind a b) self.new }
+    {
+        self.plane.lose(kind, a, b);
+    }
+
+    /// The end of node a of its session with b notices the loss.
+    pub fn notice(
+        &mut self,
+        kind: Kind,
+        a: NodeId,
+        b: NodeId,
+        lines: &mut Lines,
+    ) -> Result<(), NodeFault>
+        requires network { IsSome (OfPlane (IsLost kind a b)) self.old }
+        ensures { ActsAs (OfPlane (IsLost kind a b)) same_moment (acts.Notice kind a b) a self.old self.new lines.old lines.new result }
+    {
+        self.plane.notice(kind, a, b, lines)
+    }
+
+    /// The session of a and b is joined, and the end of a comes up.
+    pub fn raise_first(
+        &mut self,
+        kind: Kind,
+        a: NodeId,
+        b: NodeId,
+        lines: &mut Lines,
+    ) -> Result<(), NodeFault>
+        requires network { IsSome (OfPlane (IsDown kind a b)) self.old }
+        ensures { ActsAs (OfPlane (IsDown kind a b)) (with_rising kind a b) (acts.RaiseFirst kind a b) a self.old self.new lines.old lines.new result }
+    {
+        self.plane.raise_first(kind, a, b, lines)
+    }
+
+    /// The end of b of its session with a, which is joined, comes up too.
+    pub fn raise_second(
+        &mut self,
+        kind: Kind,
+        a: NodeId,
+        b: NodeId,
+        lines: &mut Lines,
+    ) -> Result<(), NodeFault>
+        requires network { IsSome (OfPlane (IsHalfUp kind a b)) self.old }
+        ensures { ActsAs (OfPlane (IsHalfUp kind a b)) none_rising (acts.RaiseSecond kind a b) b self.old self.new lines.old lines.new result }
+    {
+        self.plane.raise_second(kind, a, b, lines)
+    }
+}

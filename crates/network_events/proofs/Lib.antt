@@ -1,0 +1,22 @@
+mod CallLemmas
+mod CostLemmas
+mod CustomerLemmas
+mod DatagramLemmas
+mod DoLemmas
+mod EndLemmas
+mod EventLemmas
+pub mod FlowLemmas
+mod FoundLemmas
+mod HealLemmas
+mod HopLemmas
+pub mod KeptLemmas
+mod LoopLemmas
+mod MeetLemmas
+mod NodeLemmas
+mod PlaceLemmas
+mod RowLemmas
+mod SettleLemmas
+mod TurnLemmas
+mod LinkLemmas
+mod RunLemmas
+mod StepLemmas

@@ -1,0 +1,12 @@
+use Rattle.std.proofs.Common.{◌∙◌, ap, sym}
+use Rattle.mv_base.specs.Address.{same_addr}
+use Rattle.scenario_defs.specs.declared.scenario.Scenario.{Scenario}
+use Rattle.mvpn_model.specs.Messages.{own_addr}
+use Rattle.network_events.proofs.CustomerLemmas.{read_for}
+use Rattle.network_events.proofs.customers.take_read.Goals as goal
+
+pub take-requires-clause-message : goal.take-requires-clause-message
+take-requires-clause-message c =
+    let own = c.own_addr.ensures ∙ ap (λ (s : Scenario). own_addr s c.args.iface) c.scenario.ensures in
+    read_for c.args.network.now c.args.iface c.args.octets.now c.args.lines.now c.args.neighbour c.requires.message c.requires.event
+    (ap (same_addr c.args.neighbour) (sym own) ∙ (sym c.same.ensures ∙ c.if-not-same.false))

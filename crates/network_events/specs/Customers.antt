@@ -1,0 +1,52 @@
+-- Events of customers: the messages that they hand to edges, and what comes of calls for which there may be no room.
+use Rattle.std.specs.Prelude.{◌≡◌, ◌<◌, ℕ, true, List, Option, None, Some, Result, Ok, Err, length}
+use Rattle.mv_base.specs.declared.addr.Addr.{Addr}
+use Rattle.mv_base.specs.declared.ids.IfaceId.{IfaceId}
+use Rattle.mv_base.specs.declared.ids.NodeId.{NodeId}
+use Rattle.pim_joinprune.specs.Reading.{decoded}
+use Rattle.pim_joinprune.specs.Spelling.{IsJoinPrune}
+use Rattle.pim_joinprune.specs.declared.message.JoinPrune.{JoinPrune}
+use Rattle.scenario_defs.specs.declared.event.Event.{Event}
+use Rattle.scenario_defs.specs.declared.report.Refusal.{Refusal}
+use Rattle.scenario_defs.specs.declared.report.Refusal.TheVariants as refusals
+use Rattle.scenario_defs.specs.declared.scenario.Scenario.{Scenario}
+use Rattle.mldp_node.specs.declared.fault.NodeFault.{NodeFault}
+use Rattle.mvpn_model.specs.Messages.{handed, message_of, own_addr}
+use Rattle.net_defs.specs.Network.{is_ours}
+use Rattle.world_laws.specs.Honest.{SoundMessage}
+use Rattle.network_acts.specs.Words.{Verdict, VerdictFull, VerdictMade}
+use Rattle.network_events.specs.Doing.{halted_at}
+use Rattle.network_events.specs.declared.halt.Halt.{Halt}
+
+-- The octets are a Join/Prune message of sound values for the interface, which is one of the scenario.
+pub record IsForIface (scenario : Scenario) (iface : IfaceId) (octets : List ℕ) : Type 0 where
+  pub within : iface.0 < length scenario.ifaces
+  pub message : JoinPrune
+  pub spelled : decoded octets ≡ Ok message
+  pub ours : is_ours scenario (record { iface = iface; message = message }) ≡ true
+  pub sound : SoundMessage message
+
+-- The message can be written, and is one of sound values for the interface, which is one of the scenario.
+pub record IsWrittenFor (scenario : Scenario) (iface : IfaceId) (message : JoinPrune) : Type 0 where
+  pub within : iface.0 < length scenario.ifaces
+  pub spelled : IsJoinPrune message
+  pub neighbour : message.neighbour ≡ own_addr scenario iface
+  pub sound : SoundMessage message
+
+-- the octets are a message for that neighbour
+abbrev pub IsRead : List ℕ → Addr → Type 0
+IsRead octets neighbour = (message : JoinPrune) × (decoded octets ≡ Ok message) × (message.neighbour ≡ neighbour)
+
+-- the event hands the message to the edge of the interface
+abbrev pub HandsMessage : Scenario → IfaceId → JoinPrune → Event → Type 0
+HandsMessage scenario iface message event = message_of scenario event ≡ handed iface message
+
+-- the event hands it the message that the octets are
+abbrev pub Hands : Scenario → IfaceId → List ℕ → Event → Type 0
+Hands scenario iface octets event = (message : JoinPrune) × (decoded octets ≡ Ok message) × HandsMessage scenario iface message event
+
+-- what comes of an event by what a call answered for which there may be no room
+abbrev pub verdict_at : NodeId → Result Verdict NodeFault → Result (Option Refusal) Halt
+verdict_at n (Ok VerdictMade) = Ok None
+verdict_at n (Ok VerdictFull) = Ok (Some refusals.Full)
+verdict_at n (Err fault) = Err (halted_at n fault)

@@ -1,0 +1,9 @@
+pub mod Doing
+pub mod Meeting
+pub mod Parts
+pub mod Places
+pub mod Customers
+pub mod Datagrams
+pub mod WorldView
+pub mod Behind
+pub mod Telling

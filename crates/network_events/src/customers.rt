@@ -1,0 +1,209 @@
+//! Events of customers at an interface: Join/Prune messages come there, and sources are noted (RFC 7761 section 4.5, RFC 6514 section 14).
+ghost use Rattle.std.specs.Prelude.{◌≡◌, IfOk};
+ghost use Rattle.mv_base.specs.Address.{addr_octets};
+ghost use Rattle.mv_base.specs.Octets.{IsOctets};
+ghost use Rattle.mv_base.specs.declared.addr.Addr.{Addr as AddrValue};
+ghost use Rattle.scenario_defs.specs.declared.event.Event.{Event};
+ghost use Rattle.scenario_defs.specs.declared.event.Event.TheVariants as events;
+ghost use Rattle.world_defs.specs.Refusals.{are_sessions_full};
+ghost use Rattle.network_acts.specs.Instant.{Instant, IsSome, IsWorld};
+ghost use Rattle.network_events.specs.Customers.{Hands, HandsMessage, IsForIface, IsRead, IsWrittenFor, verdict_at};
+ghost use Rattle.network_events.specs.Meeting.{IsGiven, IsReady, Meets};
+
+use crate::halt::{Halt, answer_at, met};
+use mldp_node::NodeFault;
+use mv_base::{Addr, IfaceId, NoMemory, NodeId};
+use mvpn_model::own_addr;
+use net_defs::fault_word;
+use network_acts::{Network, Verdict};
+use pim_defs::{join_of, prune_of};
+use pim_joinprune::{DecodeFault, JoinPrune, decode, encode};
+use route_order::are_octets;
+use scenario_defs::{JoinEntry, Lines, Refusal, edge_of};
+
+/// So many octets in transit are too many for an event of a customer.
+const OCTET_LIMIT: u64 = 268_435_456;
+
+/// Whether so many octets are in transit that no event of a customer is taken.
+pub(crate) fn are_sessions_full(network: &Network) -> bool
+    ensures { (at : Instant) → IsWorld at network.now → result ≡ are_sessions_full at.world }
+{
+    network.total() >= OCTET_LIMIT
+}
+
+/// What comes of a call at node n for which there may be no room, by what was answered.
+pub(crate) fn verdict_at(
+    n: NodeId,
+    answer: Result<Verdict, NodeFault>,
+) -> Result<Option<Refusal>, Halt>
+    ensures { result ≡ verdict_at n answer }
+{
+    match answer {
+        Ok(Verdict::Made) => Ok(None),
+        Ok(Verdict::Full) => Ok(Some(Refusal::Full)),
+        Err(NodeFault::NoLabel) => Err(Halt::NoLabel(n)),
+        Err(NodeFault::NoMemory) => Err(Halt::NoMemory),
+    }
+}
+
+/// Octets of a message come to the interface that it is for.
+fn take(
+    network: &mut Network,
+    iface: IfaceId,
+    octets: &[u8],
+    lines: &mut Lines,
+) -> Result<Option<Refusal>, Halt>
+    requires network { IsSome IsReady network.old }
+    requires message { IsForIface network.old.scenario iface octets.now }
+    ensures { (event : Event) → Hands network.old.scenario iface octets.now event → Meets event network.old network.new lines.old lines.new result }
+{
+    if are_sessions_full(network) {
+        return Ok(Some(Refusal::Full));
+    }
+    match edge_of(network.scenario(), iface) {
+        Some(n) => verdict_at(n, network.take_pim(n, iface, octets, lines)),
+        None => unreachable!(),
+    }
+}
+
+/// A message for the interface, as the customer router behind it writes it, comes there.
+fn take_written(
+    network: &mut Network,
+    iface: IfaceId,
+    message: &JoinPrune,
+    lines: &mut Lines,
+) -> Result<Option<Refusal>, Halt>
+    requires network { IsSome IsReady network.old }
+    requires message { IsWrittenFor network.old.scenario iface message.now }
+    ensures { (event : Event) → HandsMessage network.old.scenario iface message.now event → Meets event network.old network.new lines.old lines.new result }
+{
+    match encode(lines.alloc(), message) {
+        Ok(octets) => take(network, iface, octets.as_slice(), lines),
+        Err(NoMemory) => Err(Halt::NoMemory),
+    }
+}
+
+/// A message that joins the entry comes to the interface, for its own address.
+pub(crate) fn join(
+    network: &mut Network,
+    iface: IfaceId,
+    entry: &JoinEntry,
+    lines: &mut Lines,
+) -> Result<Option<Refusal>, Halt>
+    requires network { IsSome IsReady network.old }
+    requires event { IsGiven network.old.scenario (events.Join iface entry.now) }
+    ensures { Meets (events.Join iface entry.now) network.old network.new lines.old lines.new result }
+{
+    match join_of(lines.alloc(), own_addr(network.scenario(), iface), entry) {
+        Ok(message) => take_written(network, iface, &message, lines),
+        Err(NoMemory) => Err(Halt::NoMemory),
+    }
+}
+
+/// A message that prunes the entry comes to the interface, for its own address.
+pub(crate) fn prune(
+    network: &mut Network,
+    iface: IfaceId,
+    entry: &JoinEntry,
+    lines: &mut Lines,
+) -> Result<Option<Refusal>, Halt>
+    requires network { IsSome IsReady network.old }
+    requires event { IsGiven network.old.scenario (events.Prune iface entry.now) }
+    ensures { Meets (events.Prune iface entry.now) network.old network.new lines.old lines.new result }
+{
+    match prune_of(lines.alloc(), own_addr(network.scenario(), iface), entry) {
+        Ok(message) => take_written(network, iface, &message, lines),
+        Err(NoMemory) => Err(Halt::NoMemory),
+    }
+}
+
+/// Octets of a message for that neighbour come to the interface.
+fn take_read(
+    network: &mut Network,
+    iface: IfaceId,
+    neighbour: Addr,
+    octets: &[u8],
+    lines: &mut Lines,
+) -> Result<Option<Refusal>, Halt>
+    requires network { IsSome IsReady network.old }
+    requires event { IsGiven network.old.scenario (events.Pim iface octets.now) }
+    requires message { IsRead octets.now neighbour }
+    ensures { Meets (events.Pim iface octets.now) network.old network.new lines.old lines.new result }
+{
+    if !neighbour.same(own_addr(network.scenario(), iface)) {
+        return Ok(Some(Refusal::Ours));
+    }
+    take(network, iface, octets, lines)
+}
+
+/// Octets come to the interface.
+pub(crate) fn pim(
+    network: &mut Network,
+    iface: IfaceId,
+    octets: &[u8],
+    lines: &mut Lines,
+) -> Result<Option<Refusal>, Halt>
+    requires network { IsSome IsReady network.old }
+    requires event { IsGiven network.old.scenario (events.Pim iface octets.now) }
+    ensures { Meets (events.Pim iface octets.now) network.old network.new lines.old lines.new result }
+{
+    match decode(lines.alloc(), octets) {
+        Ok(message) => take_read(network, iface, message.neighbour, octets, lines),
+        Err(DecodeFault::Bad { place, fault }) => {
+            let word = fault_word(fault);
+            Ok(Some(Refusal::Bytes { place, word }))
+        }
+        Err(DecodeFault::NoMemory) => Err(Halt::NoMemory),
+    }
+}
+
+/// A source is noted at the edge of the interface.
+pub(crate) fn active(
+    network: &mut Network,
+    iface: IfaceId,
+    source: Addr,
+    group: Addr,
+    lines: &mut Lines,
+) -> Result<Option<Refusal>, Halt>
+    requires network { IsSome IsReady network.old }
+    requires event { IsGiven network.old.scenario (events.Active iface source group) }
+    ensures { Meets (events.Active iface source group) network.old network.new lines.old lines.new result }
+{
+    if are_sessions_full(network) {
+        return Ok(Some(Refusal::Full));
+    }
+    match edge_of(network.scenario(), iface) {
+        Some(n) => verdict_at(n, network.active(n, iface, source, group, lines)),
+        None => unreachable!(),
+    }
+}
+
+/// Shows that the address is of octets.
+pub(crate) fn has_octets(addr: Addr)
+    ensures { IsOctets (addr_octets addr) }
+{
+    are_octets(addr.octets());
+}
+
+/// A source is noted no more at the edge of the interface.
+pub(crate) fn idle(
+    network: &mut Network,
+    iface: IfaceId,
+    source: Addr,
+    group: Addr,
+    lines: &mut Lines,
+) -> Result<Option<Refusal>, Halt>
+    requires network { IsSome IsReady network.old }
+    requires event { IsGiven network.old.scenario (events.Idle iface source group) }
+    ensures { Meets (events.Idle iface source group) network.old network.new lines.old lines.new result }
+{
+    if are_sessions_full(network) {
+        return Ok(Some(Refusal::Full));
+    }
+    has_octets(source);
+    has_octets(group);
+    match edge_of(network.scenario(), iface) {
+        Some(n) => met(answer_at(n, network.idle(n, iface, source, group, lines))),
+        None => unreachable!(),
+    }
+}

@@ -1,0 +1,218 @@
+//! Events of datagrams: sites send them, their copies hop over links or are dropped, and the state is told (RFC 6513 sections 9.1.1 and 12,
+//! RFC 3032).
+ghost use Rattle.std.specs.Prelude.{◌≡◌, ◌<◌, ◌+◌, ◌^◌, [], ◌∷◌, OnOk};
+ghost use Rattle.mvpn_model.specs.Packets.{packet_word};
+ghost use Rattle.scenario_defs.specs.declared.event.Event.{Event};
+ghost use Rattle.scenario_defs.specs.declared.event.Event.TheVariants as events;
+ghost use Rattle.world_defs.specs.Events as definitions;
+ghost use Rattle.world_defs.specs.Refusals.{are_links_full};
+ghost use Rattle.datagram_acts.specs.Stored.{AreLinked};
+ghost use Rattle.network_acts.specs.Instant.{Instant, IsSome, IsWorld};
+ghost use Rattle.network_events.specs.Datagrams.{EntersAt, IsSomeSent, Makes, Sends, of_memory};
+ghost use Rattle.network_events.specs.Meeting.{IsGiven, IsReady, Meets};
+
+use crate::halt::{Halt, met};
+use crate::packet::packet;
+use crate::places::{edge_of_vrf, entered};
+use label_forwarding::{Datagram, PacketReason, read_packet};
+use mv_base::{Addr, NoMemory, NodeId, SiteId, VrfId};
+use network_acts::Network;
+use scenario_defs::{FaultWord, Lines, Refusal};
+use session_ways::sessions_of;
+
+/// So many copies on links are too many for one more datagram.
+const COPY_LIMIT: u64 = 65_536;
+
+/// What comes of acts that lack no label.
+pub(crate) fn of_memory(answer: Result<(), NoMemory>) -> Result<(), Halt>
+    ensures { result ≡ of_memory answer }
+{
+    match answer {
+        Ok(()) => Ok(()),
+        Err(NoMemory) => Err(Halt::NoMemory),
+    }
+}
+
+fn are_links_full(network: &Network) -> bool
+    ensures { (at : Instant) → IsWorld at network.now → AreLinked at.world → result ≡ are_links_full at.world }
+{
+    network.copies() >= COPY_LIMIT
+}
+
+/// The word that tells why octets are no packet.
+fn packet_word(reason: PacketReason) -> FaultWord
+    ensures { result ≡ packet_word reason }
+{
+    match reason {
+        PacketReason::Short => FaultWord::Short,
+        PacketReason::Version => FaultWord::Version,
+        PacketReason::HeaderLength => FaultWord::HeaderLength,
+        PacketReason::TotalLength => FaultWord::TotalLength,
+        PacketReason::Checksum => FaultWord::Checksum,
+        PacketReason::NotMulticast => FaultWord::NotMulticast,
+        PacketReason::LinkLocal => FaultWord::LinkLocal,
+    }
+}
+
+/// The datagram that was accepted last enters at the VRF, where the scenario has it.
+fn enter(
+    network: &mut Network,
+    vrf: VrfId,
+    site: SiteId,
+    datagram: &Datagram<'_>,
+    lines: &mut Lines,
+) -> Result<(), NoMemory>
+    requires network { IsSomeSent site datagram.now network.old }
+    ensures { OnOk result (EntersAt site datagram.now (vrf ∷ []) network.old network.new lines.old lines.new) }
+{
+    match edge_of_vrf(network.scenario(), vrf) {
+        Some(n) => network.enter(n, vrf, site, datagram, lines),
+        None => Ok(()),
+    }
+}
+
+/// It enters at each of the VRFs, in order.
+fn enter_each(
+    network: &mut Network,
+    vrfs: &[VrfId],
+    site: SiteId,
+    datagram: &Datagram<'_>,
+    lines: &mut Lines,
+) -> Result<(), NoMemory>
+    requires network { IsSomeSent site datagram.now network.old }
+    ensures { OnOk result (EntersAt site datagram.now vrfs.now network.old network.new lines.old lines.new) }
+{
+    for vrf in vrfs {
+        enter(network, *vrf, site, datagram, lines)?;
+    }
+    Ok(())
+}
+
+/// The site's datagram is accepted, and enters at each VRF at which the site is attached.
+fn sent(
+    network: &mut Network,
+    site: SiteId,
+    datagram: &Datagram<'_>,
+    lines: &mut Lines,
+) -> Result<(), NoMemory>
+    requires network { IsSome IsReady network.old }
+    requires room { network.old.datagrams.count + 1 < 2 ^ 64 }
+    ensures { Makes IsReady (definitions.sent site datagram.now.source datagram.now.group datagram.now.octets) network.old network.new lines.old lines.new result }
+{
+    let vrfs = entered(lines.alloc(), network.scenario(), site)?;
+    network.accept(datagram.bytes())?;
+    enter_each(network, vrfs.as_slice(), site, datagram, lines)?;
+    network.finish();
+    Ok(())
+}
+
+/// The site sends octets, which are a packet of that flow, where there is room on the links.
+fn send_octets(
+    network: &mut Network,
+    site: SiteId,
+    octets: &[u8],
+    lines: &mut Lines,
+) -> Result<Option<Refusal>, Halt>
+    requires network { IsSome IsReady network.old }
+    requires room { network.old.datagrams.count + 1 < 2 ^ 64 }
+    ensures { (event : Event) → Sends site octets.now event → Meets event network.old network.new lines.old lines.new result }
+{
+    match read_packet(octets) {
+        Ok(datagram) => {
+            if are_links_full(network) {
+                return Ok(Some(Refusal::Full));
+            }
+            met(of_memory(sent(network, site, &datagram, lines)))
+        }
+        Err(fault) => {
+            let word = packet_word(fault.reason);
+            Ok(Some(Refusal::Bytes {
+                place: fault.place,
+                word,
+            }))
+        }
+    }
+}
+
+/// The site sends the packet of that flow and payload.
+pub(crate) fn send(
+    network: &mut Network,
+    site: SiteId,
+    source: Addr,
+    group: Addr,
+    payload: &[u8],
+    lines: &mut Lines,
+) -> Result<Option<Refusal>, Halt>
+    requires network { IsSome IsReady network.old }
+    requires event { IsGiven network.old.scenario (events.Send site source group payload.now) }
+    requires room { network.old.datagrams.count + 1 < 2 ^ 64 }
+    ensures { Meets (events.Send site source group payload.now) network.old network.new lines.old lines.new result }
+{
+    match packet(lines.alloc(), source, group, payload) {
+        Ok(octets) => send_octets(network, site, octets.as_slice(), lines),
+        Err(NoMemory) => Err(Halt::NoMemory),
+    }
+}
+
+/// The site sends these octets as they are.
+pub(crate) fn send_packet(
+    network: &mut Network,
+    site: SiteId,
+    octets: &[u8],
+    lines: &mut Lines,
+) -> Result<Option<Refusal>, Halt>
+    requires network { IsSome IsReady network.old }
+    requires event { IsGiven network.old.scenario (events.Packet site octets.now) }
+    requires room { network.old.datagrams.count + 1 < 2 ^ 64 }
+    ensures { Meets (events.Packet site octets.now) network.old network.new lines.old lines.new result }
+{
+    send_octets(network, site, octets, lines)
+}
+
+/// The copy at that place of the way lands.
+pub(crate) fn hop(
+    network: &mut Network,
+    from: NodeId,
+    to: NodeId,
+    place: u32,
+    lines: &mut Lines,
+) -> Result<Option<Refusal>, Halt>
+    requires network { IsSome IsReady network.old }
+    requires event { IsGiven network.old.scenario (events.Hop from to place) }
+    ensures { Meets (events.Hop from to place) network.old network.new lines.old lines.new result }
+{
+    if network.copies_on(from, to) < place as usize {
+        return Ok(Some(Refusal::Place));
+    }
+    met(of_memory(network.hop(from, to, place as usize, lines)))
+}
+
+/// The copy at that place of the way is dropped.
+pub(crate) fn drop_copy(
+    network: &mut Network,
+    from: NodeId,
+    to: NodeId,
+    place: u32,
+    lines: &mut Lines,
+) -> Result<Option<Refusal>, Halt>
+    requires network { IsSome IsReady network.old }
+    requires event { IsGiven network.old.scenario (events.DropCopy from to place) }
+    ensures { Meets (events.DropCopy from to place) network.old network.new lines.old lines.new result }
+{
+    if network.copies_on(from, to) < place as usize {
+        return Ok(Some(Refusal::Place));
+    }
+    network.drop_copy(from, to, place as usize);
+    Ok(None)
+}
+
+/// The state of the network is told.
+pub(crate) fn state(network: &mut Network, lines: &mut Lines) -> Result<Option<Refusal>, Halt>
+    requires network { IsSome IsReady network.old }
+    ensures { Meets events.State network.old network.new lines.old lines.new result }
+{
+    match sessions_of(lines.alloc(), network.scenario()) {
+        Ok(sessions) => met(of_memory(network.tell(sessions.as_slice(), lines))),
+        Err(NoMemory) => Err(Halt::NoMemory),
+    }
+}

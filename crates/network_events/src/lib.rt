@@ -1,0 +1,19 @@
+//! The events of a script, as a network meets them: each is refused, or is a row of acts.
+#![tactic(auto)]
+
+mod costs;
+mod customers;
+mod datagrams;
+mod dispatch;
+mod draining;
+mod halt;
+mod nodes;
+mod packet;
+mod places;
+mod selections;
+mod sessions;
+mod settling;
+mod world;
+
+pub use halt::Halt;
+pub use world::World;

@@ -1,4 +1,4 @@
-"""The acts of each event, one after another, and runs of a script (world_defs: Events, Run)."""
+"""The acts of each event, one after another, and runs of a script (network_defs: Events, Run)."""
 
 from dataclasses import dataclass, replace
 

@@ -1,4 +1,4 @@
-"""Licensed hop by hop: what goes on was mapped, joined and told by octets of the report itself (world_defs: Local). Judges a trace,
+"""Licensed hop by hop: what goes on was mapped, joined and told by octets of the report itself (network_defs: Local). Judges a trace,
 the acts of a run with their lines, from the octets of its `put` and `take` lines alone."""
 
 from . import report

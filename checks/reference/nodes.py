@@ -1,4 +1,4 @@
-"""The nodes of a network, what they do with messages and at calls, and what their steps put (world_defs: Nodes, System, Puts).
+"""The nodes of a network, what they do with messages and at calls, and what their steps put (network_defs: Nodes, System, Puts).
 A node's state is an `EdgeData`, or the `LabelData` of a core node."""
 
 from dataclasses import dataclass, replace

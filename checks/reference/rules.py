@@ -1,4 +1,4 @@
-"""What holds of a network behind every act (world_defs: LabelRule; label_defs: Settled; edge_defs: Flows)."""
+"""What holds of a network behind every act (network_defs: LabelRule; label_defs: Settled; edge_defs: Flows)."""
 
 from .base import covers
 from .labels import Leaving, Mapped, Resting, has_tree, is_ready, same_fec, trees, use_of

@@ -1,4 +1,4 @@
-"""The state of the whole network, what `state` counts, and the acts of a network with their lines (world_defs: World, Counts,
+"""The state of the whole network, what `state` counts, and the acts of a network with their lines (network_defs: World, Counts,
 Acts)."""
 
 from dataclasses import dataclass, replace

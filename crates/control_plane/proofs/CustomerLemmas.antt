@@ -24,11 +24,11 @@ use Rattle.edge_home.specs.Home.{Home}
 use Rattle.control_laws.proofs.Parts.{no_core}
 use Rattle.mldp_node.specs.declared.fault.NodeFault.{NodeFault}
 use Rattle.mldp_node.specs.declared.fault.NodeFault.TheVariants as halts
-use Rattle.world_defs.specs.Nodes as world
-use Rattle.world_defs.specs.Nodes.{NodeState, Nodes}
-use Rattle.world_defs.specs.Refusals.{control_of, edge_of_vrf}
-use Rattle.world_defs.specs.System.{NodeCall, Own}
-use Rattle.world_laws.specs.Honest.{IsSoundCall}
+use Rattle.network_defs.specs.Nodes as world
+use Rattle.network_defs.specs.Nodes.{NodeState, Nodes}
+use Rattle.network_defs.specs.Refusals.{control_of, edge_of_vrf}
+use Rattle.network_defs.specs.System.{NodeCall, Own}
+use Rattle.network_laws.specs.Honest.{IsSoundCall}
 use Rattle.wire_laws.specs.AnyNodes as any
 use Rattle.wire_laws.specs.AnyNodes.{AnyNode, IsNodeAt}
 use Rattle.wire_laws.specs.Edges.{begins}

@@ -7,9 +7,9 @@ use Rattle.session_defs.specs.Octets.{OctetNetwork, Stream}
 use Rattle.session_defs.specs.PeerSession.{fault_at}
 use Rattle.session_defs.specs.System.{Put}
 use Rattle.control_laws.proofs.Parts.{no_core}
-use Rattle.world_defs.specs.Counts.{direction}
-use Rattle.world_defs.specs.Nodes as world
-use Rattle.world_defs.specs.Nodes.{NodeState, Nodes}
+use Rattle.network_defs.specs.Counts.{direction}
+use Rattle.network_defs.specs.Nodes as world
+use Rattle.network_defs.specs.Nodes.{NodeState, Nodes}
 use Rattle.wire_laws.specs.AnyNodes as any
 use Rattle.wire_laws.specs.AnyNodes.{AnyNode, HasSessions, IsNodeAt, node_fault}
 use Rattle.wire_laws.specs.CoreNodes.{CoreState, ldp_with}

@@ -13,8 +13,8 @@ use Rattle.session_defs.specs.declared.direction.Direction.{Direction}
 use Rattle.session_defs.proofs.Lines.{own_direction}
 use Rattle.edge_defs.specs.Steps.{Raised}
 use Rattle.mvpn_model.proofs.SessionLemmas.{one_kind}
-use Rattle.world_defs.specs.Counts.{direction, is_end_up}
-use Rattle.world_defs.specs.Nodes.{NodeState, Nodes}
+use Rattle.network_defs.specs.Counts.{direction, is_end_up}
+use Rattle.network_defs.specs.Nodes.{NodeState, Nodes}
 use Rattle.wire_laws.specs.AnyNodes as any
 use Rattle.wire_laws.specs.AnyNodes.{AnyNode, IsNodeAt}
 use Rattle.wire_laws.specs.Edges.{IsWay}

@@ -12,11 +12,11 @@ use Rattle.session_defs.specs.Octets.{OctetAct, OctetNetwork, octet_act, octet_r
 use Rattle.session_defs.specs.System.{Behind}
 use Rattle.edge_defs.specs.Steps.{Rerouted}
 use Rattle.mldp_node.specs.declared.fault.NodeFault.{NodeFault}
-use Rattle.world_defs.specs.Acts as acts
-use Rattle.world_defs.specs.Costs.{AreRepriced, Cores}
-use Rattle.world_defs.specs.Nodes.{Nodes, core_at, following}
-use Rattle.world_defs.specs.System.{NodeCall, Follow, system}
-use Rattle.world_laws.proofs.RunActs.{act_stays}
+use Rattle.network_defs.specs.Acts as acts
+use Rattle.network_defs.specs.Costs.{AreRepriced, Cores}
+use Rattle.network_defs.specs.Nodes.{Nodes, core_at, following}
+use Rattle.network_defs.specs.System.{NodeCall, Follow, system}
+use Rattle.network_laws.proofs.RunActs.{act_stays}
 use Rattle.wire_laws.specs.AnyNodes as any
 use Rattle.wire_laws.specs.AnyNodes.{AnyNode, IsElsewhere, IsNodeAt, node_after, with_known}
 use Rattle.wire_laws.proofs.AnyNodeLemmas.{follow_lacks, follow_made}

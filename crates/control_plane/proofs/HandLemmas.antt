@@ -11,10 +11,10 @@ use Rattle.session_defs.specs.System.{Put}
 use Rattle.session_defs.specs.declared.direction.Direction.{Direction}
 use Rattle.session_transit.specs.TransitData.{TransitData}
 use Rattle.session_ways.specs.Ways.{is_from, ways_from}
-use Rattle.world_defs.specs.Acts.{put_lines}
-use Rattle.world_defs.specs.Costs.{Cores}
-use Rattle.world_defs.specs.Counts.{direction, directions}
-use Rattle.world_defs.specs.Nodes.{Nodes}
+use Rattle.network_defs.specs.Acts.{put_lines}
+use Rattle.network_defs.specs.Costs.{Cores}
+use Rattle.network_defs.specs.Counts.{direction, directions}
+use Rattle.network_defs.specs.Nodes.{Nodes}
 use Rattle.wire_laws.specs.AnyNodes.{AnyNode}
 use Rattle.network_nodes.specs.NodeView.{IsNode, IsPlacedAt, MayBePeer, spent_in}
 use Rattle.network_nodes.specs.declared.node.NetworkNode.{NetworkNode}

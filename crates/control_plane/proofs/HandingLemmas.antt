@@ -21,10 +21,10 @@ use Rattle.session_defs.specs.declared.direction.Direction.{Direction}
 use Rattle.session_defs.proofs.Lines.{direction_is, own_direction}
 use Rattle.node_defs.specs.EdgeState.{waiting_at}
 use Rattle.node_laws.proofs.OctetLemmas.{waiting_less}
-use Rattle.world_defs.specs.Acts.{put_line}
-use Rattle.world_defs.specs.Counts.{direction}
-use Rattle.world_defs.specs.Nodes as world
-use Rattle.world_defs.specs.Nodes.{Nodes}
+use Rattle.network_defs.specs.Acts.{put_line}
+use Rattle.network_defs.specs.Counts.{direction}
+use Rattle.network_defs.specs.Nodes as world
+use Rattle.network_defs.specs.Nodes.{Nodes}
 use Rattle.wire_laws.specs.AnyNodes as any
 use Rattle.wire_laws.specs.AnyNodes.{AnyNode, IsNodeAt}
 use Rattle.wire_laws.specs.CoreNodes.{ldp_with}

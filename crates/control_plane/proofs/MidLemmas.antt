@@ -14,9 +14,9 @@ use Rattle.session_defs.specs.declared.direction.Direction.{Direction}
 use Rattle.session_transit.specs.TransitData.{TransitData, is_joined_at, octets_at}
 use Rattle.edge_defs.specs.Steps.{Call}
 use Rattle.control_laws.proofs.Parts.{no_core}
-use Rattle.world_defs.specs.Costs.{AreRepriced, Cores}
-use Rattle.world_defs.specs.Counts.{direction}
-use Rattle.world_defs.specs.Nodes.{Nodes, core_at}
+use Rattle.network_defs.specs.Costs.{AreRepriced, Cores}
+use Rattle.network_defs.specs.Counts.{direction}
+use Rattle.network_defs.specs.Nodes.{Nodes, core_at}
 use Rattle.wire_laws.specs.AnyNodes as any
 use Rattle.wire_laws.specs.AnyNodes.{AnyNode, IsElsewhere, IsNodeAt, IsNodeBefore, spent_of}
 use Rattle.wire_laws.specs.Edges.{IsWay, begins}

@@ -9,11 +9,11 @@ use Rattle.session_defs.specs.System.{Behind, Put}
 use Rattle.session_defs.specs.declared.direction.Direction.{Direction}
 use Rattle.session_transit.specs.TransitData.{Takes, TransitData, octets_at}
 use Rattle.mldp_node.specs.declared.fault.NodeFault.{NodeFault}
-use Rattle.world_defs.specs.Acts.{put_lines}
-use Rattle.world_defs.specs.Costs.{Cores}
-use Rattle.world_defs.specs.Counts.{is_end_up}
-use Rattle.world_defs.specs.Nodes.{Nodes}
-use Rattle.world_defs.specs.System.{system}
+use Rattle.network_defs.specs.Acts.{put_lines}
+use Rattle.network_defs.specs.Costs.{Cores}
+use Rattle.network_defs.specs.Counts.{is_end_up}
+use Rattle.network_defs.specs.Nodes.{Nodes}
+use Rattle.network_defs.specs.System.{system}
 use Rattle.edge_core.specs.Answers.{IsOneOf}
 use Rattle.edge_core.specs.declared.fault.EdgeFault.{EdgeFault}
 use Rattle.network_nodes.specs.Answers.{AnswersOctets}

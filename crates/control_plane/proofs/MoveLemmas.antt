@@ -17,12 +17,12 @@ use Rattle.session_defs.specs.declared.direction.Direction.{Direction}
 use Rattle.session_defs.proofs.Lines.{direction_is}
 use Rattle.session_transit.specs.TransitData.{Takes, TransitData}
 use Rattle.edge_streams.specs.Streams.{told_fault}
-use Rattle.world_defs.specs.Acts as acts
-use Rattle.world_defs.specs.Costs.{Cores}
-use Rattle.world_defs.specs.Counts.{direction, is_end_up}
-use Rattle.world_defs.specs.Nodes.{NodeState, Nodes}
-use Rattle.world_defs.specs.System.{NodeCall, system}
-use Rattle.world_laws.proofs.RunActs.{act_stays}
+use Rattle.network_defs.specs.Acts as acts
+use Rattle.network_defs.specs.Costs.{Cores}
+use Rattle.network_defs.specs.Counts.{direction, is_end_up}
+use Rattle.network_defs.specs.Nodes.{NodeState, Nodes}
+use Rattle.network_defs.specs.System.{NodeCall, system}
+use Rattle.network_laws.proofs.RunActs.{act_stays}
 use Rattle.wire_laws.specs.AnyNodes as any
 use Rattle.wire_laws.specs.AnyNodes.{AnyNode, HasSessions, IsElsewhere, IsNodeAt, node_fault, node_taking, rest_of, spent_of}
 use Rattle.wire_laws.specs.Edges.{IsWay}

@@ -19,14 +19,14 @@ use Rattle.session_defs.specs.declared.direction.Direction.{Direction}
 use Rattle.session_transit.specs.TransitData.{Loses, TransitData, is_joined_at, octets_at}
 use Rattle.edge_defs.specs.Edge as edges
 use Rattle.node_defs.specs.EdgeState.{fresh_state}
-use Rattle.world_defs.specs.Acts as acts
-use Rattle.world_defs.specs.Acts.{is_at, is_of_session, leads_to}
-use Rattle.world_defs.specs.Counts.{direction, is_end_up}
-use Rattle.world_defs.specs.Nodes as world
-use Rattle.world_defs.specs.Nodes.{NodeState, Nodes, fresh_node, is_edge, with_node}
-use Rattle.world_defs.specs.System.{Elapse, Price, Reset, unchanged}
-use Rattle.world_laws.specs.Honest.{IsCost}
-use Rattle.world_laws.proofs.RunActs.{act_stays}
+use Rattle.network_defs.specs.Acts as acts
+use Rattle.network_defs.specs.Acts.{is_at, is_of_session, leads_to}
+use Rattle.network_defs.specs.Counts.{direction, is_end_up}
+use Rattle.network_defs.specs.Nodes as world
+use Rattle.network_defs.specs.Nodes.{NodeState, Nodes, fresh_node, is_edge, with_node}
+use Rattle.network_defs.specs.System.{Elapse, Price, Reset, unchanged}
+use Rattle.network_laws.specs.Honest.{IsCost}
+use Rattle.network_laws.proofs.RunActs.{act_stays}
 use Rattle.wire_laws.specs.AnyNodes as any
 use Rattle.wire_laws.specs.AnyNodes.{AnyNode, IsNodeAt}
 use Rattle.wire_laws.specs.CoreNodes.{fresh_core}

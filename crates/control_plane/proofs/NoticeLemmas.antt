@@ -14,12 +14,12 @@ use Rattle.session_defs.specs.declared.direction.Direction.{Direction}
 use Rattle.session_defs.proofs.Lines.{own_direction}
 use Rattle.edge_defs.specs.Steps.{Noticed}
 use Rattle.mvpn_model.proofs.SessionLemmas.{one_kind}
-use Rattle.world_defs.specs.Acts as acts
-use Rattle.world_defs.specs.Acts.{is_from_peer}
-use Rattle.world_defs.specs.Counts.{direction, is_end_up}
-use Rattle.world_defs.specs.Nodes.{Nodes}
-use Rattle.world_defs.specs.System.{NodeCall, Own, system}
-use Rattle.world_laws.proofs.RunActs.{act_stays}
+use Rattle.network_defs.specs.Acts as acts
+use Rattle.network_defs.specs.Acts.{is_from_peer}
+use Rattle.network_defs.specs.Counts.{direction, is_end_up}
+use Rattle.network_defs.specs.Nodes.{Nodes}
+use Rattle.network_defs.specs.System.{NodeCall, Own, system}
+use Rattle.network_laws.proofs.RunActs.{act_stays}
 use Rattle.wire_laws.specs.AnyNodes.{IsElsewhere}
 use Rattle.wire_laws.specs.Edges.{begins}
 use Rattle.wire_laws.specs.Ends.{HasCall}

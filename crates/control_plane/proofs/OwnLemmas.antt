@@ -17,12 +17,12 @@ use Rattle.session_defs.specs.System.{Behind, Put}
 use Rattle.edge_defs.specs.Steps.{Call}
 use Rattle.edge_home.specs.Home.{Home, peers_of}
 use Rattle.mldp_node.specs.declared.fault.NodeFault.{NodeFault}
-use Rattle.world_defs.specs.Acts.{put_lines}
-use Rattle.world_defs.specs.Costs.{Cores}
-use Rattle.world_defs.specs.Counts.{direction}
-use Rattle.world_defs.specs.Nodes.{Nodes}
-use Rattle.world_defs.specs.System.{NodeCall, Own, system}
-use Rattle.world_laws.specs.Honest.{IsSoundCall}
+use Rattle.network_defs.specs.Acts.{put_lines}
+use Rattle.network_defs.specs.Costs.{Cores}
+use Rattle.network_defs.specs.Counts.{direction}
+use Rattle.network_defs.specs.Nodes.{Nodes}
+use Rattle.network_defs.specs.System.{NodeCall, Own, system}
+use Rattle.network_laws.specs.Honest.{IsSoundCall}
 use Rattle.wire_laws.specs.AnyNodes.{AnyNode, IsElsewhere, IsNodeAt, node_after}
 use Rattle.wire_laws.specs.Edges.{IsWay, begins}
 use Rattle.wire_laws.specs.Ends.{HasCall}

@@ -11,7 +11,7 @@ use Rattle.pim_joinprune.specs.declared.message.JoinPrune.{JoinPrune}
 use Rattle.scenario_defs.specs.declared.scenario.Scenario.{Scenario}
 use Rattle.edge_defs.specs.Steps.{Pim}
 use Rattle.edge_home.specs.Home.{Home}
-use Rattle.world_defs.specs.Refusals.{control_of}
+use Rattle.network_defs.specs.Refusals.{control_of}
 use Rattle.edge_core.specs.Answers.{IsOneOf, OnTaken, spent_by}
 use Rattle.edge_core.specs.Pim.{AnswersPim, is_ours, is_over, refusal}
 use Rattle.edge_core.specs.State.{home_of}

@@ -8,8 +8,8 @@ use Rattle.mv_base.specs.declared.ids.NodeId.{NodeId}
 use Rattle.session_transit.proofs.Totals.{most}
 use Rattle.session_ways.proofs.WayLemmas.{made_of_more}
 use Rattle.mvpn_model.specs.declared.session.Session.{Session}
-use Rattle.world_defs.specs.Counts.{all_nodes, is_ready, node_due, node_ids}
-use Rattle.world_defs.specs.Nodes.{Nodes}
+use Rattle.network_defs.specs.Counts.{all_nodes, is_ready, node_due, node_ids}
+use Rattle.network_defs.specs.Nodes.{Nodes}
 use Rattle.network_nodes.specs.NodeView.{IsPlacedAt, data_in, spent_in}
 use Rattle.network_nodes.specs.declared.node.NetworkNode.{NetworkNode}
 use Rattle.control_plane.specs.Acted.{IsIn, IsSome, IsWithin, Standing}

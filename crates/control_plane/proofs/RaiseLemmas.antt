@@ -17,12 +17,12 @@ use Rattle.session_defs.proofs.Lines.{direction_is, own_direction}
 use Rattle.session_transit.specs.TransitData.{Joins, TransitData}
 use Rattle.edge_defs.specs.Steps.{Raised}
 use Rattle.mvpn_model.proofs.SessionLemmas.{one_kind}
-use Rattle.world_defs.specs.Acts as acts
-use Rattle.world_defs.specs.Acts.{is_of_session}
-use Rattle.world_defs.specs.Counts.{direction, is_end_up}
-use Rattle.world_defs.specs.Nodes.{Nodes}
-use Rattle.world_defs.specs.System.{NodeCall, Own, system}
-use Rattle.world_laws.proofs.RunActs.{Stays, act_stays}
+use Rattle.network_defs.specs.Acts as acts
+use Rattle.network_defs.specs.Acts.{is_of_session}
+use Rattle.network_defs.specs.Counts.{direction, is_end_up}
+use Rattle.network_defs.specs.Nodes.{Nodes}
+use Rattle.network_defs.specs.System.{NodeCall, Own, system}
+use Rattle.network_laws.proofs.RunActs.{Stays, act_stays}
 use Rattle.wire_laws.specs.AnyNodes.{IsElsewhere}
 use Rattle.wire_laws.specs.Edges.{IsWay, begins}
 use Rattle.wire_laws.proofs.EndLemmas.{calls_ends}

@@ -13,10 +13,10 @@ use Rattle.session_defs.specs.declared.direction.Direction.{Direction}
 use Rattle.session_transit.specs.TransitData.{TransitData, octets_at}
 use Rattle.session_ways.specs.Ways.{is_from, ways_from}
 use Rattle.session_ways.proofs.WayLemmas.{made_by_ways}
-use Rattle.world_defs.specs.Acts.{put_line, put_lines}
-use Rattle.world_defs.specs.Costs.{Cores}
-use Rattle.world_defs.specs.Counts.{direction, directions}
-use Rattle.world_defs.specs.Nodes.{Nodes}
+use Rattle.network_defs.specs.Acts.{put_line, put_lines}
+use Rattle.network_defs.specs.Costs.{Cores}
+use Rattle.network_defs.specs.Counts.{direction, directions}
+use Rattle.network_defs.specs.Nodes.{Nodes}
 use Rattle.wire_laws.specs.AnyNodes.{AnyNode}
 use Rattle.wire_laws.specs.Edges.{IsWay}
 use Rattle.wire_laws.proofs.WayLemmas.{directions_once}

@@ -12,11 +12,11 @@ use Rattle.scenario_defs.specs.declared.scenario.Scenario.{Scenario}
 use Rattle.session_defs.specs.declared.direction.Direction.{Direction}
 use Rattle.session_transit.specs.TransitData.{TransitData, direction_cmp, is_joined_at, nothing_joined, octets_at}
 use Rattle.session_ways.specs.Ways.{ways_from}
-use Rattle.world_defs.specs.Costs.{AreCoresOf, Cores}
-use Rattle.world_defs.specs.Counts.{all_nodes, directions, node_ids}
-use Rattle.world_defs.specs.World.{start}
-use Rattle.world_laws.specs.Sound.{HasOctets}
-use Rattle.world_laws.proofs.NodeCalls.{start_sound}
+use Rattle.network_defs.specs.Costs.{AreCoresOf, Cores}
+use Rattle.network_defs.specs.Counts.{all_nodes, directions, node_ids}
+use Rattle.network_defs.specs.World.{start}
+use Rattle.network_laws.specs.Sound.{HasOctets}
+use Rattle.network_laws.proofs.NodeCalls.{start_sound}
 use Rattle.network_nodes.specs.declared.node.NetworkNode.{NetworkNode}
 use Rattle.control_plane.specs.Plane.{IsPlane, at_rest}
 use Rattle.control_plane.specs.PlaneView.{PlaneView}

@@ -12,17 +12,17 @@ use Rattle.session_defs.specs.Octets.{OctetAct, OctetNetwork, octet_act, octet_r
 use Rattle.session_defs.specs.System.{Behind, Stepped, with_earlier}
 use Rattle.session_defs.specs.declared.direction.Direction.{Direction}
 use Rattle.edge_defs.specs.Steps.{Call}
-use Rattle.world_defs.specs.Acts as acts
-use Rattle.world_defs.specs.Acts.{act, with_network}
-use Rattle.world_defs.specs.Costs.{AreRepriced}
-use Rattle.world_defs.specs.Counts.{is_end_up}
-use Rattle.world_defs.specs.Nodes.{Nodes}
-use Rattle.world_defs.specs.System.{NodeCall, Own, system}
-use Rattle.world_defs.specs.World.{World}
-use Rattle.world_defs.proofs.Kept.{Gives}
-use Rattle.world_laws.specs.Honest.{IsSoundCall}
-use Rattle.world_laws.specs.Sound.{SoundScenario}
-use Rattle.world_laws.proofs.RunActs.{Stays, WorldStays, act_stays}
+use Rattle.network_defs.specs.Acts as acts
+use Rattle.network_defs.specs.Acts.{act, with_network}
+use Rattle.network_defs.specs.Costs.{AreRepriced}
+use Rattle.network_defs.specs.Counts.{is_end_up}
+use Rattle.network_defs.specs.Nodes.{Nodes}
+use Rattle.network_defs.specs.System.{NodeCall, Own, system}
+use Rattle.network_defs.specs.World.{World}
+use Rattle.network_defs.proofs.Kept.{Gives}
+use Rattle.network_laws.specs.Honest.{IsSoundCall}
+use Rattle.network_laws.specs.Sound.{SoundScenario}
+use Rattle.network_laws.proofs.RunActs.{Stays, WorldStays, act_stays}
 use Rattle.wire_laws.specs.Edges.{IsWay, begins}
 use Rattle.wire_laws.specs.Ends.{HasCall, is_raise}
 use Rattle.wire_laws.proofs.EndLemmas.{calls_ends}

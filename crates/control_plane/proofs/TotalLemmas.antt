@@ -14,7 +14,7 @@ use Rattle.session_defs.specs.declared.direction.Direction.{Direction}
 use Rattle.session_transit.specs.TransitData.{TransitData, direction_cmp, octets_at, total_of}
 use Rattle.session_transit.proofs.DirectionOrder.{same_equal, same_itself, ties_same}
 use Rattle.session_transit.proofs.Directions.{octets_in}
-use Rattle.world_defs.specs.Counts.{directions, octets_in_transit}
+use Rattle.network_defs.specs.Counts.{directions, octets_in_transit}
 use Rattle.wire_laws.proofs.AmongLemmas.{Once}
 use Rattle.wire_laws.proofs.WayLemmas.{directions_once}
 use Rattle.control_plane.specs.Acted.{IsIn, Standing}

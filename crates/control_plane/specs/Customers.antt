@@ -20,9 +20,9 @@ use Rattle.mldp_node.specs.declared.fault.NodeFault.TheVariants as halts
 use Rattle.edge_core.specs.Pim.{is_ours}
 use Rattle.edge_core.specs.declared.fault.EdgeFault.{EdgeFault}
 use Rattle.edge_core.specs.declared.fault.EdgeFault.TheVariants as faults
-use Rattle.world_defs.specs.Refusals.{control_of, edge_of_vrf, note_limit, selection_limit}
-use Rattle.world_defs.specs.System.{Own, system}
-use Rattle.world_laws.specs.Honest.{SoundMessage}
+use Rattle.network_defs.specs.Refusals.{control_of, edge_of_vrf, note_limit, selection_limit}
+use Rattle.network_defs.specs.System.{Own, system}
+use Rattle.network_laws.specs.Honest.{SoundMessage}
 use Rattle.control_plane.specs.Acted.{Acted, IsCurrent, IsIn, Settles, Standing}
 use Rattle.control_plane.specs.PlaneView.{PlaneView}
 use Rattle.control_plane.specs.declared.customers.Verdict.{Verdict}

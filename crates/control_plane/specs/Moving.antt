@@ -10,9 +10,9 @@ use Rattle.mldp_node.specs.declared.fault.NodeFault.{NodeFault}
 use Rattle.mldp_node.specs.declared.fault.NodeFault.TheVariants as halts
 use Rattle.edge_core.specs.declared.fault.EdgeFault.{EdgeFault}
 use Rattle.edge_core.specs.declared.fault.EdgeFault.TheVariants as faults
-use Rattle.world_defs.specs.Acts.{put_lines}
-use Rattle.world_defs.specs.Costs.{Cores}
-use Rattle.world_defs.specs.Nodes.{Nodes}
+use Rattle.network_defs.specs.Acts.{put_lines}
+use Rattle.network_defs.specs.Costs.{Cores}
+use Rattle.network_defs.specs.Nodes.{Nodes}
 use Rattle.control_plane.specs.Acted.{Standing}
 use Rattle.control_plane.specs.Plane.{IsMidway, IsPlane, Moment}
 use Rattle.control_plane.specs.PlaneView.{PlaneView}

@@ -2,8 +2,8 @@
 use Rattle.std.specs.Prelude.{◌≡◌, List, [], Some, true}
 use Rattle.scenario_defs.specs.declared.scenario.Scenario.{Scenario}
 use Rattle.session_defs.specs.Octets.{OctetAct, OctetNetwork, octet_run}
-use Rattle.world_defs.specs.Nodes.{Nodes}
-use Rattle.world_defs.specs.System.{NodeCall, system}
+use Rattle.network_defs.specs.Nodes.{Nodes}
+use Rattle.network_defs.specs.System.{NodeCall, system}
 use Rattle.control_plane.specs.Acted.{Standing}
 use Rattle.control_plane.specs.Plane.{IsPlane, Moment}
 use Rattle.control_plane.specs.PlaneView.{PlaneView}

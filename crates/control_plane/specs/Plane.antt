@@ -10,10 +10,10 @@ use Rattle.session_defs.specs.System.{Put, octets_over}
 use Rattle.session_defs.specs.declared.direction.Direction.{Direction}
 use Rattle.session_transit.specs.TransitData.{is_joined_at, octets_at}
 use Rattle.session_ways.specs.Ways.{ways_from}
-use Rattle.world_defs.specs.Costs.{AreCoresOf, Cores}
-use Rattle.world_defs.specs.Counts.{directions, is_end_up}
-use Rattle.world_defs.specs.Nodes.{Nodes}
-use Rattle.world_laws.specs.Sound.{Sound}
+use Rattle.network_defs.specs.Costs.{AreCoresOf, Cores}
+use Rattle.network_defs.specs.Counts.{directions, is_end_up}
+use Rattle.network_defs.specs.Nodes.{Nodes}
+use Rattle.network_laws.specs.Sound.{Sound}
 use Rattle.wire_laws.specs.Edges.{IsWay}
 use Rattle.network_nodes.specs.Network.{IsNodeOf}
 use Rattle.network_nodes.specs.NodeView.{IsPlacedAt, spent_in}

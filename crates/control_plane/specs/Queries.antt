@@ -5,8 +5,8 @@ use Rattle.mv_base.specs.declared.ids.VrfId.{VrfId}
 use Rattle.scenario_defs.specs.declared.scenario.Vrf.{Vrf}
 use Rattle.session_defs.specs.Octets.{OctetNetwork}
 use Rattle.mvpn_model.specs.declared.session.Session.{Session}
-use Rattle.world_defs.specs.Nodes.{Nodes}
-use Rattle.world_defs.specs.World.{World}
+use Rattle.network_defs.specs.Nodes.{Nodes}
+use Rattle.network_defs.specs.World.{World}
 use Rattle.network_nodes.specs.NodeView.{IsPlacedAt, data_in, spent_in}
 use Rattle.network_nodes.specs.declared.node.NetworkNode.{NetworkNode}
 use Rattle.control_plane.specs.Acted.{IsCurrent, Standing}

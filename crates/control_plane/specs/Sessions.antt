@@ -4,7 +4,7 @@ use Rattle.mv_base.specs.declared.ids.NodeId.{NodeId}
 use Rattle.scenario_defs.specs.declared.event.Kind.{Kind}
 use Rattle.session_defs.specs.Message.{same_direction}
 use Rattle.session_defs.specs.declared.direction.Direction.{Direction}
-use Rattle.world_defs.specs.Counts.{direction, is_end_up}
+use Rattle.network_defs.specs.Counts.{direction, is_end_up}
 use Rattle.wire_laws.specs.Edges.{IsWay}
 use Rattle.control_plane.specs.Acted.{Standing}
 use Rattle.control_plane.specs.Plane.{Moment}

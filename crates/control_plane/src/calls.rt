@@ -2,7 +2,7 @@
 ghost use Rattle.std.specs.Prelude.{[], ◌∷◌, Ok, OnOk};
 ghost use Rattle.session_defs.specs.Octets.{Call};
 ghost use Rattle.edge_defs.specs.Steps.{Timers};
-ghost use Rattle.world_defs.specs.System.{Follow, Own};
+ghost use Rattle.network_defs.specs.System.{Follow, Own};
 ghost use Rattle.edge_core.specs.Answers.{IsOneOf};
 ghost use Rattle.control_plane.specs.Acted.{Acts, HandsOutAt, IsCurrent, IsSome, IsSomeMidway, IsWithin, Settles, no_lines, same_moment, with_current};
 

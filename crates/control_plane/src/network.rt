@@ -1,8 +1,8 @@
 //! Acts of the network by which nothing is put: time passes, a cost changes, a session is lost, a node begins anew.
 ghost use Rattle.std.specs.Prelude.{◌≡◌, ◌+◌, ◌<◌, ◌≤◌, ◌^◌, [], ◌∷◌, length, OnOk, OnErr};
 ghost use Rattle.session_defs.specs.Octets.{Call, Forget, Lose};
-ghost use Rattle.world_defs.specs.Acts.{is_at, is_of_session, leads_to};
-ghost use Rattle.world_defs.specs.System.{Elapse, Price, Reset};
+ghost use Rattle.network_defs.specs.Acts.{is_at, is_of_session, leads_to};
+ghost use Rattle.network_defs.specs.System.{Elapse, Price, Reset};
 ghost use Rattle.control_plane.specs.Acted.{IsIn, IsSome, Standing};
 ghost use Rattle.control_plane.specs.Passing.{IsOf, Passes, all_late};
 

@@ -2,8 +2,8 @@
 ghost use Rattle.std.specs.Prelude.{[], ◌∷◌};
 ghost use Rattle.session_defs.specs.Octets.{Call, Forget, Join};
 ghost use Rattle.edge_defs.specs.Steps.{Noticed, Raised};
-ghost use Rattle.world_defs.specs.Acts.{is_from_peer, is_of_session};
-ghost use Rattle.world_defs.specs.System.{Own};
+ghost use Rattle.network_defs.specs.Acts.{is_from_peer, is_of_session};
+ghost use Rattle.network_defs.specs.System.{Own};
 ghost use Rattle.control_plane.specs.Acted.{Acts, IsSome, no_lines, same_moment};
 ghost use Rattle.control_plane.specs.Sessions.{IsDown, IsHalfUp, IsLost, none_rising, with_rising};
 

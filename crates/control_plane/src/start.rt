@@ -2,9 +2,9 @@
 ghost use Rattle.std.specs.Prelude.{◌≡◌, ◌<◌, ◌++◌, ◌∷◌, [], length, map, IfOk};
 ghost use Rattle.scenario_defs.specs.Rules.{Rules};
 ghost use Rattle.session_ways.specs.Ways.{ways_from};
-ghost use Rattle.world_defs.specs.Costs.{AreCoresOf, Cores};
-ghost use Rattle.world_defs.specs.Counts.{all_nodes, directions};
-ghost use Rattle.world_defs.specs.World.{start};
+ghost use Rattle.network_defs.specs.Costs.{AreCoresOf, Cores};
+ghost use Rattle.network_defs.specs.Counts.{all_nodes, directions};
+ghost use Rattle.network_defs.specs.World.{start};
 ghost use Rattle.network_nodes.specs.declared.node.NetworkNode.{NetworkNode as NodeValue};
 ghost use Rattle.control_plane.specs.Plane.{IsPlane, at_rest};
 ghost use Rattle.control_plane.specs.Starting.{AreFirst, IsFirst};

@@ -9,7 +9,7 @@ use Rattle.core_walks.specs.Walks.{IsLeast, IsToward}
 use Rattle.core_paths.proofs.TableLemmas.{all_near}
 use Rattle.scenario_defs.specs.declared.scenario.Scenario.{Scenario}
 use Rattle.scenario_defs.specs.Rules.{Rules}
-use Rattle.world_defs.specs.Costs.{AreRepriced, Cores, no_core, AreCoresOf}
+use Rattle.network_defs.specs.Costs.{AreRepriced, Cores, no_core, AreCoresOf}
 use Rattle.core_laws.proofs.Repriced.{repriced_or_not, repriced_topology, repriced_connected}
 use Rattle.core_laws.proofs.RowsFound.{some_costs, some_steps}
 

@@ -7,8 +7,8 @@ use Rattle.mv_base.specs.declared.ids.NodeId.{NodeId}
 use Rattle.core_walks.specs.Walks.{IsLinked, IsWalk, Reaches}
 use Rattle.core_walks.specs.Topology.{HasEnds, HasCost, JoinsSamePair, IsTopology, IsConnected}
 use Rattle.core_walks.proofs.WalkLemmas.{step_reaches, reaches_itself}
-use Rattle.world_defs.specs.Costs.{AreRepriced}
-use Rattle.world_defs.proofs.CostLemmas.{repriced_costs, repriced_ends}
+use Rattle.network_defs.specs.Costs.{AreRepriced}
+use Rattle.network_defs.proofs.CostLemmas.{repriced_costs, repriced_ends}
 
 -- ---- whether links are the same ones at other costs
 

@@ -1,7 +1,7 @@
 //! The cores of a scenario.
 ghost use Rattle.scenario_defs.specs.declared.scenario.Scenario.{Scenario};
 ghost use Rattle.scenario_defs.specs.Rules.{Rules};
-ghost use Rattle.world_defs.specs.Costs.{Cores, AreCoresOf};
+ghost use Rattle.network_defs.specs.Costs.{Cores, AreCoresOf};
 
 /// Whatever the costs of a scenario's links become, from 1 to 65,535 each, there are least costs and next hops by them (RFC 6388
 /// section 2.4.1.1).

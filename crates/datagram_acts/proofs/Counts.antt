@@ -2,8 +2,8 @@
 use Rattle.std.proofs.Common.{◌≡◌, List, [], ◌∷◌, map, length, None, refl, ap, ◌∙◌, arith}
 use Rattle.std.specs.FinMap as maps
 use Rattle.std.specs.List.{flat_map}
-use Rattle.world_defs.specs.Counts.{all_copies, datagrams_with_copy, link_ways}
-use Rattle.world_defs.specs.World.{LinkCopy, World, scenario_of}
+use Rattle.network_defs.specs.Counts.{all_copies, datagrams_with_copy, link_ways}
+use Rattle.network_defs.specs.World.{LinkCopy, World, scenario_of}
 use Rattle.link_copies.specs.CopiesData.{AreNumbered, CopiesData, HasWays, IsShared, KeptCopy, all_kept, copies_on_ways, kept_at}
 use Rattle.link_copies.proofs.AsMany.{shared_as_many}
 use Rattle.link_copies.proofs.WayLists.{as_many_on_ways, datagrams_on_ways}

@@ -1,7 +1,7 @@
 -- The numbers of datagrams.
 use Rattle.std.proofs.Common.{◌≡◌, ℕ, zero, suc, ◌+◌, ◌<◌, ◌≤◌, List, [], ◌∷◌, ◌++◌, length, slice_get, Some, refl, ap, ◌∙◌, arith}
 use Rattle.std.proofs.lemmas.Option.{slice_get_within}
-use Rattle.world_defs.specs.World.{Datagram, numbered}
+use Rattle.network_defs.specs.World.{Datagram, numbered}
 use Rattle.link_copies.proofs.Basics.{one_more, not_some}
 
 module _ {X : Type 0} where

@@ -10,10 +10,10 @@ use Rattle.mv_base.specs.declared.ids.NodeId.{NodeId}
 use Rattle.label_defs.specs.declared.branch.Branch.{Branch as TreeBranch}
 use Rattle.label_forwarding.specs.declared.branch.Branch.{Branch}
 use Rattle.scenario_defs.specs.declared.scenario.Scenario.{Scenario}
-use Rattle.world_defs.specs.Acts as acts
-use Rattle.world_defs.specs.Acts.{with_branches, without_copy, aged}
-use Rattle.world_defs.specs.Costs.{Cores}
-use Rattle.world_defs.specs.World.{Datagram, LinkCopy, World, clock_of, numbered, scenario_of, start, with_copies}
+use Rattle.network_defs.specs.Acts as acts
+use Rattle.network_defs.specs.Acts.{with_branches, without_copy, aged}
+use Rattle.network_defs.specs.Costs.{Cores}
+use Rattle.network_defs.specs.World.{Datagram, LinkCopy, World, clock_of, numbered, scenario_of, start, with_copies}
 use Rattle.link_copies.specs.CopiesData.{CopiesData, Current, HasCopies, IsShared, KeepsBuffers, KeepsOctets, KeptCopy, Ways}
 use Rattle.link_copies.specs.CopiesData.{copy_on, current_of, hop_of, is_at, is_recent, kept_at, no_copies, octets_in, sent, way_cmp}
 use Rattle.link_copies.specs.Kept.{landed_of}

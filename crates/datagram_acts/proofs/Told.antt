@@ -9,8 +9,8 @@ use Rattle.scenario_defs.specs.declared.report.ReportLine.TheVariants as told
 use Rattle.edge_defs.specs.Datagrams as definitions
 use Rattle.edge_core.specs.declared.fate.Fate.{Fate}
 use Rattle.edge_core.specs.State.{IsFate}
-use Rattle.world_defs.specs.Acts.{hop_line}
-use Rattle.world_defs.specs.World.{Datagram, World}
+use Rattle.network_defs.specs.Acts.{hop_line}
+use Rattle.network_defs.specs.World.{Datagram, World}
 use Rattle.datagram_acts.specs.DatagramsView.{DatagramsView}
 use Rattle.datagram_acts.specs.Stored.{Handles, IsNumber}
 

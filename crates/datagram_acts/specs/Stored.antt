@@ -4,9 +4,9 @@ use Rattle.std.specs.declared.option.Option.{Option}
 use Rattle.std.specs.List.{AllByRecursion, IsDistinct, list_any}
 use Rattle.mv_base.specs.declared.ids.NodeId.{NodeId}
 use Rattle.buf_pool.specs.Held.{Buffers}
-use Rattle.world_defs.specs.Acts.{without_copy}
-use Rattle.world_defs.specs.Counts.{link_ways}
-use Rattle.world_defs.specs.World.{Datagram, LinkCopy, World, numbered, scenario_of}
+use Rattle.network_defs.specs.Acts.{without_copy}
+use Rattle.network_defs.specs.Counts.{link_ways}
+use Rattle.network_defs.specs.World.{Datagram, LinkCopy, World, numbered, scenario_of}
 use Rattle.link_copies.specs.CopiesData.{CopiesData, Current, HasCopies, KeptCopy, is_way, kept_at, octets_in}
 use Rattle.link_copies.specs.declared.kept.Landed.{Landed}
 use Rattle.datagram_acts.specs.DatagramsView.{DatagramsView}

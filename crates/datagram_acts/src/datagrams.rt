@@ -6,10 +6,10 @@ ghost use Rattle.scenario_defs.specs.declared.scenario.Scenario.{Scenario};
 ghost use Rattle.scenario_defs.specs.declared.report.ReportLine.TheVariants as told;
 ghost use Rattle.edge_defs.specs.Datagrams as definitions;
 ghost use Rattle.edge_core.specs.State.{IsFate};
-ghost use Rattle.world_defs.specs.Acts.{aged, hop_line, with_branches, without_copy};
-ghost use Rattle.world_defs.specs.Costs.{Cores};
-ghost use Rattle.world_defs.specs.Counts.{all_copies, datagrams_with_copy};
-ghost use Rattle.world_defs.specs.World.{Datagram, World, clock_of, scenario_of, start};
+ghost use Rattle.network_defs.specs.Acts.{aged, hop_line, with_branches, without_copy};
+ghost use Rattle.network_defs.specs.Costs.{Cores};
+ghost use Rattle.network_defs.specs.Counts.{all_copies, datagrams_with_copy};
+ghost use Rattle.network_defs.specs.World.{Datagram, World, clock_of, scenario_of, start};
 ghost use Rattle.link_copies.specs.CopiesData.{IsShared};
 ghost use Rattle.datagram_acts.specs.Stored.{AreLinked, Handles, HasLanded, IsHandling, IsIdle, with_datagram};
 

@@ -1,6 +1,6 @@
 //! The lines of a datagram that leaves a node.
 ghost use Rattle.std.specs.Prelude.{◌≡◌, ◌++◌, [], ◌∷◌, map, IfOk, OnOk};
-ghost use Rattle.world_defs.specs.Acts.{hop_line};
+ghost use Rattle.network_defs.specs.Acts.{hop_line};
 ghost use Rattle.scenario_defs.specs.declared.report.ReportLine.TheVariants as told;
 
 use label_defs::Branch;

@@ -21,8 +21,8 @@ use Rattle.edge_defs.specs.Datagrams.{Fate, is_from_site, is_outside}
 use Rattle.edge_defs.specs.Place.{OwnVrf}
 use Rattle.edge_defs.specs.Tunnels.{transmit_tunnel, is_joined_in}
 use Rattle.edge_defs.specs.Upstream.{upstream_for}
-use Rattle.world_defs.specs.Nodes.{NodeState, Edge, CoreNode, Nodes, part_of, place_of}
-use Rattle.world_defs.specs.World.{Datagram}
+use Rattle.network_defs.specs.Nodes.{NodeState, Edge, CoreNode, Nodes, part_of, place_of}
+use Rattle.network_defs.specs.World.{Datagram}
 use Rattle.delivery_laws.specs.Flood.{fate_of_entry}
 use Rattle.delivery_laws.specs.Calm.{branches_in, node_outs, outs_in_tree, is_among, CalmTree, CalmTunnel, CalmEntry, CalmFlow}
 use Rattle.delivery_laws.specs.Leaving.{passes, is_iface_of_vrf, asks_at}

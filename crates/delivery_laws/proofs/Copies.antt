@@ -13,12 +13,12 @@ use Rattle.scenario_defs.specs.declared.report.ReportLine.{ReportLine}
 use Rattle.scenario_defs.specs.declared.report.ReportLine.TheVariants as lines
 use Rattle.mvpn_model.specs.Report.{is_out_at}
 use Rattle.edge_defs.specs.Datagrams.{Fate}
-use Rattle.world_defs.specs.Acts.{copy_on, with_branches, hop_line, fated}
-use Rattle.world_defs.specs.World.{World, LinkCopy, with_copies}
+use Rattle.network_defs.specs.Acts.{copy_on, with_branches, hop_line, fated}
+use Rattle.network_defs.specs.World.{World, LinkCopy, with_copies}
 use Rattle.delivery_laws.specs.Flood.{Fates, times_at, written_below, owed_by, total, is_way, outs_in}
 use Rattle.delivery_laws.proofs.Totals.{count-append, replaced, total-replaced}
 use Rattle.delivery_laws.proofs.Trees.{sum-zero}
-use Rattle.world_laws.proofs.Lists.{each_append}
+use Rattle.network_laws.proofs.Lists.{each_append}
 
 -- ---- lists
 

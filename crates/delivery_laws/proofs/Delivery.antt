@@ -17,14 +17,14 @@ use Rattle.scenario_defs.specs.declared.report.ReportLine.TheVariants as lines
 use Rattle.session_defs.specs.Octets.{OctetNetwork}
 use Rattle.mvpn_model.specs.Once.{IsOfWindow}
 use Rattle.mvpn_model.specs.Report.{lines_of, is_out_at, outs_at}
-use Rattle.world_defs.specs.Costs.{Cores}
-use Rattle.world_defs.specs.Counts.{link_ways}
-use Rattle.world_defs.specs.Events.{Happened, Done, done}
-use Rattle.world_defs.specs.Nodes.{Nodes}
-use Rattle.world_defs.specs.Refusals.{refusal}
-use Rattle.world_defs.specs.Run.{Traced, outcome, traced, report_of, Runs, IsDrained}
-use Rattle.world_defs.specs.World.{World, Datagram, LinkCopy, start as fresh_world, scenario_of}
-use Rattle.world_defs.proofs.Numbered.{numbered_at}
+use Rattle.network_defs.specs.Costs.{Cores}
+use Rattle.network_defs.specs.Counts.{link_ways}
+use Rattle.network_defs.specs.Events.{Happened, Done, done}
+use Rattle.network_defs.specs.Nodes.{Nodes}
+use Rattle.network_defs.specs.Refusals.{refusal}
+use Rattle.network_defs.specs.Run.{Traced, outcome, traced, report_of, Runs, IsDrained}
+use Rattle.network_defs.specs.World.{World, Datagram, LinkCopy, start as fresh_world, scenario_of}
+use Rattle.network_defs.proofs.Numbered.{numbered_at}
 use Rattle.delivery_laws.specs.Flood.{is_way, SoundCopy, OnLinks, owed_by, fates_in, written_of, lines_in, outs_in}
 use Rattle.delivery_laws.specs.Calm.{CalmWorld}
 use Rattle.delivery_laws.specs.Window.{AreOfWindow, WindowRun, AreDeliveredOnce}

@@ -9,16 +9,16 @@ use Rattle.label_defs.specs.declared.branch.Branch.{Branch}
 use Rattle.label_defs.proofs.KeyLemmas.{node_equal}
 use Rattle.label_defs.proofs.MemberLemmas.{count-cons}
 use Rattle.session_defs.specs.Octets.{OctetNetwork}
-use Rattle.world_defs.specs.Acts.{Act, Land, act, copy_on, with_branches, datagram_at, fate_at, with_ttl, landed, without_copy, landing}
-use Rattle.world_defs.specs.Counts.{link_ways}
-use Rattle.world_defs.specs.Events.{Happened, Outcome, Done, Halted, one_act, row, times, landings, drain_round, drained}
-use Rattle.world_defs.specs.Nodes.{Nodes}
-use Rattle.world_defs.specs.World.{World, Datagram, LinkCopy, scenario_of, with_copies}
+use Rattle.network_defs.specs.Acts.{Act, Land, act, copy_on, with_branches, datagram_at, fate_at, with_ttl, landed, without_copy, landing}
+use Rattle.network_defs.specs.Counts.{link_ways}
+use Rattle.network_defs.specs.Events.{Happened, Outcome, Done, Halted, one_act, row, times, landings, drain_round, drained}
+use Rattle.network_defs.specs.Nodes.{Nodes}
+use Rattle.network_defs.specs.World.{World, Datagram, LinkCopy, scenario_of, with_copies}
 use Rattle.delivery_laws.specs.Flood.{is_way, SoundCopy, OnLinks}
 use Rattle.delivery_laws.proofs.Copies.{all_at, all_but_one, EachCopy, each_replaced, branches_each}
 use Rattle.delivery_laws.proofs.Rows.{Ready, Comes, are_landings, landings_come}
 use Rattle.delivery_laws.proofs.Outcomes.{IsOfLines, Leads, Gives, then_leads, one_leads}
-use Rattle.world_laws.proofs.Lists.{each_weaker, each_append}
+use Rattle.network_laws.proofs.Lists.{each_weaker, each_append}
 
 -- ---- one direction
 

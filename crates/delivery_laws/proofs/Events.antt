@@ -20,15 +20,15 @@ use Rattle.mvpn_model.specs.Sessions.{sessions}
 use Rattle.mvpn_model.specs.declared.session.Session.{Session}
 use Rattle.session_defs.specs.declared.direction.Direction.{Direction}
 use Rattle.edge_defs.specs.Steps as steps
-use Rattle.world_defs.specs.Acts.{Act, Tick, Timers, Move, Lose, Notice, Restart, At, Enter, Land, Drop, Tell, Reroute, act}
-use Rattle.world_defs.specs.Counts.{directions, link_ways, all_nodes, is_joined, is_up}
-use Rattle.world_defs.specs.Events.{Done, row, each, times, raise_acts, raises, is_session_of, notices, healed, turn, landings, drain_round, sent, cost_acts, at_edge, with_message, done}
+use Rattle.network_defs.specs.Acts.{Act, Tick, Timers, Move, Lose, Notice, Restart, At, Enter, Land, Drop, Tell, Reroute, act}
+use Rattle.network_defs.specs.Counts.{directions, link_ways, all_nodes, is_joined, is_up}
+use Rattle.network_defs.specs.Events.{Done, row, each, times, raise_acts, raises, is_session_of, notices, healed, turn, landings, drain_round, sent, cost_acts, at_edge, with_message, done}
 use Rattle.mvpn_model.specs.Packets.{source_in, group_in}
-use Rattle.world_defs.specs.Refusals.{edge_of_vrf}
-use Rattle.world_defs.specs.World.{World, scenario_of}
+use Rattle.network_defs.specs.Refusals.{edge_of_vrf}
+use Rattle.network_defs.specs.World.{World, scenario_of}
 use Rattle.delivery_laws.specs.Once.{brought_by}
 use Rattle.delivery_laws.proofs.Outcomes.{IsOfLines, Leads, Gives, leads_as, then_leads, row_leads, each_leads, times_leads}
-use Rattle.world_laws.proofs.Lists.{each_append}
+use Rattle.network_laws.proofs.Lists.{each_append}
 
 -- the network with the datagrams that the event sends
 abbrev pub begun : World → Event → World

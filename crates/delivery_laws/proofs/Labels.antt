@@ -18,7 +18,7 @@ use Rattle.label_defs.proofs.KeyLemmas.{branch_cmp_total, branch_cmp_exact, same
 use Rattle.label_defs.proofs.SetLemmas.{member_passes}
 use Rattle.label_defs.proofs.MemberLemmas.{each_in_order, once_in_order, count-cons}
 use Rattle.session_defs.specs.Octets.{OctetNetwork}
-use Rattle.world_defs.specs.Nodes.{Nodes, label_place_of}
+use Rattle.network_defs.specs.Nodes.{Nodes, label_place_of}
 use Rattle.delivery_laws.specs.Calm.{branches_in, leading_to, HangsIn, CalmTree}
 use Rattle.delivery_laws.specs.Labels.{part_at, CalmLabels}
 use Rattle.delivery_laws.proofs.OutsOnce.{count_false}

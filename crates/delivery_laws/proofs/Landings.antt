@@ -22,17 +22,17 @@ use Rattle.edge_defs.specs.Datagrams.{Fate, discarded, tree_of, outs_of, is_from
 use Rattle.edge_defs.specs.Place.{OwnVrf}
 use Rattle.edge_defs.specs.Tunnels.{transmit_tunnel, is_joined_in}
 use Rattle.edge_defs.specs.Upstream.{upstream_for}
-use Rattle.world_defs.specs.Acts.{Act, Enter, Land, Tell, Acted, act, copy_on, datagram_at, enters_at, entering, fate_at, with_ttl, landed, without_copy, landing}
-use Rattle.world_defs.specs.Counts.{link_ways}
-use Rattle.world_defs.specs.Nodes.{NodeState, Edge, CoreNode, Nodes, part_of, place_of}
-use Rattle.world_defs.specs.World.{World, Datagram, LinkCopy, scenario_of, clock_of}
-use Rattle.world_defs.proofs.Numbered.{numbered_at}
-use Rattle.world_defs.proofs.Kept.{branches_keep, branches_datagrams}
+use Rattle.network_defs.specs.Acts.{Act, Enter, Land, Tell, Acted, act, copy_on, datagram_at, enters_at, entering, fate_at, with_ttl, landed, without_copy, landing}
+use Rattle.network_defs.specs.Counts.{link_ways}
+use Rattle.network_defs.specs.Nodes.{NodeState, Edge, CoreNode, Nodes, part_of, place_of}
+use Rattle.network_defs.specs.World.{World, Datagram, LinkCopy, scenario_of, clock_of}
+use Rattle.network_defs.proofs.Numbered.{numbered_at}
+use Rattle.network_defs.proofs.Kept.{branches_keep, branches_datagrams}
 use Rattle.delivery_laws.specs.Flood.{Fates, times_at, written_below, bare, fates_in, owed_by, total, is_way, SoundCopy, OnLinks, fate_of_entry, written_by, written_from, outs_in}
 use Rattle.delivery_laws.proofs.Totals.{total-replaced}
 use Rattle.delivery_laws.proofs.Listed.{each_of_tree}
 use Rattle.delivery_laws.proofs.Copies.{all_at, all_but_one, EachCopy, each_replaced, branches_each, fated_flow}
-use Rattle.world_laws.proofs.Lists.{each_weaker}
+use Rattle.network_laws.proofs.Lists.{each_weaker}
 
 -- ---- branches lead along links
 

@@ -23,15 +23,15 @@ use Rattle.mvpn_model.specs.declared.message.Given.{Given}
 use Rattle.mvpn_model.specs.Sessions.{sessions, edges, bgp_session, bgp_sessions, ldp_session}
 use Rattle.mvpn_model.specs.declared.session.Session.{Session}
 use Rattle.session_defs.specs.declared.direction.Direction.{Direction}
-use Rattle.world_defs.specs.Costs.{Cores}
+use Rattle.network_defs.specs.Costs.{Cores}
 use Rattle.edge_defs.specs.Steps as steps
-use Rattle.world_defs.specs.Acts.{Act, Tick, Timers, Move, Lose, Notice, Restart, At, Enter, Land, Drop, Tell, Reroute}
-use Rattle.world_defs.specs.Counts.{directions, is_joined, is_up, link_ways, all_nodes}
-use Rattle.world_defs.specs.Events.{Done, row, each, times, raise_acts, raises, is_session_of, notices, healed, turn, landings, drain_round, sent, cost_acts, at_edge, with_message, done}
+use Rattle.network_defs.specs.Acts.{Act, Tick, Timers, Move, Lose, Notice, Restart, At, Enter, Land, Drop, Tell, Reroute}
+use Rattle.network_defs.specs.Counts.{directions, is_joined, is_up, link_ways, all_nodes}
+use Rattle.network_defs.specs.Events.{Done, row, each, times, raise_acts, raises, is_session_of, notices, healed, turn, landings, drain_round, sent, cost_acts, at_edge, with_message, done}
 use Rattle.mvpn_model.specs.Packets.{source_in, group_in}
-use Rattle.world_defs.specs.Refusals.{edge_of_vrf}
-use Rattle.world_defs.specs.Run.{Traced, Runs, Run}
-use Rattle.world_defs.specs.World.{World, Datagram, start, scenario_of}
+use Rattle.network_defs.specs.Refusals.{edge_of_vrf}
+use Rattle.network_defs.specs.Run.{Traced, Runs, Run}
+use Rattle.network_defs.specs.World.{World, Datagram, start, scenario_of}
 use Rattle.delivery_laws.specs.Flood.{SoundCopy}
 use Rattle.delivery_laws.specs.Linked.{IsLink, LinksOnce, LinkIf}
 use Rattle.delivery_laws.proofs.Copies.{all_at}
@@ -40,7 +40,7 @@ use Rattle.delivery_laws.proofs.Outcomes.{Leads, then_leads, row_leads, times_le
 use Rattle.delivery_laws.proofs.Silent.{any_lines}
 use Rattle.delivery_laws.proofs.Delivery.{came}
 use Rattle.delivery_laws.proofs.LinkedRuns.{Linked, IsFine, LetsIn, Entering, act_linked, entry_linked}
-use Rattle.world_laws.proofs.Lists.{each_weaker, each_append}
+use Rattle.network_laws.proofs.Lists.{each_weaker, each_append}
 
 module _ (scenario : Scenario) (once : LinksOnce scenario) where
   abbrev Any : List ReportLine → Type 0

@@ -22,11 +22,11 @@ use Rattle.session_defs.specs.Octets as octets
 use Rattle.session_defs.specs.System.{Stepped}
 use Rattle.session_defs.specs.declared.direction.Direction.{Direction}
 use Rattle.edge_defs.specs.Steps as steps
-use Rattle.world_defs.specs.Nodes.{Nodes, following}
-use Rattle.world_defs.specs.System.{NodeCall, Own, Elapse, Reset, Price, Follow, system, node_called, call_of}
+use Rattle.network_defs.specs.Nodes.{Nodes, following}
+use Rattle.network_defs.specs.System.{NodeCall, Own, Elapse, Reset, Price, Follow, system, node_called, call_of}
 use Rattle.delivery_laws.specs.Linked.{NodesLinked, LinkIf, IsOf, NetworkLinked}
 use Rattle.delivery_laws.proofs.LinkedParts.{follow_linked, MayCall, called_linked, reset_linked}
-use Rattle.world_laws.proofs.Lists.{each_append}
+use Rattle.network_laws.proofs.Lists.{each_append}
 use Rattle.ready_laws.proofs.Octets.{leads_then, Leads}
 use Rattle.ready_laws.proofs.Ends.{Holds}
 

@@ -31,10 +31,10 @@ use Rattle.edge_defs.specs.Place.{EdgePlace, label_place}
 use Rattle.edge_defs.specs.Steps as steps
 use Rattle.edge_defs.specs.Steps.{EdgeStepped, LabelStep, edge_step, own_label_call, changed_leaves, one_call, control_step, label_row, part_after}
 use Rattle.edge_defs.specs.Tunnels.{leaves}
-use Rattle.world_defs.specs.Nodes.{NodeState, Edge, CoreNode, Nodes, is_edge, fresh_node, with_node, following, place_of, label_place_of, part_of}
-use Rattle.world_defs.specs.System.{core_called, node_called}
+use Rattle.network_defs.specs.Nodes.{NodeState, Edge, CoreNode, Nodes, is_edge, fresh_node, with_node, following, place_of, label_place_of, part_of}
+use Rattle.network_defs.specs.System.{core_called, node_called}
 use Rattle.delivery_laws.specs.Linked.{IsLink, HasLinks, NodesLinked}
-use Rattle.world_laws.proofs.Lists.{each_append}
+use Rattle.network_laws.proofs.Lists.{each_append}
 use Rattle.ready_laws.proofs.Ends.{holds_from, holds_then, Holds}
 
 module _ (scenario : Scenario) (n : NodeId) where

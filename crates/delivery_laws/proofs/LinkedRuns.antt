@@ -16,12 +16,12 @@ use Rattle.session_defs.specs.Octets.{OctetNetwork, OctetAct}
 use Rattle.session_defs.specs.System.{Behind}
 use Rattle.session_defs.specs.declared.direction.Direction.{Direction}
 use Rattle.edge_defs.specs.Steps as steps
-use Rattle.world_defs.specs.Acts.{Act, Tick, Timers, Move, Lose, Notice, RaiseFirst, RaiseSecond, Restart, At, Enter, Land, Drop, Tell, SetCost, Reroute, Acted, act, with_network, at_node, is_of_session, is_at, leads_to, is_from_peer, with_aged}
+use Rattle.network_defs.specs.Acts.{Act, Tick, Timers, Move, Lose, Notice, RaiseFirst, RaiseSecond, Restart, At, Enter, Land, Drop, Tell, SetCost, Reroute, Acted, act, with_network, at_node, is_of_session, is_at, leads_to, is_from_peer, with_aged}
 use Rattle.label_defs.specs.Between.{is_between}
-use Rattle.world_defs.specs.Counts.{direction, link_ways}
-use Rattle.world_defs.specs.Nodes.{Nodes}
-use Rattle.world_defs.specs.System.{NodeCall, Own, Elapse, Reset, Price, Follow, system}
-use Rattle.world_defs.specs.World.{World, Datagram, scenario_of, clock_of}
+use Rattle.network_defs.specs.Counts.{direction, link_ways}
+use Rattle.network_defs.specs.Nodes.{Nodes}
+use Rattle.network_defs.specs.System.{NodeCall, Own, Elapse, Reset, Price, Follow, system}
+use Rattle.network_defs.specs.World.{World, Datagram, scenario_of, clock_of}
 use Rattle.delivery_laws.specs.Flood.{is_way, SoundCopy, OnLinks}
 use Rattle.delivery_laws.specs.Linked.{LinkIf, NetworkLinked}
 use Rattle.delivery_laws.proofs.Copies.{all_but_one, all_filter, EachCopy, each_replaced}

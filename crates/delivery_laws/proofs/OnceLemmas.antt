@@ -17,12 +17,12 @@ use Rattle.scenario_defs.specs.declared.scenario.Scenario.{Scenario}
 use Rattle.mvpn_model.specs.Once.{EndsWindow, IsWindow, past_at, Once}
 use Rattle.mvpn_model.specs.Report.{Datagram as Accepted, datagrams, refused_lines, outs_at}
 use Rattle.session_defs.specs.Octets.{OctetNetwork}
-use Rattle.world_defs.specs.Costs.{Cores}
-use Rattle.world_defs.specs.Counts.{state_line, link_ways, all_copies}
-use Rattle.world_defs.specs.Events.{Happened, Done}
-use Rattle.world_defs.specs.Nodes.{Nodes}
-use Rattle.world_defs.specs.Run.{Traced, outcome, report_of, Runs, Run, IsDrained}
-use Rattle.world_defs.specs.World.{World, Datagram, start, scenario_of}
+use Rattle.network_defs.specs.Costs.{Cores}
+use Rattle.network_defs.specs.Counts.{state_line, link_ways, all_copies}
+use Rattle.network_defs.specs.Events.{Happened, Done}
+use Rattle.network_defs.specs.Nodes.{Nodes}
+use Rattle.network_defs.specs.Run.{Traced, outcome, report_of, Runs, Run, IsDrained}
+use Rattle.network_defs.specs.World.{World, Datagram, start, scenario_of}
 use Rattle.delivery_laws.specs.Calm.{CalmWorld}
 use Rattle.delivery_laws.specs.Flood.{OnLinks, SoundCopy, AreSound}
 use Rattle.delivery_laws.specs.Once.{in_network, receives_by, ZerosAreCalm, FlowsAreCalm, ChoicesAreCalm}
@@ -41,7 +41,7 @@ use Rattle.delivery_laws.proofs.Sendings.{in_networks, runs_send, IsWithin, data
 use Rattle.delivery_laws.proofs.Told.{state_acts, state_at}
 use Rattle.delivery_laws.proofs.Delivery.{drained_empty, ready_calm, windowed, delivered_once}
 use Rattle.calm_laws.proofs.Maps.{none_of_length}
-use Rattle.world_laws.proofs.Lists.{length_map}
+use Rattle.network_laws.proofs.Lists.{length_map}
 
 -- ---- the end of a window
 

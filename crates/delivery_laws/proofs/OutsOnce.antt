@@ -23,8 +23,8 @@ use Rattle.mvpn_model.specs.Past.{is_of_edge}
 use Rattle.edge_defs.specs.Datagrams.{Fate, discarded, is_from_site, is_outside, is_from_edge, is_imported_from, outs_from, outs_at, outs_of}
 use Rattle.edge_defs.specs.Tunnels.{transmit_tunnel, is_joined_in}
 use Rattle.session_defs.specs.Octets.{OctetNetwork}
-use Rattle.world_defs.specs.Nodes.{NodeState, Edge, CoreNode, Nodes, place_of}
-use Rattle.world_defs.specs.World.{Datagram}
+use Rattle.network_defs.specs.Nodes.{NodeState, Edge, CoreNode, Nodes, place_of}
+use Rattle.network_defs.specs.World.{Datagram}
 use Rattle.delivery_laws.specs.Calm.{node_outs}
 use Rattle.edge_defs.specs.Edge.{Upstream, Site, Remote, Taken, Control, EdgeData}
 use Rattle.edge_defs.specs.Flows.{is_asking, ifaces_of, asking_ifaces}

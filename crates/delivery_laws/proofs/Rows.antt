@@ -9,16 +9,16 @@ use Rattle.mv_base.specs.declared.ids.NodeId.{NodeId}
 use Rattle.scenario_defs.specs.declared.report.ReportLine.{ReportLine}
 use Rattle.session_defs.specs.Octets.{OctetNetwork}
 use Rattle.mvpn_model.specs.Report.{is_out_at}
-use Rattle.world_defs.specs.Acts.{Act, Land, Acted, act}
-use Rattle.world_defs.specs.Counts.{link_ways}
-use Rattle.world_defs.specs.Events.{Happened, Outcome, Done, Halted, and_then, one_act, row, times, landings, drain_round, drained}
-use Rattle.world_defs.specs.Nodes.{Nodes}
-use Rattle.world_defs.specs.World.{World, Datagram, scenario_of, numbered}
+use Rattle.network_defs.specs.Acts.{Act, Land, Acted, act}
+use Rattle.network_defs.specs.Counts.{link_ways}
+use Rattle.network_defs.specs.Events.{Happened, Outcome, Done, Halted, and_then, one_act, row, times, landings, drain_round, drained}
+use Rattle.network_defs.specs.Nodes.{Nodes}
+use Rattle.network_defs.specs.World.{World, Datagram, scenario_of, numbered}
 use Rattle.delivery_laws.specs.Flood.{fates_in, owed_by, total, SoundCopy, OnLinks, lines_in, outs_in}
 use Rattle.delivery_laws.proofs.Totals.{count-append}
 use Rattle.delivery_laws.proofs.Copies.{EachCopy}
 use Rattle.delivery_laws.proofs.Landings.{IsWindowAct, gain_of, act_moves}
-use Rattle.world_laws.proofs.Lists.{each_append}
+use Rattle.network_laws.proofs.Lists.{each_append}
 
 -- The nodes and the datagrams are these, and each copy is sound.
 pub record Ready (network : OctetNetwork Nodes) (datagrams : List Datagram) (world : World) : Type 0 where

@@ -17,12 +17,12 @@ use Rattle.session_defs.specs.declared.direction.Direction.{Direction}
 use Rattle.edge_defs.specs.Datagrams.{Fate, entering_fate}
 use Rattle.edge_defs.specs.Place.{OwnVrf}
 use Rattle.edge_defs.specs.Steps as steps
-use Rattle.world_defs.specs.Acts.{Act, Tick, Timers, Move, Lose, Notice, RaiseFirst, RaiseSecond, Restart, At, Enter, Land, Drop, Tell, SetCost, Reroute, Acted, act, put_line, put_lines, with_network, at_node, is_of_session, is_at, leads_to, is_from_peer, copy_on, hop_line, fated, datagram_at, enters_at, entering, fate_at, with_ttl, landed, without_copy, landing, with_aged}
-use Rattle.world_defs.specs.Counts.{direction, directions}
-use Rattle.world_defs.specs.Nodes.{NodeState, Edge, CoreNode, Nodes, place_of}
-use Rattle.world_defs.specs.System.{NodeCall, Own, Elapse, Reset, Price, Follow, system}
-use Rattle.world_defs.specs.World.{World, Datagram, LinkCopy, scenario_of, clock_of}
-use Rattle.world_defs.proofs.Kept.{branches_datagrams}
+use Rattle.network_defs.specs.Acts.{Act, Tick, Timers, Move, Lose, Notice, RaiseFirst, RaiseSecond, Restart, At, Enter, Land, Drop, Tell, SetCost, Reroute, Acted, act, put_line, put_lines, with_network, at_node, is_of_session, is_at, leads_to, is_from_peer, copy_on, hop_line, fated, datagram_at, enters_at, entering, fate_at, with_ttl, landed, without_copy, landing, with_aged}
+use Rattle.network_defs.specs.Counts.{direction, directions}
+use Rattle.network_defs.specs.Nodes.{NodeState, Edge, CoreNode, Nodes, place_of}
+use Rattle.network_defs.specs.System.{NodeCall, Own, Elapse, Reset, Price, Follow, system}
+use Rattle.network_defs.specs.World.{World, Datagram, LinkCopy, scenario_of, clock_of}
+use Rattle.network_defs.proofs.Kept.{branches_datagrams}
 use Rattle.delivery_laws.specs.Flood.{outs_in, times_at}
 use Rattle.delivery_laws.proofs.Totals.{count-append}
 use Rattle.delivery_laws.proofs.Copies.{all_at, all_but_one, all_filter, EachCopy, each_replaced, branches_each, outs_written, hops_write_nothing}

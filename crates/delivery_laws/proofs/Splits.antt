@@ -4,10 +4,10 @@ use Rattle.std.proofs.Common.{◌≡◌, ℕ, zero, suc, ◌+◌, ◌-◌, ◌<�
 use Rattle.std.specs.List.{AllByRecursion}
 use Rattle.std.proofs.lemmas.Bool.{true≢false}
 use Rattle.scenario_defs.specs.declared.event.Timed.{Timed}
-use Rattle.world_defs.specs.Events.{Happened, Done}
-use Rattle.world_defs.specs.Run.{Traced, outcome, traced, Runs}
-use Rattle.world_defs.specs.World.{World}
-use Rattle.world_laws.proofs.Lists.{each_append}
+use Rattle.network_defs.specs.Events.{Happened, Done}
+use Rattle.network_defs.specs.Run.{Traced, outcome, traced, Runs}
+use Rattle.network_defs.specs.World.{World}
+use Rattle.network_laws.proofs.Lists.{each_append}
 
 -- ---- lists
 

@@ -10,16 +10,16 @@ use Rattle.scenario_defs.specs.declared.report.ReportLine.{ReportLine}
 use Rattle.scenario_defs.specs.declared.report.ReportLine.TheVariants as lines
 use Rattle.mvpn_model.specs.Once.{TellsState}
 use Rattle.mvpn_model.specs.Report.{Entry}
-use Rattle.world_defs.specs.Costs.{Cores}
-use Rattle.world_defs.proofs.OneRun.{one_run}
-use Rattle.world_defs.specs.Acts.{Tell}
-use Rattle.world_defs.specs.Counts.{state_line}
-use Rattle.world_defs.specs.Events.{Happened, Done}
-use Rattle.world_defs.specs.Run.{Traced, outcome, traced, report_of, Run}
-use Rattle.world_defs.specs.World.{World, start}
+use Rattle.network_defs.specs.Costs.{Cores}
+use Rattle.network_defs.proofs.OneRun.{one_run}
+use Rattle.network_defs.specs.Acts.{Tell}
+use Rattle.network_defs.specs.Counts.{state_line}
+use Rattle.network_defs.specs.Events.{Happened, Done}
+use Rattle.network_defs.specs.Run.{Traced, outcome, traced, report_of, Run}
+use Rattle.network_defs.specs.World.{World, start}
 use Rattle.delivery_laws.proofs.Splits.{cut_at, runs_split, run_numbers, long_take}
-use Rattle.world_laws.proofs.Lists.{each_weaker, each_append}
-use Rattle.world_laws.proofs.LabelTaken.{contained}
+use Rattle.network_laws.proofs.Lists.{each_weaker, each_append}
+use Rattle.network_laws.proofs.LabelTaken.{contained}
 
 -- what a `state` event does
 pub record Told (world : World) (acts : List Happened) (next : World) : Type 0 where

@@ -5,7 +5,7 @@ use Rattle.std.specs.List.{AllByRecursion}
 use Rattle.std.proofs.lemmas.Bool.{cases_Bool, and_parts}
 use Rattle.std.proofs.lemmas.List.Sums.{sum_by-cons, sum_by-append}
 use Rattle.mv_base.specs.declared.ids.NodeId.{NodeId}
-use Rattle.world_defs.specs.World.{LinkCopy}
+use Rattle.network_defs.specs.World.{LinkCopy}
 use Rattle.delivery_laws.specs.Flood.{total, is_way}
 use Rattle.label_defs.proofs.KeyLemmas.{node_equal}
 use Rattle.label_defs.proofs.MemberLemmas.{count-cons}

@@ -9,7 +9,7 @@ use Rattle.label_defs.proofs.KeyLemmas.{node_equal}
 use Rattle.label_defs.proofs.MemberLemmas.{count-cons}
 use Rattle.delivery_laws.specs.Calm.{leading_to, HangsBelow}
 use Rattle.delivery_laws.proofs.Totals.{sum-alike}
-use Rattle.world_laws.proofs.Lists.{each_of}
+use Rattle.network_laws.proofs.Lists.{each_of}
 
 -- what one node writes, and each_of others do not
 abbrev pub only_at : NodeId → ℕ → NodeId → ℕ

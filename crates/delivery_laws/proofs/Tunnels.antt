@@ -18,15 +18,15 @@ use Rattle.session_defs.specs.Octets.{OctetNetwork}
 use Rattle.mvpn_model.specs.Past.{is_of_edge}
 use Rattle.edge_defs.specs.Datagrams.{Fate, discarded, outs_of, outs_at, tree_of}
 use Rattle.edge_defs.specs.Place.{own_vrfs}
-use Rattle.world_defs.specs.Acts.{fate_at, with_ttl}
-use Rattle.world_defs.specs.Nodes.{NodeState, Edge, CoreNode, Nodes, part_of, place_of}
-use Rattle.world_defs.specs.World.{Datagram}
+use Rattle.network_defs.specs.Acts.{fate_at, with_ttl}
+use Rattle.network_defs.specs.Nodes.{NodeState, Edge, CoreNode, Nodes, part_of, place_of}
+use Rattle.network_defs.specs.World.{Datagram}
 use Rattle.delivery_laws.specs.Flood.{times_at, written_below, bare, fates_in, fate_of_entry, written_by, written_from, written_of}
 use Rattle.delivery_laws.specs.Calm.{branches_in, CalmTree, node_outs, outs_in_tree, CalmTunnel, CalmEntry, CalmFlow}
 use Rattle.delivery_laws.proofs.Totals.{sum-alike}
 use Rattle.delivery_laws.proofs.OutsOnce.{few_is, node_few, node_own, entry_few}
 use Rattle.delivery_laws.proofs.Trees.{only_at, flood, Hangs, sum-zero, sum-same, root_writes, flood_below_root}
-use Rattle.world_laws.proofs.Lists.{each_weaker}
+use Rattle.network_laws.proofs.Lists.{each_weaker}
 
 -- ---- what a node does with a copy on a tree
 

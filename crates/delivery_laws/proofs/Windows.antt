@@ -17,18 +17,18 @@ use Rattle.scenario_defs.specs.declared.scenario.Scenario.{Scenario}
 use Rattle.session_defs.specs.Octets.{OctetNetwork}
 use Rattle.mvpn_model.specs.Once.{IsOfWindow}
 use Rattle.mvpn_model.specs.Packet.{packet}
-use Rattle.world_defs.specs.Acts.{Enter, Land, Tell}
-use Rattle.world_defs.specs.Counts.{link_ways}
-use Rattle.world_defs.specs.Events.{Happened, Outcome, Done, row, drained, sent, done}
-use Rattle.world_defs.specs.Nodes.{Nodes}
+use Rattle.network_defs.specs.Acts.{Enter, Land, Tell}
+use Rattle.network_defs.specs.Counts.{link_ways}
+use Rattle.network_defs.specs.Events.{Happened, Outcome, Done, row, drained, sent, done}
+use Rattle.network_defs.specs.Nodes.{Nodes}
 use Rattle.mvpn_model.specs.Packets.{source_in, group_in}
-use Rattle.world_defs.specs.World.{World, Datagram, scenario_of, numbered}
-use Rattle.world_defs.proofs.Numbered.{numbered_at}
+use Rattle.network_defs.specs.World.{World, Datagram, scenario_of, numbered}
+use Rattle.network_defs.proofs.Numbered.{numbered_at}
 use Rattle.delivery_laws.specs.Flood.{SoundCopy, OnLinks, written_from, written_of, lines_in, outs_in}
 use Rattle.delivery_laws.proofs.Copies.{EachCopy, sum-cond}
 use Rattle.delivery_laws.proofs.Landings.{IsWindowAct, gain_of}
 use Rattle.delivery_laws.proofs.Rows.{Ready, owed, Comes, row_comes, drain_comes}
-use Rattle.world_laws.proofs.Lists.{each_weaker}
+use Rattle.network_laws.proofs.Lists.{each_weaker}
 
 -- what the datagram of that number is to be written, once it was sent
 abbrev pub had : OctetNetwork Nodes → ℕ → Datagram → IfaceId → List Datagram → ℕ

@@ -15,8 +15,8 @@ use Rattle.scenario_defs.specs.declared.scenario.Vrf.{Vrf}
 use Rattle.session_defs.specs.Octets.{OctetNetwork}
 use Rattle.mvpn_model.specs.Past.{is_of_edge}
 use Rattle.edge_defs.specs.Datagrams.{Fate, outs_of}
-use Rattle.world_defs.specs.Nodes.{NodeState, Edge, CoreNode, Nodes, part_of, place_of}
-use Rattle.world_defs.specs.World.{World, Datagram}
+use Rattle.network_defs.specs.Nodes.{NodeState, Edge, CoreNode, Nodes, part_of, place_of}
+use Rattle.network_defs.specs.World.{World, Datagram}
 use Rattle.delivery_laws.specs.Flood.{OnLinks, fate_of_entry}
 
 -- ---- a tree

@@ -11,8 +11,8 @@ use Rattle.edge_defs.specs.Datagrams.{is_from_site}
 use Rattle.edge_defs.specs.Place.{OwnVrf}
 use Rattle.edge_defs.specs.Tunnels.{transmit_tunnel, is_joined_in}
 use Rattle.edge_defs.specs.Upstream.{upstream_for}
-use Rattle.world_defs.specs.Nodes.{NodeState, Edge, CoreNode, Nodes, place_of}
-use Rattle.world_defs.specs.World.{Datagram}
+use Rattle.network_defs.specs.Nodes.{NodeState, Edge, CoreNode, Nodes, place_of}
+use Rattle.network_defs.specs.World.{Datagram}
 use Rattle.delivery_laws.specs.Calm.{CalmTree}
 use Rattle.delivery_laws.specs.Leaving.{leaves_arriving, leaves_entering}
 

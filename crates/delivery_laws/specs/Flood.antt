@@ -14,11 +14,11 @@ use Rattle.scenario_defs.specs.declared.scenario.Vrf.{Vrf}
 use Rattle.session_defs.specs.Octets.{OctetNetwork}
 use Rattle.edge_defs.specs.Datagrams.{Fate, discarded, entering_fate}
 use Rattle.mvpn_model.specs.Report.{is_out_at}
-use Rattle.world_defs.specs.Acts.{fate_at, with_ttl}
-use Rattle.world_defs.specs.Counts.{link_ways}
-use Rattle.world_defs.specs.Events.{Happened}
-use Rattle.world_defs.specs.Nodes.{NodeState, Edge, CoreNode, Nodes, part_of, place_of}
-use Rattle.world_defs.specs.World.{World, Datagram, LinkCopy}
+use Rattle.network_defs.specs.Acts.{fate_at, with_ttl}
+use Rattle.network_defs.specs.Counts.{link_ways}
+use Rattle.network_defs.specs.Events.{Happened}
+use Rattle.network_defs.specs.Nodes.{NodeState, Edge, CoreNode, Nodes, part_of, place_of}
+use Rattle.network_defs.specs.World.{World, Datagram, LinkCopy}
 
 -- What becomes of a copy: from which neighbour it comes, at which node, and under which label.
 abbrev pub Fates : Type 0

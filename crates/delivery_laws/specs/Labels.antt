@@ -7,7 +7,7 @@ use Rattle.label_defs.specs.LabelData.{LabelData, has_tree, is_ready}
 use Rattle.label_defs.specs.Settled.{Maps, Settled}
 use Rattle.label_defs.specs.Steps.{branch_to}
 use Rattle.session_defs.specs.Octets.{OctetNetwork}
-use Rattle.world_defs.specs.Nodes.{Nodes, part_of, label_place_of}
+use Rattle.network_defs.specs.Nodes.{Nodes, part_of, label_place_of}
 
 abbrev pub part_at : OctetNetwork Nodes → NodeId → LabelData
 part_at network n = part_of (network.state.node n)

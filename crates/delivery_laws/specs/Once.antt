@@ -11,10 +11,10 @@ use Rattle.scenario_defs.specs.declared.report.ReportLine.TheVariants as lines
 use Rattle.scenario_defs.specs.declared.scenario.Scenario.{Scenario}
 use Rattle.mvpn_model.specs.Past.{Past, receivers}
 use Rattle.mvpn_model.specs.Report.{Datagram as Accepted, refused_lines, sent_by}
-use Rattle.world_defs.specs.Costs.{Cores}
-use Rattle.world_defs.specs.Counts.{state_line}
-use Rattle.world_defs.specs.Run.{Traced, Run, report_of}
-use Rattle.world_defs.specs.World.{World, Datagram}
+use Rattle.network_defs.specs.Costs.{Cores}
+use Rattle.network_defs.specs.Counts.{state_line}
+use Rattle.network_defs.specs.Run.{Traced, Run, report_of}
+use Rattle.network_defs.specs.World.{World, Datagram}
 use Rattle.delivery_laws.specs.Choice.{CalmChoice}
 use Rattle.delivery_laws.specs.Calm.{CalmFlow, CalmWorld}
 

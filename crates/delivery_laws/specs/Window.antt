@@ -7,11 +7,11 @@ use Rattle.scenario_defs.specs.declared.event.Script.{Script}
 use Rattle.scenario_defs.specs.declared.event.Timed.{Timed}
 use Rattle.mvpn_model.specs.Once.{IsOfWindow}
 use Rattle.mvpn_model.specs.Report.{outs_at}
-use Rattle.world_defs.specs.Costs.{Cores}
-use Rattle.world_defs.specs.Events.{Happened, Done}
-use Rattle.world_defs.specs.Refusals.{refusal}
-use Rattle.world_defs.specs.Run.{Traced, outcome, Runs, Run, report_of, IsDrained}
-use Rattle.world_defs.specs.World.{World, Datagram}
+use Rattle.network_defs.specs.Costs.{Cores}
+use Rattle.network_defs.specs.Events.{Happened, Done}
+use Rattle.network_defs.specs.Refusals.{refusal}
+use Rattle.network_defs.specs.Run.{Traced, outcome, Runs, Run, report_of, IsDrained}
+use Rattle.network_defs.specs.World.{World, Datagram}
 use Rattle.delivery_laws.specs.Calm.{CalmWorld}
 
 -- each event that is not refused sends, lands, drains or asks for the state

@@ -22,13 +22,13 @@ use Rattle.scenario_defs.specs.declared.report.ReportLine.TheVariants as lines
 use Rattle.scenario_defs.specs.declared.scenario.Scenario.{Scenario}
 use Rattle.label_defs.specs.declared.branch.Branch.{Branch}
 use Rattle.session_defs.specs.Message.{SessionMessage, Label, LabelFault, as_front, Spells}
-use Rattle.world_defs.specs.Counts.{direction, is_up as is_end}
-use Rattle.world_defs.specs.LabelRule.{part_at}
-use Rattle.world_defs.specs.Local.{is_up_in, taken_since, MayHop}
-use Rattle.world_defs.specs.Nodes.{NodeState}
-use Rattle.world_defs.specs.Run.{Traced}
-use Rattle.world_defs.specs.World.{World, start}
-use Rattle.world_defs.specs.Costs.{Cores}
+use Rattle.network_defs.specs.Counts.{direction, is_up as is_end}
+use Rattle.network_defs.specs.LabelRule.{part_at}
+use Rattle.network_defs.specs.Local.{is_up_in, taken_since, MayHop}
+use Rattle.network_defs.specs.Nodes.{NodeState}
+use Rattle.network_defs.specs.Run.{Traced}
+use Rattle.network_defs.specs.World.{World, start}
+use Rattle.network_defs.specs.Costs.{Cores}
 use Rattle.rule_laws.specs.Labels.{labels_in}
 use Rattle.rule_laws.proofs.Acts.{InStep}
 use Rattle.rule_laws.proofs.Puts.{labels_both}

@@ -33,10 +33,10 @@ use Rattle.edge_defs.specs.Place.{EdgePlace, addr_of, label_place}
 use Rattle.edge_defs.specs.Steps as steps
 use Rattle.edge_defs.specs.Steps.{EdgeStepped, LabelStep, own_label_call, one_call, changed_leaves, label_row, part_after, control_step, edge_step}
 use Rattle.edge_defs.specs.Tunnels.{leaves}
-use Rattle.world_defs.specs.Nodes.{NodeState, Edge, CoreNode, Nodes, with_node, place_of, part_of, label_place_of}
+use Rattle.network_defs.specs.Nodes.{NodeState, Edge, CoreNode, Nodes, with_node, place_of, part_of, label_place_of}
 use Rattle.node_defs.specs.Puts.{bgp_puts, label_puts}
-use Rattle.world_defs.specs.System.{node_called, core_called, call_of, unchanged}
-use Rattle.world_laws.proofs.Lists.{each_map, each_of}
+use Rattle.network_defs.specs.System.{node_called, core_called, call_of, unchanged}
+use Rattle.network_laws.proofs.Lists.{each_map, each_of}
 use Rattle.rule_laws.specs.Labels.{labels_in}
 use Rattle.rule_laws.proofs.Rows.{row_of}
 use Rattle.rule_laws.proofs.Sessions.{fresh_part}

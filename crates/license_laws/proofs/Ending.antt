@@ -9,7 +9,7 @@ use Rattle.scenario_defs.specs.declared.event.Kind.TheVariants as kinds
 use Rattle.scenario_defs.specs.declared.scenario.Scenario.{Scenario}
 use Rattle.label_defs.specs.declared.end.End.{End}
 use Rattle.mvpn_model.specs.declared.readiness.UpEnd.{UpEnd}
-use Rattle.world_defs.specs.Costs.{Cores}
+use Rattle.network_defs.specs.Costs.{Cores}
 use Rattle.edge_defs.specs.Steps as steps
 use Rattle.mvpn_model.specs.Unready.{SessionsStand}
 use Rattle.ready_laws.proofs.ActsStand as stand
@@ -17,13 +17,13 @@ use Rattle.ready_laws.proofs.ActsStand.{WorldStands, act_stand, act_gives}
 use Rattle.ready_laws.proofs.Ends.{end_run, up_in, up_end}
 use Rattle.ready_laws.proofs.Nodes.{call_stand, fresh_end}
 use Rattle.scenario_defs.specs.Kinds.{same_kind}
-use Rattle.world_defs.specs.Acts.{Act, Tick, Timers, Move, Lose, Notice, RaiseFirst, RaiseSecond, Restart, At, Enter, Land, Drop, Tell, SetCost, Reroute, Acted, act}
-use Rattle.world_defs.specs.Counts.{direction}
-use Rattle.world_defs.specs.Local.{is_up_after, is_up_in}
-use Rattle.world_defs.specs.Nodes.{part_of}
-use Rattle.world_defs.specs.Run.{Traced}
-use Rattle.world_defs.specs.World.{World, start, clock_of}
-use Rattle.world_laws.proofs.RunActs.{SoundAct}
+use Rattle.network_defs.specs.Acts.{Act, Tick, Timers, Move, Lose, Notice, RaiseFirst, RaiseSecond, Restart, At, Enter, Land, Drop, Tell, SetCost, Reroute, Acted, act}
+use Rattle.network_defs.specs.Counts.{direction}
+use Rattle.network_defs.specs.Local.{is_up_after, is_up_in}
+use Rattle.network_defs.specs.Nodes.{part_of}
+use Rattle.network_defs.specs.Run.{Traced}
+use Rattle.network_defs.specs.World.{World, start, clock_of}
+use Rattle.network_laws.proofs.RunActs.{SoundAct}
 use Rattle.rule_laws.proofs.Acts.{InStep, IsFit}
 use Rattle.rule_laws.proofs.Copies.{eq_turned}
 use Rattle.license_laws.proofs.Also.{refused_step}

@@ -43,14 +43,14 @@ use Rattle.edge_defs.proofs.KeyLemmas.{key_total}
 use Rattle.calm_laws.proofs.Lists.{any_among, found_among}
 use Rattle.calm_laws.proofs.Maps.{entry_get}
 use Rattle.calm_laws.proofs.Tables.{peer_table}
-use Rattle.world_defs.specs.Acts.{Act, Enter, RaiseFirst, RaiseSecond, Tick, Timers, Move, Lose, Notice, Restart, At, Land, Drop, Tell, SetCost, Reroute, Acted, hop_line, datagram_at, enters_at, entering, act}
-use Rattle.world_defs.specs.Local.{MayHop, MayEnter, EntersBy, taken_since}
-use Rattle.world_defs.specs.Nodes.{NodeState, Edge, CoreNode, place_of, part_of}
-use Rattle.world_defs.specs.Refusals.{control_of}
-use Rattle.world_defs.specs.Run.{Traced}
-use Rattle.world_defs.specs.World.{World, Datagram, scenario_of, clock_of}
-use Rattle.world_defs.proofs.Numbered.{numbered_more}
-use Rattle.world_laws.proofs.Lists.{each_append, each_map, each_of, each_weaker}
+use Rattle.network_defs.specs.Acts.{Act, Enter, RaiseFirst, RaiseSecond, Tick, Timers, Move, Lose, Notice, Restart, At, Land, Drop, Tell, SetCost, Reroute, Acted, hop_line, datagram_at, enters_at, entering, act}
+use Rattle.network_defs.specs.Local.{MayHop, MayEnter, EntersBy, taken_since}
+use Rattle.network_defs.specs.Nodes.{NodeState, Edge, CoreNode, place_of, part_of}
+use Rattle.network_defs.specs.Refusals.{control_of}
+use Rattle.network_defs.specs.Run.{Traced}
+use Rattle.network_defs.specs.World.{World, Datagram, scenario_of, clock_of}
+use Rattle.network_defs.proofs.Numbered.{numbered_more}
+use Rattle.network_laws.proofs.Lists.{each_append, each_map, each_of, each_weaker}
 use Rattle.rule_laws.proofs.Acts.{InStep}
 use Rattle.rule_laws.proofs.Numbers.{NumbersOk}
 use Rattle.rule_laws.proofs.Outs.{Says, said_of}

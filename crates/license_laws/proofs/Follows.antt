@@ -32,21 +32,21 @@ use Rattle.session_defs.specs.Refined.{seen}
 use Rattle.session_defs.specs.declared.direction.Direction.{Direction}
 use Rattle.edge_defs.specs.Steps as steps
 use Rattle.label_laws.specs.Rule.{Kept}
-use Rattle.world_defs.specs.Acts.{Act, Tick, Timers, Move, Lose, Notice, RaiseFirst, RaiseSecond, Restart, At, Enter, Land, Drop, Tell, SetCost, Reroute, Acted, act}
-use Rattle.world_defs.specs.Counts.{direction, all_nodes, directions, link_ways, is_joined, is_up as is_end}
-use Rattle.world_defs.specs.Events.{cost_acts, Happened, Outcome, Done, Halted, and_then, one_act, row, each, times, raise_acts, is_session_of, raises, notices, turn, healed, settled, landings, drain_round, sent, at_edge, with_message, done}
+use Rattle.network_defs.specs.Acts.{Act, Tick, Timers, Move, Lose, Notice, RaiseFirst, RaiseSecond, Restart, At, Enter, Land, Drop, Tell, SetCost, Reroute, Acted, act}
+use Rattle.network_defs.specs.Counts.{direction, all_nodes, directions, link_ways, is_joined, is_up as is_end}
+use Rattle.network_defs.specs.Events.{cost_acts, Happened, Outcome, Done, Halted, and_then, one_act, row, each, times, raise_acts, is_session_of, raises, notices, turn, healed, settled, landings, drain_round, sent, at_edge, with_message, done}
 use Rattle.mvpn_model.specs.Packets.{source_in, group_in}
-use Rattle.world_defs.specs.Refusals.{control_at, edge_of_vrf, refused_if, is_session_joined, is_selected, are_sessions_full, selection_limit, selections_at, refusal}
-use Rattle.world_defs.specs.Run.{Traced, traced, outcome, Runs}
-use Rattle.world_defs.specs.World.{World, Datagram, scenario_of}
-use Rattle.world_defs.proofs.Kept.{Gives, Comes, both_give}
-use Rattle.world_laws.specs.Sound.{SoundScenario}
-use Rattle.world_laws.specs.Honest.{IsCost, IsSoundCall, IsSoundEvent}
-use Rattle.world_laws.proofs.Lists.{each_of, each_map, each_flat, each_weaker}
-use Rattle.world_laws.proofs.RunActs.{SoundAct}
-use Rattle.world_laws.proofs.RunNodes.{IsNode, IsFoundNode, nodes_within, edge_within, vrf_within}
-use Rattle.world_laws.proofs.RunMessages.{IsSoundGiven, join_is_sound, prune_is_sound, read_is_sound}
-use Rattle.world_laws.proofs.RunEvents.{two_ends}
+use Rattle.network_defs.specs.Refusals.{control_at, edge_of_vrf, refused_if, is_session_joined, is_selected, are_sessions_full, selection_limit, selections_at, refusal}
+use Rattle.network_defs.specs.Run.{Traced, traced, outcome, Runs}
+use Rattle.network_defs.specs.World.{World, Datagram, scenario_of}
+use Rattle.network_defs.proofs.Kept.{Gives, Comes, both_give}
+use Rattle.network_laws.specs.Sound.{SoundScenario}
+use Rattle.network_laws.specs.Honest.{IsCost, IsSoundCall, IsSoundEvent}
+use Rattle.network_laws.proofs.Lists.{each_of, each_map, each_flat, each_weaker}
+use Rattle.network_laws.proofs.RunActs.{SoundAct}
+use Rattle.network_laws.proofs.RunNodes.{IsNode, IsFoundNode, nodes_within, edge_within, vrf_within}
+use Rattle.network_laws.proofs.RunMessages.{IsSoundGiven, join_is_sound, prune_is_sound, read_is_sound}
+use Rattle.network_laws.proofs.RunEvents.{two_ends}
 use Rattle.rule_laws.specs.Labels.{label_network}
 use Rattle.rule_laws.proofs.Acts.{InStep, IsFit, act_in_step}
 use Rattle.rule_laws.proofs.Enters.{enters}

@@ -6,13 +6,13 @@ use Rattle.scenario_defs.specs.declared.event.Script.{Script}
 use Rattle.scenario_defs.specs.declared.report.ReportLine.{ReportLine}
 use Rattle.scenario_defs.specs.declared.scenario.Scenario.{Scenario}
 use Rattle.mvpn_model.specs.Report.{Entry}
-use Rattle.world_defs.specs.Costs.{Cores}
-use Rattle.world_defs.specs.Acts.{Act, Tick, Timers, Move, Lose, Notice, RaiseFirst, RaiseSecond, Restart, At, Enter, Land, Drop, Tell, SetCost, Reroute}
-use Rattle.world_defs.specs.Local.{goes_on, IsLicensed, TakesWhatWasPut, Local}
-use Rattle.world_defs.specs.Run.{Traced, traced}
-use Rattle.world_defs.specs.World.{Datagram, scenario_of}
-use Rattle.world_laws.specs.SoundRun.{SoundRun}
-use Rattle.world_laws.proofs.Lists.{each_map}
+use Rattle.network_defs.specs.Costs.{Cores}
+use Rattle.network_defs.specs.Acts.{Act, Tick, Timers, Move, Lose, Notice, RaiseFirst, RaiseSecond, Restart, At, Enter, Land, Drop, Tell, SetCost, Reroute}
+use Rattle.network_defs.specs.Local.{goes_on, IsLicensed, TakesWhatWasPut, Local}
+use Rattle.network_defs.specs.Run.{Traced, traced}
+use Rattle.network_defs.specs.World.{Datagram, scenario_of}
+use Rattle.network_laws.specs.SoundRun.{SoundRun}
+use Rattle.network_laws.proofs.Lists.{each_map}
 use Rattle.rule_laws.specs.SoundHalt.{SoundHalt}
 use Rattle.rule_laws.proofs.Halting.{each_behind, run_before, event_sound, acts_quiet}
 use Rattle.rule_laws.proofs.Plain.{IsOfPlain, IsQuiet}

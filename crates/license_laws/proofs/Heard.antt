@@ -20,12 +20,12 @@ use Rattle.session_defs.specs.declared.direction.Direction.{Direction}
 use Rattle.session_defs.proofs.Fronts.{stream_of}
 use Rattle.session_defs.proofs.Lines.{are_both, are_octets, own_direction}
 use Rattle.session_defs.proofs.Moves.{came_of}
-use Rattle.world_defs.specs.Counts.{direction}
-use Rattle.world_defs.specs.Local.{is_up_after, is_up_in, taken_since}
-use Rattle.world_defs.specs.Nodes.{NodeState, Nodes}
-use Rattle.world_defs.specs.Run.{Traced}
-use Rattle.world_defs.specs.System.{NodeCall, call_of, system}
-use Rattle.world_laws.proofs.Lists.{each_weaker}
+use Rattle.network_defs.specs.Counts.{direction}
+use Rattle.network_defs.specs.Local.{is_up_after, is_up_in, taken_since}
+use Rattle.network_defs.specs.Nodes.{NodeState, Nodes}
+use Rattle.network_defs.specs.Run.{Traced}
+use Rattle.network_defs.specs.System.{NodeCall, call_of, system}
+use Rattle.network_laws.proofs.Lists.{each_weaker}
 use Rattle.license_laws.proofs.Hears.{Follower, NetworkHas, StreamStays, IsTame, run_has, run_stream, others_taken, own_taken, taken_stream, units_kind, other_way, IsOther, IsOfKind, fed_now}
 use Rattle.license_laws.proofs.Since.{hit, was_raised, told_next, since_none}
 use Rattle.license_laws.proofs.Takes.{takes_of}

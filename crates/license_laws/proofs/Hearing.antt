@@ -23,16 +23,16 @@ use Rattle.session_defs.specs.System.{Stepped, Behind, with_earlier}
 use Rattle.session_defs.specs.declared.direction.Direction.{Direction}
 use Rattle.session_defs.proofs.Lines.{direction_is}
 use Rattle.edge_defs.specs.Steps as steps
-use Rattle.world_defs.specs.Acts.{Act, Tick, Timers, Move, Lose, Notice, RaiseFirst, RaiseSecond, Restart, At, Enter, Land, Drop, Tell, SetCost, Reroute, Acted, with_network, at_node, put_lines, with_aged, aged, is_of_session, is_from_peer, is_at, leads_to, act}
-use Rattle.world_defs.specs.Counts.{direction, directions}
-use Rattle.world_defs.specs.Local.{is_up_after, is_up_in, taken_by, taken_since}
-use Rattle.world_defs.specs.Nodes.{NodeState, Nodes, with_node, fresh_node}
-use Rattle.world_defs.specs.Run.{Traced}
-use Rattle.world_defs.specs.System.{NodeCall, Own, Elapse, Reset, Price, Follow, system}
-use Rattle.world_defs.specs.World.{World, scenario_of}
-use Rattle.world_defs.proofs.Kept.{enter_keeps, land_keeps}
-use Rattle.world_laws.specs.Honest.{IsSoundCall}
-use Rattle.world_laws.proofs.RunActs.{SoundAct}
+use Rattle.network_defs.specs.Acts.{Act, Tick, Timers, Move, Lose, Notice, RaiseFirst, RaiseSecond, Restart, At, Enter, Land, Drop, Tell, SetCost, Reroute, Acted, with_network, at_node, put_lines, with_aged, aged, is_of_session, is_from_peer, is_at, leads_to, act}
+use Rattle.network_defs.specs.Counts.{direction, directions}
+use Rattle.network_defs.specs.Local.{is_up_after, is_up_in, taken_by, taken_since}
+use Rattle.network_defs.specs.Nodes.{NodeState, Nodes, with_node, fresh_node}
+use Rattle.network_defs.specs.Run.{Traced}
+use Rattle.network_defs.specs.System.{NodeCall, Own, Elapse, Reset, Price, Follow, system}
+use Rattle.network_defs.specs.World.{World, scenario_of}
+use Rattle.network_defs.proofs.Kept.{enter_keeps, land_keeps}
+use Rattle.network_laws.specs.Honest.{IsSoundCall}
+use Rattle.network_laws.proofs.RunActs.{SoundAct}
 use Rattle.rule_laws.proofs.Acts.{InStep, IsFit}
 use Rattle.rule_laws.proofs.Raised.{alike}
 use Rattle.rule_laws.proofs.Outs.{said_of}

@@ -26,11 +26,11 @@ use Rattle.session_defs.proofs.Lines.{own_direction}
 use Rattle.edge_defs.specs.Place.{addr_of}
 use Rattle.edge_defs.specs.Steps as steps
 use Rattle.edge_defs.specs.Steps.{EdgeStepped, edge_step, own_label_call}
-use Rattle.world_defs.specs.Counts.{direction}
-use Rattle.world_laws.proofs.Lists.{each_append}
-use Rattle.world_defs.specs.Nodes.{NodeState, Edge, CoreNode, Nodes, with_node, fresh_node, following, place_of, label_place_of}
+use Rattle.network_defs.specs.Counts.{direction}
+use Rattle.network_laws.proofs.Lists.{each_append}
+use Rattle.network_defs.specs.Nodes.{NodeState, Edge, CoreNode, Nodes, with_node, fresh_node, following, place_of, label_place_of}
 use Rattle.node_defs.specs.Puts.{bgp_puts, label_puts}
-use Rattle.world_defs.specs.System.{NodeCall, Own, Elapse, Reset, Price, Follow, node_called, core_called, call_of, system}
+use Rattle.network_defs.specs.System.{NodeCall, Own, Elapse, Reset, Price, Follow, node_called, core_called, call_of, system}
 
 -- ---- calls
 

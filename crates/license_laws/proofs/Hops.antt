@@ -25,13 +25,13 @@ use Rattle.edge_defs.specs.Place.{EdgePlace, OwnVrf}
 use Rattle.edge_defs.specs.Steps as steps
 use Rattle.edge_defs.specs.Tunnels.{transmit_tunnel, is_joined_in}
 use Rattle.edge_defs.specs.Upstream.{upstream_for}
-use Rattle.world_defs.specs.Acts.{Act, Tick, Timers, Move, Lose, Notice, RaiseFirst, RaiseSecond, Restart, At, Enter, Land, Drop, Tell, SetCost, Reroute, Acted, hop_line, fated, datagram_at, enters_at, entering, fate_at, with_ttl, landed, without_copy, landing, act}
-use Rattle.world_defs.specs.LabelRule.{part_at}
-use Rattle.world_defs.specs.Local.{goes_on}
-use Rattle.world_defs.specs.Nodes.{NodeState, Edge, CoreNode, place_of, part_of}
-use Rattle.world_defs.specs.Run.{Traced}
-use Rattle.world_defs.specs.World.{World, Datagram, LinkCopy, scenario_of, clock_of}
-use Rattle.world_laws.proofs.Lists.{each_append, each_of, each_map, each_weaker, each_filtered}
+use Rattle.network_defs.specs.Acts.{Act, Tick, Timers, Move, Lose, Notice, RaiseFirst, RaiseSecond, Restart, At, Enter, Land, Drop, Tell, SetCost, Reroute, Acted, hop_line, fated, datagram_at, enters_at, entering, fate_at, with_ttl, landed, without_copy, landing, act}
+use Rattle.network_defs.specs.LabelRule.{part_at}
+use Rattle.network_defs.specs.Local.{goes_on}
+use Rattle.network_defs.specs.Nodes.{NodeState, Edge, CoreNode, place_of, part_of}
+use Rattle.network_defs.specs.Run.{Traced}
+use Rattle.network_defs.specs.World.{World, Datagram, LinkCopy, scenario_of, clock_of}
+use Rattle.network_laws.proofs.Lists.{each_append, each_of, each_map, each_weaker, each_filtered}
 use Rattle.rule_laws.proofs.Outs.{Says, said_of}
 use Rattle.rule_laws.proofs.Plain.{IsPlain, IsPlainLine, of_plain, act_plain}
 use Rattle.license_laws.specs.Hops.{HopMay, HopsMay}

@@ -42,14 +42,14 @@ use Rattle.calm_laws.proofs.Lists.{any_among}
 use Rattle.calm_laws.proofs.Maps.{entry_get}
 use Rattle.calm_laws.proofs.Tables.{peer_table}
 use Rattle.calm_laws.proofs.Vrfs.{own_at, own_edge}
-use Rattle.world_defs.specs.Acts.{Act, Tick, Timers, Move, Lose, Notice, RaiseFirst, RaiseSecond, Restart, At, Enter, Land, Drop, Tell, SetCost, Reroute, Acted, hop_line, datagram_at, fate_at, with_ttl, landed, without_copy, landing, act}
-use Rattle.world_defs.specs.LabelRule.{part_at}
-use Rattle.world_defs.specs.Local.{goes_on, is_up_in, put_since, MayHop, HopsOf, MayDeliver, OutsOf, MayLand}
-use Rattle.world_defs.specs.Nodes.{NodeState, Edge, CoreNode, place_of, part_of}
-use Rattle.world_defs.specs.Refusals.{control_of}
-use Rattle.world_defs.specs.Run.{Traced}
-use Rattle.world_defs.specs.World.{World, Datagram, LinkCopy, scenario_of, clock_of}
-use Rattle.world_laws.proofs.Lists.{each_append, each_flat, each_map, each_of, each_weaker}
+use Rattle.network_defs.specs.Acts.{Act, Tick, Timers, Move, Lose, Notice, RaiseFirst, RaiseSecond, Restart, At, Enter, Land, Drop, Tell, SetCost, Reroute, Acted, hop_line, datagram_at, fate_at, with_ttl, landed, without_copy, landing, act}
+use Rattle.network_defs.specs.LabelRule.{part_at}
+use Rattle.network_defs.specs.Local.{goes_on, is_up_in, put_since, MayHop, HopsOf, MayDeliver, OutsOf, MayLand}
+use Rattle.network_defs.specs.Nodes.{NodeState, Edge, CoreNode, place_of, part_of}
+use Rattle.network_defs.specs.Refusals.{control_of}
+use Rattle.network_defs.specs.Run.{Traced}
+use Rattle.network_defs.specs.World.{World, Datagram, LinkCopy, scenario_of, clock_of}
+use Rattle.network_laws.proofs.Lists.{each_append, each_flat, each_map, each_of, each_weaker}
 use Rattle.rule_laws.proofs.Acts.{InStep}
 use Rattle.rule_laws.proofs.Admits.{all_of_among, IsIfaceOf, asking_are}
 use Rattle.framing.specs.Units.{octets_of}

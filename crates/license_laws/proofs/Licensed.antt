@@ -3,11 +3,11 @@ use Rattle.std.proofs.Common.{List, []}
 use Rattle.std.specs.List.{AllByRecursion}
 use Rattle.scenario_defs.specs.declared.event.Timed.{Timed}
 use Rattle.scenario_defs.specs.declared.scenario.Scenario.{Scenario}
-use Rattle.world_defs.specs.Costs.{Cores}
-use Rattle.world_defs.specs.Run.{Traced, Runs}
-use Rattle.world_defs.specs.World.{World, start}
-use Rattle.world_laws.specs.Honest.{IsSoundEvent}
-use Rattle.world_laws.specs.Sound.{SoundScenario}
+use Rattle.network_defs.specs.Costs.{Cores}
+use Rattle.network_defs.specs.Run.{Traced, Runs}
+use Rattle.network_defs.specs.World.{World, start}
+use Rattle.network_laws.specs.Honest.{IsSoundEvent}
+use Rattle.network_laws.specs.Sound.{SoundScenario}
 use Rattle.rule_laws.proofs.Start.{start_in_step}
 use Rattle.license_laws.proofs.Also.{keeps_also, also_under, each_none}
 use Rattle.license_laws.proofs.Branched.{Branched, branched_kept, all_heard_start}

@@ -20,15 +20,15 @@ use Rattle.session_defs.specs.Octets.{octet_run}
 use Rattle.edge_defs.specs.Datagrams.{Fate, entering_fate}
 use Rattle.edge_defs.specs.Place.{OwnVrf}
 use Rattle.edge_defs.specs.Steps as steps
-use Rattle.world_defs.specs.Acts.{Act, Tick, Timers, Move, Lose, Notice, RaiseFirst, RaiseSecond, Restart, At, Enter, Land, Drop, Tell, SetCost, Reroute, Acted, at_node, with_aged, aged, is_of_session, is_from_peer, is_at, leads_to, hop_line, fated, datagram_at, enters_at, entering, fate_at, with_ttl, landed, without_copy, landing, act}
+use Rattle.network_defs.specs.Acts.{Act, Tick, Timers, Move, Lose, Notice, RaiseFirst, RaiseSecond, Restart, At, Enter, Land, Drop, Tell, SetCost, Reroute, Acted, at_node, with_aged, aged, is_of_session, is_from_peer, is_at, leads_to, hop_line, fated, datagram_at, enters_at, entering, fate_at, with_ttl, landed, without_copy, landing, act}
 use Rattle.label_defs.specs.Between.{is_between}
-use Rattle.world_defs.specs.Counts.{direction}
-use Rattle.world_defs.specs.Local.{put_by, taken_by}
-use Rattle.world_defs.specs.Nodes.{NodeState, Edge, CoreNode, place_of}
-use Rattle.world_defs.specs.System.{NodeCall, Own, Elapse, Reset, Price, Follow, system}
-use Rattle.world_defs.specs.World.{World, Datagram, LinkCopy, scenario_of, clock_of}
-use Rattle.world_defs.proofs.Kept.{Gives, enter_keeps, land_keeps}
-use Rattle.world_laws.proofs.Lists.{each_append, each_of, each_map}
+use Rattle.network_defs.specs.Counts.{direction}
+use Rattle.network_defs.specs.Local.{put_by, taken_by}
+use Rattle.network_defs.specs.Nodes.{NodeState, Edge, CoreNode, place_of}
+use Rattle.network_defs.specs.System.{NodeCall, Own, Elapse, Reset, Price, Follow, system}
+use Rattle.network_defs.specs.World.{World, Datagram, LinkCopy, scenario_of, clock_of}
+use Rattle.network_defs.proofs.Kept.{Gives, enter_keeps, land_keeps}
+use Rattle.network_laws.proofs.Lists.{each_append, each_of, each_map}
 use Rattle.rule_laws.proofs.Acts.{IsFit}
 use Rattle.rule_laws.proofs.Outs.{Says, said_of}
 use Rattle.rule_laws.proofs.Copies.{eq_turned}

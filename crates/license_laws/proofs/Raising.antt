@@ -14,14 +14,14 @@ use Rattle.session_defs.specs.Octets as octets
 use Rattle.session_defs.specs.Octets.{Stream, OctetNetwork, octet_run}
 use Rattle.session_defs.specs.System.{Behind, with_earlier}
 use Rattle.edge_defs.specs.Steps as steps
-use Rattle.world_defs.specs.Acts.{RaiseFirst, RaiseSecond, Acted, is_of_session, act}
+use Rattle.network_defs.specs.Acts.{RaiseFirst, RaiseSecond, Acted, is_of_session, act}
 use Rattle.label_defs.specs.Between.{is_between}
-use Rattle.world_defs.specs.Counts.{direction, directions, is_up as is_end}
-use Rattle.world_defs.specs.Local.{is_up_in, taken_since}
-use Rattle.world_defs.specs.Nodes.{NodeState, Nodes}
-use Rattle.world_defs.specs.Run.{Traced}
-use Rattle.world_defs.specs.System.{NodeCall, Own, system}
-use Rattle.world_defs.specs.World.{World, scenario_of}
+use Rattle.network_defs.specs.Counts.{direction, directions, is_up as is_end}
+use Rattle.network_defs.specs.Local.{is_up_in, taken_since}
+use Rattle.network_defs.specs.Nodes.{NodeState, Nodes}
+use Rattle.network_defs.specs.Run.{Traced}
+use Rattle.network_defs.specs.System.{NodeCall, Own, system}
+use Rattle.network_defs.specs.World.{World, scenario_of}
 use Rattle.rule_laws.proofs.Raises.{between}
 use Rattle.license_laws.proofs.Flows.{joined_now, join_flows}
 use Rattle.license_laws.proofs.Follows.{stepped}

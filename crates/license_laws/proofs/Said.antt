@@ -23,18 +23,18 @@ use Rattle.session_defs.specs.Octets.{OctetNetwork, octet_run}
 use Rattle.session_defs.specs.System.{Put, Behind, octets_over}
 use Rattle.session_defs.proofs.Lines.{are_spelled, are_both, sent_over}
 use Rattle.edge_defs.specs.Steps as steps
-use Rattle.world_defs.specs.Acts.{Act, Tick, Timers, Move, Lose, Notice, RaiseFirst, RaiseSecond, Restart, At, Enter, Land, Drop, Tell, SetCost, Reroute, Acted, with_network, at_node, put_lines, with_aged, aged, is_of_session, is_from_peer, is_at, leads_to, act}
+use Rattle.network_defs.specs.Acts.{Act, Tick, Timers, Move, Lose, Notice, RaiseFirst, RaiseSecond, Restart, At, Enter, Land, Drop, Tell, SetCost, Reroute, Acted, with_network, at_node, put_lines, with_aged, aged, is_of_session, is_from_peer, is_at, leads_to, act}
 use Rattle.label_defs.specs.Between.{is_between}
 use Rattle.label_defs.proofs.BetweenLemmas.{between_swap}
-use Rattle.world_defs.specs.Counts.{direction, directions, is_up as is_end}
-use Rattle.world_defs.specs.Local.{put_by, is_up_after, is_up_in, put_since}
-use Rattle.world_defs.specs.Nodes.{part_of, Nodes}
-use Rattle.world_defs.specs.Run.{Traced}
-use Rattle.world_defs.specs.System.{NodeCall, Own, Elapse, Reset, Price, Follow, system}
-use Rattle.world_defs.specs.World.{World, scenario_of}
-use Rattle.world_defs.proofs.Kept.{enter_keeps, land_keeps}
-use Rattle.world_laws.specs.Sound.{Sound}
-use Rattle.world_laws.proofs.RunActs.{SoundAct}
+use Rattle.network_defs.specs.Counts.{direction, directions, is_up as is_end}
+use Rattle.network_defs.specs.Local.{put_by, is_up_after, is_up_in, put_since}
+use Rattle.network_defs.specs.Nodes.{part_of, Nodes}
+use Rattle.network_defs.specs.Run.{Traced}
+use Rattle.network_defs.specs.System.{NodeCall, Own, Elapse, Reset, Price, Follow, system}
+use Rattle.network_defs.specs.World.{World, scenario_of}
+use Rattle.network_defs.proofs.Kept.{enter_keeps, land_keeps}
+use Rattle.network_laws.specs.Sound.{Sound}
+use Rattle.network_laws.proofs.RunActs.{SoundAct}
 use Rattle.rule_laws.specs.Labels.{labels_in}
 use Rattle.rule_laws.proofs.Acts.{InStep, IsFit}
 use Rattle.rule_laws.proofs.Puts.{labels_both}

@@ -18,11 +18,11 @@ use Rattle.session_defs.specs.Message.{SessionMessage, Bgp, Spells}
 use Rattle.edge_defs.specs.Edge.{TakenRoute, Taken}
 use Rattle.edge_defs.specs.Keys.{Value, key_cmp}
 use Rattle.edge_laws.proofs.Taken.{table_in}
-use Rattle.world_defs.specs.Counts.{direction, is_up as is_end}
-use Rattle.world_defs.specs.Local.{is_up_in, taken_since}
-use Rattle.world_defs.specs.Refusals.{control_of}
-use Rattle.world_defs.specs.Run.{Traced}
-use Rattle.world_defs.specs.World.{World}
+use Rattle.network_defs.specs.Counts.{direction, is_up as is_end}
+use Rattle.network_defs.specs.Local.{is_up_in, taken_since}
+use Rattle.network_defs.specs.Refusals.{control_of}
+use Rattle.network_defs.specs.Run.{Traced}
+use Rattle.network_defs.specs.World.{World}
 use Rattle.rule_laws.proofs.Acts.{InStep}
 use Rattle.rule_laws.proofs.Raised.{bgp_up_is}
 use Rattle.license_laws.proofs.Also.{KeepsAlso}

@@ -31,11 +31,11 @@ use Rattle.edge_defs.specs.Steps as steps
 use Rattle.edge_defs.specs.Steps.{EdgeStepped, LabelStep, learned, taken_change, with_update, effect, is_vrf_step, refreshed, control_step, own_label_call, one_call, changed_leaves, label_row, part_after, edge_step}
 use Rattle.edge_defs.specs.Tunnels.{leaves}
 use Rattle.edge_laws.proofs.Taken.{run_at, get-peers_run, table_in, run_taken}
-use Rattle.world_defs.specs.Nodes.{NodeState, Edge, CoreNode, Nodes, with_node, place_of, label_place_of}
+use Rattle.network_defs.specs.Nodes.{NodeState, Edge, CoreNode, Nodes, with_node, place_of, label_place_of}
 use Rattle.node_defs.specs.Puts.{bgp_puts, label_puts}
-use Rattle.world_defs.specs.Refusals.{control_of}
-use Rattle.world_defs.specs.System.{node_called, core_called, call_of, unchanged}
-use Rattle.world_laws.proofs.Lists.{each_append}
+use Rattle.network_defs.specs.Refusals.{control_of}
+use Rattle.network_defs.specs.System.{node_called, core_called, call_of, unchanged}
+use Rattle.network_laws.proofs.Lists.{each_append}
 use Rattle.rule_laws.proofs.Sessions.{fresh_control}
 use Rattle.license_laws.proofs.Hears.{IsOther, IsOfKind, Follower}
 

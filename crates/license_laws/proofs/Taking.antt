@@ -19,20 +19,20 @@ use Rattle.session_defs.specs.Octets as octets
 use Rattle.session_defs.specs.Octets.{OctetNetwork, octet_run, with_step}
 use Rattle.session_defs.specs.System.{Stepped, Behind, with_earlier}
 use Rattle.edge_defs.specs.Place.{addr_of}
-use Rattle.world_defs.specs.Costs.{Cores}
+use Rattle.network_defs.specs.Costs.{Cores}
 use Rattle.edge_defs.specs.Steps as steps
 use Rattle.edge_defs.specs.Steps.{EdgeStepped, edge_step, own_label_call}
-use Rattle.world_defs.specs.Acts.{RaiseFirst, RaiseSecond, Acted, with_network, put_lines, is_of_session, act}
+use Rattle.network_defs.specs.Acts.{RaiseFirst, RaiseSecond, Acted, with_network, put_lines, is_of_session, act}
 use Rattle.label_defs.specs.Between.{is_between}
-use Rattle.world_defs.specs.Counts.{direction, directions}
-use Rattle.world_defs.specs.Local.{put_since, taken_since, TakesWhatWasPut}
-use Rattle.world_defs.specs.Nodes.{NodeState, Edge, CoreNode, Nodes, with_node, place_of, label_place_of}
+use Rattle.network_defs.specs.Counts.{direction, directions}
+use Rattle.network_defs.specs.Local.{put_since, taken_since, TakesWhatWasPut}
+use Rattle.network_defs.specs.Nodes.{NodeState, Edge, CoreNode, Nodes, with_node, place_of, label_place_of}
 use Rattle.node_defs.specs.Puts.{bgp_puts, label_puts}
-use Rattle.world_defs.specs.Run.{Traced, Runs}
-use Rattle.world_defs.specs.System.{Own, node_called, core_called, system}
-use Rattle.world_defs.specs.World.{World, start, scenario_of}
-use Rattle.world_laws.specs.Honest.{IsSoundEvent}
-use Rattle.world_laws.specs.Sound.{SoundScenario}
+use Rattle.network_defs.specs.Run.{Traced, Runs}
+use Rattle.network_defs.specs.System.{Own, node_called, core_called, system}
+use Rattle.network_defs.specs.World.{World, start, scenario_of}
+use Rattle.network_laws.specs.Honest.{IsSoundEvent}
+use Rattle.network_laws.specs.Sound.{SoundScenario}
 use Rattle.rule_laws.proofs.Acts.{InStep}
 use Rattle.rule_laws.proofs.Raises.{between}
 use Rattle.license_laws.proofs.Flows.{IsIdle, FlowsBehind, joined_now, join_flows, joins}

@@ -24,12 +24,12 @@ use Rattle.session_defs.specs.System.{Put, Stepped, Behind, with_earlier}
 use Rattle.session_defs.specs.declared.direction.Direction.{Direction}
 use Rattle.session_defs.proofs.Lines.{are_before}
 use Rattle.session_defs.proofs.Moves.{came_of}
-use Rattle.world_defs.specs.Nodes.{following, Nodes, with_node, fresh_node, part_of}
-use Rattle.world_defs.specs.System.{NodeCall, Own, Elapse, Reset, Price, Follow, call_of, unchanged, system}
-use Rattle.world_laws.specs.Honest.{IsSoundNodeCall}
-use Rattle.world_laws.specs.Sound.{Sound}
-use Rattle.world_laws.proofs.Lists.{each_append}
-use Rattle.world_laws.proofs.Nodes.{honest_nodes}
+use Rattle.network_defs.specs.Nodes.{following, Nodes, with_node, fresh_node, part_of}
+use Rattle.network_defs.specs.System.{NodeCall, Own, Elapse, Reset, Price, Follow, call_of, unchanged, system}
+use Rattle.network_laws.specs.Honest.{IsSoundNodeCall}
+use Rattle.network_laws.specs.Sound.{Sound}
+use Rattle.network_laws.proofs.Lists.{each_append}
+use Rattle.network_laws.proofs.Nodes.{honest_nodes}
 use Rattle.rule_laws.proofs.Octets.{units_carried}
 use Rattle.rule_laws.proofs.Puts.{over_ldp, over_ldp_both}
 use Rattle.rule_laws.proofs.Sessions.{fresh_part}

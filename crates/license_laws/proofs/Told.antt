@@ -30,7 +30,7 @@ use Rattle.label_laws.specs.Network.{messages_to}
 use Rattle.session_defs.specs.Message.{Label}
 use Rattle.session_defs.specs.System.{messages_over}
 use Rattle.table_laws.proofs.CompareLemmas.{one_key}
-use Rattle.world_defs.specs.Counts.{direction}
+use Rattle.network_defs.specs.Counts.{direction}
 use Rattle.node_defs.specs.Puts.{label_put, label_puts}
 use Rattle.rule_laws.specs.Labels.{labels_in}
 use Rattle.label_defs.proofs.IdLemmas.{counted_up}

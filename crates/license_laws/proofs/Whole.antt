@@ -5,13 +5,13 @@ use Rattle.scenario_defs.specs.declared.event.Timed.{Timed}
 use Rattle.scenario_defs.specs.declared.report.ReportLine.{ReportLine}
 use Rattle.scenario_defs.specs.declared.report.ReportLine.TheVariants as lines
 use Rattle.scenario_defs.specs.declared.scenario.Scenario.{Scenario}
-use Rattle.world_defs.specs.Costs.{Cores}
-use Rattle.world_defs.specs.Acts.{Act, Tick, Timers, Move, Lose, Notice, RaiseFirst, RaiseSecond, Restart, At, Enter, Land, Drop, Tell, SetCost, Reroute}
-use Rattle.world_defs.specs.Local.{IsLicensed, Local}
-use Rattle.world_defs.specs.Run.{Traced, Runs}
-use Rattle.world_defs.specs.World.{World, Datagram, start, scenario_of}
-use Rattle.world_laws.specs.Honest.{IsSoundEvent}
-use Rattle.world_laws.specs.Sound.{SoundScenario}
+use Rattle.network_defs.specs.Costs.{Cores}
+use Rattle.network_defs.specs.Acts.{Act, Tick, Timers, Move, Lose, Notice, RaiseFirst, RaiseSecond, Restart, At, Enter, Land, Drop, Tell, SetCost, Reroute}
+use Rattle.network_defs.specs.Local.{IsLicensed, Local}
+use Rattle.network_defs.specs.Run.{Traced, Runs}
+use Rattle.network_defs.specs.World.{World, Datagram, start, scenario_of}
+use Rattle.network_laws.specs.Honest.{IsSoundEvent}
+use Rattle.network_laws.specs.Sound.{SoundScenario}
 use Rattle.rule_laws.proofs.Start.{run_in_step}
 use Rattle.license_laws.specs.Enters.{EnterMay}
 use Rattle.license_laws.specs.Lands.{LandMay}

@@ -3,10 +3,10 @@ use Rattle.std.specs.Prelude.{◌≡◌, List, ◌∷◌, ◌++◌, Option, Some
 use Rattle.std.specs.List.{AllByRecursion}
 use Rattle.scenario_defs.specs.declared.report.ReportLine.{ReportLine}
 use Rattle.scenario_defs.specs.declared.scenario.Scenario.{Scenario}
-use Rattle.world_defs.specs.Acts.{Act, Enter}
-use Rattle.world_defs.specs.Local.{EntersBy}
-use Rattle.world_defs.specs.Run.{Traced}
-use Rattle.world_defs.specs.World.{Datagram}
+use Rattle.network_defs.specs.Acts.{Act, Enter}
+use Rattle.network_defs.specs.Local.{EntersBy}
+use Rattle.network_defs.specs.Run.{Traced}
+use Rattle.network_defs.specs.World.{Datagram}
 
 -- each hop of a datagram that enters is licensed
 abbrev pub EnterMay : Scenario → List Datagram → List Traced → Option Act → List ReportLine → Type 0

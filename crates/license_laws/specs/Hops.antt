@@ -4,8 +4,8 @@ use Rattle.std.specs.List.{AllByRecursion}
 use Rattle.mldp_fec.specs.declared.fec.Fec.{Fec}
 use Rattle.scenario_defs.specs.declared.report.ReportLine.{ReportLine}
 use Rattle.scenario_defs.specs.declared.report.ReportLine.TheVariants as lines
-use Rattle.world_defs.specs.Local.{MayHop}
-use Rattle.world_defs.specs.Run.{Traced}
+use Rattle.network_defs.specs.Local.{MayHop}
+use Rattle.network_defs.specs.Run.{Traced}
 
 -- A `hop` line puts its copy on a branch of some tree: its node's end towards the neighbour is up, and the neighbour has mapped the label
 -- to the tree, and not withdrawn it, in what the node took from there since the last raise.

@@ -4,9 +4,9 @@ use Rattle.std.specs.List.{list_any}
 use Rattle.scenario_defs.specs.declared.report.ReportLine.{ReportLine}
 use Rattle.scenario_defs.specs.declared.report.ReportLine.TheVariants as lines
 use Rattle.scenario_defs.specs.declared.scenario.Scenario.{Scenario}
-use Rattle.world_defs.specs.Acts.{Act, Enter, Land}
-use Rattle.world_defs.specs.Local.{goes_on, MayLand}
-use Rattle.world_defs.specs.Run.{Traced}
+use Rattle.network_defs.specs.Acts.{Act, Enter, Land}
+use Rattle.network_defs.specs.Local.{goes_on, MayLand}
+use Rattle.network_defs.specs.Run.{Traced}
 
 -- What a copy that lands needs for its lines, by what happened before it. No other act lets a copy or a datagram go on, except that a
 -- datagram enters.

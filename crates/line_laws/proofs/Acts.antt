@@ -10,15 +10,15 @@ use Rattle.session_defs.specs.Octets.{OctetNetwork, OctetAct, octet_run}
 use Rattle.session_defs.specs.System.{Put, Behind, octets_over}
 use Rattle.session_defs.specs.declared.direction.Direction.{Direction}
 use Rattle.edge_defs.specs.Steps as steps
-use Rattle.world_defs.specs.Acts.{Act, Tick, Timers, Move, Lose, Notice, RaiseFirst, RaiseSecond, Restart, At, Enter, Land, Drop, Tell, SetCost, Reroute, put_line, put_lines, with_network, at_node, is_from_peer, is_of_session, act}
-use Rattle.world_defs.specs.Counts.{direction, directions}
-use Rattle.world_defs.specs.Nodes.{Nodes}
-use Rattle.world_defs.specs.System.{NodeCall, Own, Follow, system}
-use Rattle.world_defs.specs.World.{World, scenario_of}
-use Rattle.world_laws.specs.Sound.{SoundScenario}
-use Rattle.world_laws.proofs.Lists.{each_append, each_flat, each_weaker}
-use Rattle.world_laws.proofs.RunActs.{WorldStays, SoundAct, act_stays}
-use Rattle.world_laws.proofs.RunNodes.{IsNode}
+use Rattle.network_defs.specs.Acts.{Act, Tick, Timers, Move, Lose, Notice, RaiseFirst, RaiseSecond, Restart, At, Enter, Land, Drop, Tell, SetCost, Reroute, put_line, put_lines, with_network, at_node, is_from_peer, is_of_session, act}
+use Rattle.network_defs.specs.Counts.{direction, directions}
+use Rattle.network_defs.specs.Nodes.{Nodes}
+use Rattle.network_defs.specs.System.{NodeCall, Own, Follow, system}
+use Rattle.network_defs.specs.World.{World, scenario_of}
+use Rattle.network_laws.specs.Sound.{SoundScenario}
+use Rattle.network_laws.proofs.Lists.{each_append, each_flat, each_weaker}
+use Rattle.network_laws.proofs.RunActs.{WorldStays, SoundAct, act_stays}
+use Rattle.network_laws.proofs.RunNodes.{IsNode}
 use Rattle.line_laws.proofs.Outcomes.{AreNamed, Says, DoesWell}
 use Rattle.line_laws.proofs.Sessions.{AreNodes, IsOver, directions_within}
 

@@ -26,12 +26,12 @@ use Rattle.edge_defs.specs.Flows.{asking_ifaces}
 use Rattle.edge_defs.specs.Place.{EdgePlace, OwnVrf, own_vrfs}
 use Rattle.edge_defs.specs.Tunnels.{transmit_tunnel, is_joined_in}
 use Rattle.edge_defs.specs.Upstream.{upstream_for}
-use Rattle.world_defs.specs.Acts.{Enter, Land, hop_line, fated, datagram_at, enters_at, entering, fate_at, with_ttl, landed, without_copy, landing, act}
-use Rattle.world_defs.specs.Nodes.{NodeState, Edge, CoreNode, place_of, part_of}
-use Rattle.world_defs.specs.World.{World, Datagram, LinkCopy, scenario_of, clock_of}
-use Rattle.world_laws.specs.Sound.{SoundScenario}
-use Rattle.world_laws.proofs.Lists.{each_append, each_of, each_map, each_flat, each_filter, each_weaker}
-use Rattle.world_laws.proofs.RunNodes.{IsNode}
+use Rattle.network_defs.specs.Acts.{Enter, Land, hop_line, fated, datagram_at, enters_at, entering, fate_at, with_ttl, landed, without_copy, landing, act}
+use Rattle.network_defs.specs.Nodes.{NodeState, Edge, CoreNode, place_of, part_of}
+use Rattle.network_defs.specs.World.{World, Datagram, LinkCopy, scenario_of, clock_of}
+use Rattle.network_laws.specs.Sound.{SoundScenario}
+use Rattle.network_laws.proofs.Lists.{each_append, each_of, each_map, each_flat, each_filter, each_weaker}
+use Rattle.network_laws.proofs.RunNodes.{IsNode}
 use Rattle.rule_laws.proofs.Admits.{IsIfaceOf, asking_are}
 use Rattle.delivery_laws.specs.Linked.{HasLinks, NodesLinked}
 use Rattle.delivery_laws.proofs.Listed.{each_of_tree}

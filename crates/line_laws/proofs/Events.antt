@@ -28,22 +28,22 @@ use Rattle.mvpn_model.specs.declared.message.Given.{Given}
 use Rattle.mvpn_model.specs.declared.session.Session.{Session}
 use Rattle.session_defs.specs.declared.direction.Direction.{Direction}
 use Rattle.edge_defs.specs.Steps as steps
-use Rattle.world_defs.specs.Acts.{Act, Tick, Timers, Move, Lose, Notice, Restart, At, Enter, Land, Drop, Tell, Reroute}
-use Rattle.world_defs.specs.Costs.{Cores}
-use Rattle.world_defs.specs.Counts.{all_nodes, directions, link_ways, is_joined, is_up}
-use Rattle.world_defs.specs.Events.{Happened, Outcome, Done, Halted, row, each, times, raise_acts, is_session_of, raises, notices, healed, turn, settled, landings, drain_round, sent, cost_acts, at_edge, with_message, done}
-use Rattle.world_defs.specs.Refusals.{edge_of_vrf, no_octets, is_session_joined, refusal}
-use Rattle.world_defs.specs.Run.{Traced, outcome}
-use Rattle.world_defs.specs.World.{World, scenario_of}
-use Rattle.world_defs.proofs.Kept.{enter_keeps, land_keeps}
-use Rattle.world_laws.specs.Honest.{IsSoundCall, IsSoundEvent, IsCost, IsLinkPlace}
-use Rattle.world_laws.specs.Sound.{SoundScenario}
-use Rattle.world_laws.specs.SoundRun.{SoundRun}
-use Rattle.world_laws.proofs.Lists.{each_append, each_of, each_map, each_flat, each_weaker}
-use Rattle.world_laws.proofs.RunActs.{WorldStays}
-use Rattle.world_laws.proofs.RunEvents.{run_stays}
-use Rattle.world_laws.proofs.RunMessages.{IsSoundGiven, join_is_sound, prune_is_sound, read_is_sound}
-use Rattle.world_laws.proofs.RunNodes.{IsNode, HasNodes, IsFoundNode, sessions_within, nodes_within, edge_within, vrf_within}
+use Rattle.network_defs.specs.Acts.{Act, Tick, Timers, Move, Lose, Notice, Restart, At, Enter, Land, Drop, Tell, Reroute}
+use Rattle.network_defs.specs.Costs.{Cores}
+use Rattle.network_defs.specs.Counts.{all_nodes, directions, link_ways, is_joined, is_up}
+use Rattle.network_defs.specs.Events.{Happened, Outcome, Done, Halted, row, each, times, raise_acts, is_session_of, raises, notices, healed, turn, settled, landings, drain_round, sent, cost_acts, at_edge, with_message, done}
+use Rattle.network_defs.specs.Refusals.{edge_of_vrf, no_octets, is_session_joined, refusal}
+use Rattle.network_defs.specs.Run.{Traced, outcome}
+use Rattle.network_defs.specs.World.{World, scenario_of}
+use Rattle.network_defs.proofs.Kept.{enter_keeps, land_keeps}
+use Rattle.network_laws.specs.Honest.{IsSoundCall, IsSoundEvent, IsCost, IsLinkPlace}
+use Rattle.network_laws.specs.Sound.{SoundScenario}
+use Rattle.network_laws.specs.SoundRun.{SoundRun}
+use Rattle.network_laws.proofs.Lists.{each_append, each_of, each_map, each_flat, each_weaker}
+use Rattle.network_laws.proofs.RunActs.{WorldStays}
+use Rattle.network_laws.proofs.RunEvents.{run_stays}
+use Rattle.network_laws.proofs.RunMessages.{IsSoundGiven, join_is_sound, prune_is_sound, read_is_sound}
+use Rattle.network_laws.proofs.RunNodes.{IsNode, HasNodes, IsFoundNode, sessions_within, nodes_within, edge_within, vrf_within}
 use Rattle.rule_laws.proofs.Events.{not_refused}
 use Rattle.rule_laws.proofs.Start.{run_in_step}
 use Rattle.delivery_laws.specs.Linked.{NodesLinked}

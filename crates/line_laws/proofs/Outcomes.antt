@@ -6,12 +6,12 @@ use Rattle.mv_base.specs.declared.ids.NodeId.{NodeId}
 use Rattle.scenario_defs.specs.Text.{IsLineOf}
 use Rattle.scenario_defs.specs.declared.report.ReportLine.{ReportLine}
 use Rattle.scenario_defs.specs.declared.scenario.Scenario.{Scenario}
-use Rattle.world_defs.specs.Acts.{Act, Acted, act}
-use Rattle.world_defs.specs.Events.{Happened, Outcome, Done, Halted, and_then, one_act, row, each, times}
-use Rattle.world_defs.specs.World.{World}
-use Rattle.world_defs.proofs.Kept.{Gives}
-use Rattle.world_laws.proofs.Lists.{each_append}
-use Rattle.world_laws.proofs.RunNodes.{IsNode}
+use Rattle.network_defs.specs.Acts.{Act, Acted, act}
+use Rattle.network_defs.specs.Events.{Happened, Outcome, Done, Halted, and_then, one_act, row, each, times}
+use Rattle.network_defs.specs.World.{World}
+use Rattle.network_defs.proofs.Kept.{Gives}
+use Rattle.network_laws.proofs.Lists.{each_append}
+use Rattle.network_laws.proofs.RunNodes.{IsNode}
 
 module _ (scenario : Scenario) where
   abbrev pub AreNamed : List ReportLine → Type 0

@@ -16,12 +16,12 @@ use Rattle.scenario_defs.specs.declared.scenario.Node.{Node}
 use Rattle.scenario_defs.specs.declared.scenario.Scenario.{Scenario}
 use Rattle.mvpn_model.specs.Sessions.{sessions}
 use Rattle.session_defs.specs.declared.direction.Direction.{Direction}
-use Rattle.world_defs.specs.Counts.{direction, directions_of, directions, link_ways}
-use Rattle.world_defs.specs.Nodes.{is_edge}
-use Rattle.world_defs.specs.World.{World}
-use Rattle.world_laws.specs.Sound.{SoundScenario}
-use Rattle.world_laws.proofs.Lists.{each_flat, each_weaker, each_filtered}
-use Rattle.world_laws.proofs.RunNodes.{IsNode, HasNodes, sessions_within}
+use Rattle.network_defs.specs.Counts.{direction, directions_of, directions, link_ways}
+use Rattle.network_defs.specs.Nodes.{is_edge}
+use Rattle.network_defs.specs.World.{World}
+use Rattle.network_laws.specs.Sound.{SoundScenario}
+use Rattle.network_laws.proofs.Lists.{each_flat, each_weaker, each_filtered}
+use Rattle.network_laws.proofs.RunNodes.{IsNode, HasNodes, sessions_within}
 use Rattle.rule_laws.proofs.Acts.{InStep}
 use Rattle.delivery_laws.specs.Flood.{is_way}
 use Rattle.delivery_laws.specs.Linked.{IsLink, NetworkLinked}

@@ -5,12 +5,12 @@ ghost use Rattle.scenario_defs.specs.Text.{IsLineOf};
 ghost use Rattle.scenario_defs.specs.declared.event.Script.{Script};
 ghost use Rattle.scenario_defs.specs.declared.event.Timed.{Timed};
 ghost use Rattle.scenario_defs.specs.declared.report.ReportLine.TheVariants as lines;
-ghost use Rattle.world_defs.specs.Costs.{Cores};
-ghost use Rattle.world_defs.specs.Events.{Happened, Done, Halted};
-ghost use Rattle.world_defs.specs.Run.{Traced, outcome};
-ghost use Rattle.world_defs.specs.World.{World};
-ghost use Rattle.world_laws.specs.Honest.{IsSoundEvent};
-ghost use Rattle.world_laws.specs.SoundRun.{SoundRun};
+ghost use Rattle.network_defs.specs.Costs.{Cores};
+ghost use Rattle.network_defs.specs.Events.{Happened, Done, Halted};
+ghost use Rattle.network_defs.specs.Run.{Traced, outcome};
+ghost use Rattle.network_defs.specs.World.{World};
+ghost use Rattle.network_laws.specs.Honest.{IsSoundEvent};
+ghost use Rattle.network_laws.specs.SoundRun.{SoundRun};
 ghost use Rattle.line_laws.specs.Lines.{lines_in};
 
 /// Behind a run of sound events in a sound scenario, each line of what a sound event does names nodes and interfaces of the scenario.

@@ -8,7 +8,7 @@ use Rattle.std.specs.Ordering.{nat_cmp, eq_by_cmp}
 use Rattle.std.proofs.lemmas.Bool.{true≢false, eqb-true, eqb-false, eq-eqb, ltb-true, ltb-false}
 use Rattle.buf_pool.specs.Held.{Held, Buffers, IsLive}
 use Rattle.buf_pool.proofs.KeyLemmas.{same_key, other_key}
-use Rattle.world_defs.specs.Counts.{datagrams_with_copy}
+use Rattle.network_defs.specs.Counts.{datagrams_with_copy}
 use Rattle.link_copies.specs.CopiesData.{KeptCopy, Current, CopiesData, kept_at, all_kept, holding, IsShared, AreNumbered}
 use Rattle.link_copies.specs.Kept.{with_buffer}
 use Rattle.link_copies.proofs.Basics.{one_if}

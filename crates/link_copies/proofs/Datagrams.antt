@@ -2,8 +2,8 @@
 use Rattle.std.proofs.Common.{◌≡◌, ℕ, zero, suc, ◌+◌, ◌<◌, ◌≤◌, ◌==◌, ◌||◌, Bool, true, false, List, [], ◌∷◌, map, refl, sym, ap, ◌∙◌, arith}
 use Rattle.std.specs.List.{count_by, list_any}
 use Rattle.std.proofs.lemmas.Bool.{eqb-true, eqb-false}
-use Rattle.world_defs.specs.World.{LinkCopy}
-use Rattle.world_defs.specs.Counts.{datagrams_with_copy}
+use Rattle.network_defs.specs.World.{LinkCopy}
+use Rattle.network_defs.specs.Counts.{datagrams_with_copy}
 use Rattle.link_copies.specs.CopiesData.{KeptCopy}
 use Rattle.link_copies.proofs.Basics.{one_if}
 use Rattle.link_copies.proofs.Lists.{count-cons}

@@ -4,9 +4,9 @@ use Rattle.std.specs.List.{remove}
 use Rattle.std.proofs.lemmas.List.{append-nil, append_assoc, map-append}
 use Rattle.mv_base.specs.declared.ids.NodeId.{NodeId}
 use Rattle.label_defs.specs.declared.branch.Branch.{Branch as TreeBranch}
-use Rattle.world_defs.specs.Acts as acts
-use Rattle.world_defs.specs.Acts.{with_branches, without_copy, aged}
-use Rattle.world_defs.specs.World.{World, LinkCopy, clock_of, scenario_of, with_copies}
+use Rattle.network_defs.specs.Acts as acts
+use Rattle.network_defs.specs.Acts.{with_branches, without_copy, aged}
+use Rattle.network_defs.specs.World.{World, LinkCopy, clock_of, scenario_of, with_copies}
 use Rattle.link_copies.proofs.WayOrder.{way_equal}
 use Rattle.link_copies.specs.CopiesData.{KeptCopy, Current, CopiesData, HasCopies, kept_at, is_at, is_recent, copy_on, hop_of, sent}
 

@@ -5,8 +5,8 @@ use Rattle.std.specs.List.{count_by}
 use Rattle.std.proofs.lemmas.List.{length-append, length-map}
 use Rattle.std.proofs.lemmas.List.Sums.{sum_by-cons, sum_by-append}
 use Rattle.mv_base.specs.declared.ids.NodeId.{NodeId}
-use Rattle.world_defs.specs.World.{LinkCopy}
-use Rattle.world_defs.specs.Counts.{datagrams_with_copy}
+use Rattle.network_defs.specs.World.{LinkCopy}
+use Rattle.network_defs.specs.Counts.{datagrams_with_copy}
 use Rattle.link_copies.specs.CopiesData.{KeptCopy, CopiesData, kept_at, copies_at, all_kept, HasWays, copies_on_ways}
 use Rattle.link_copies.proofs.Basics.{one_if}
 use Rattle.link_copies.proofs.Sums.{total_ways, sum-ways, ways-cons}

@@ -14,7 +14,7 @@ use Rattle.mv_base.specs.contracts.ids.NodeId as nodes
 use Rattle.buf_pool.specs.Held.{Buffers, buffers_code, IsLive}
 use Rattle.label_defs.specs.declared.branch.Branch.{Branch as TreeBranch}
 use Rattle.label_forwarding.specs.declared.branch.Branch.{Branch}
-use Rattle.world_defs.specs.World.{LinkCopy, World}
+use Rattle.network_defs.specs.World.{LinkCopy, World}
 
 -- a copy on a link, and the name of the buffer that has the octets of its datagram
 pub record KeptCopy : Type 0 where

@@ -5,9 +5,9 @@ ghost use Rattle.std.specs.List.{filter, remove};
 ghost use Rattle.mv_base.specs.declared.ids.NodeId.{NodeId};
 ghost use Rattle.buf_pool.specs.Held.{IsLive};
 ghost use Rattle.label_defs.specs.declared.branch.Branch.{Branch};
-ghost use Rattle.world_defs.specs.Acts.{with_branches, without_copy, aged};
-ghost use Rattle.world_defs.specs.Counts.{datagrams_with_copy};
-ghost use Rattle.world_defs.specs.World.{World, clock_of, scenario_of};
+ghost use Rattle.network_defs.specs.Acts.{with_branches, without_copy, aged};
+ghost use Rattle.network_defs.specs.Counts.{datagrams_with_copy};
+ghost use Rattle.network_defs.specs.World.{World, clock_of, scenario_of};
 ghost use Rattle.link_copies.specs.CopiesData.{CopiesData, KeptCopy, Current, kept_at, all_kept, is_at, is_recent, hop_of, sent};
 ghost use Rattle.link_copies.specs.CopiesData.{HasCopies, AreNumbered, IsShared, HasWays, copies_on_ways};
 

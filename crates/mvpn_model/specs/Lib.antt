@@ -1,4 +1,5 @@
 pub mod Messages
+pub mod Refused
 pub mod Past
 pub mod Packet
 pub mod Packets

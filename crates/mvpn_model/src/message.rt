@@ -1,11 +1,12 @@
-//! The Join/Prune messages that events hand to an edge.
+//! The Join/Prune messages that events hand to an edge, and the words of their faults in a report.
 ghost use Rattle.std.specs.Prelude.{◌≡◌, IfOk};
 ghost use Rattle.mvpn_model.specs.Messages.{own_addr, handed, read_at, message_of};
+ghost use Rattle.mvpn_model.specs.Refused.{fault_word};
 
 use mv_base::{Addr, IfaceId, NoMemory};
 use pim_defs::{join_of, prune_of};
-use pim_joinprune::{DecodeFault, JoinPrune, decode};
-use scenario_defs::{Event, Scenario};
+use pim_joinprune::{DecodeFault, JoinPrune, PimFault, decode};
+use scenario_defs::{Event, FaultWord, Scenario};
 use std::alloc::Global;
 
 /// A message that came to an interface.
@@ -65,5 +66,23 @@ pub fn message_of(
         }
         Event::Pim { iface, bytes } => read_at(alloc, *iface, bytes.as_slice()),
         _ => Ok(None),
+    }
+}
+
+/// The word that tells the fault of a message.
+pub fn fault_word(fault: PimFault) -> FaultWord
+    ensures { result ≡ fault_word fault }
+{
+    match fault {
+        PimFault::Short => FaultWord::Short,
+        PimFault::Version => FaultWord::Version,
+        PimFault::PimType => FaultWord::PimType,
+        PimFault::Checksum => FaultWord::Checksum,
+        PimFault::Family => FaultWord::Family,
+        PimFault::Encoding => FaultWord::Encoding,
+        PimFault::MaskLength => FaultWord::MaskLength,
+        PimFault::Flags => FaultWord::Flags,
+        PimFault::NotMulticast => FaultWord::NotMulticast,
+        PimFault::Trailing => FaultWord::Trailing,
     }
 }

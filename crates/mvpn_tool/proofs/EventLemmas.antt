@@ -9,7 +9,7 @@ use Rattle.scenario_defs.specs.declared.event.Timed.{Timed}
 use Rattle.scenario_defs.specs.declared.report.ReportLine.{ReportLine}
 use Rattle.scenario_defs.specs.declared.report.ReportLine.TheVariants as lines
 use Rattle.scenario_defs.specs.declared.scenario.Scenario.{Scenario}
-use Rattle.world_defs.specs.Run.{outcome}
+use Rattle.network_defs.specs.Run.{outcome}
 use Rattle.delivery_laws.specs.Flood.{lines_in}
 use Rattle.network_events.specs.Behind.{Advances, IsReached, Lacks, Steps}
 use Rattle.network_events.specs.WorldView.{WorldView}

@@ -15,14 +15,14 @@ use Rattle.scenario_defs.specs.declared.scenario.Scenario.{Scenario}
 use Rattle.mvpn_model.specs.Once.{Once}
 use Rattle.mvpn_model.specs.Report.{Entry, refused_lines}
 use Rattle.mvpn_model.specs.Safe.{Safe}
-use Rattle.world_defs.specs.Costs.{AreCoresOf, Cores}
-use Rattle.world_defs.specs.Events.{Happened, Outcome, Done, Halted}
-use Rattle.world_defs.specs.Local.{Local}
-use Rattle.world_defs.specs.Run.{Halts, Run, Traced, outcome, report_of, traced}
-use Rattle.world_defs.specs.World.{World}
-use Rattle.world_laws.proofs.Lists.{each_at}
-use Rattle.world_laws.specs.Honest.{IsSoundEvent}
-use Rattle.world_laws.specs.SoundRun.{SoundRun}
+use Rattle.network_defs.specs.Costs.{AreCoresOf, Cores}
+use Rattle.network_defs.specs.Events.{Happened, Outcome, Done, Halted}
+use Rattle.network_defs.specs.Local.{Local}
+use Rattle.network_defs.specs.Run.{Halts, Run, Traced, outcome, report_of, traced}
+use Rattle.network_defs.specs.World.{World}
+use Rattle.network_laws.proofs.Lists.{each_at}
+use Rattle.network_laws.specs.Honest.{IsSoundEvent}
+use Rattle.network_laws.specs.SoundRun.{SoundRun}
 use Rattle.rule_laws.specs.SoundHalt.{SoundHalt}
 use Rattle.delivery_laws.specs.Flood.{lines_in}
 use Rattle.run_laws.specs.Octets.{EventHasOctets, ScriptHasOctets}

@@ -12,9 +12,9 @@ use Rattle.scenario_defs.specs.declared.event.Timed.{Timed}
 use Rattle.scenario_defs.specs.declared.report.ReportLine.TheVariants as lines
 use Rattle.scenario_defs.specs.declared.scenario.Scenario.{Scenario}
 use Rattle.mvpn_model.specs.Report.{Entry}
-use Rattle.world_defs.specs.Events.{Happened, Outcome, Done, Halted}
-use Rattle.world_defs.specs.Run.{Halts, Run, Traced, outcome, report_of, traced}
-use Rattle.world_defs.specs.World.{World, start}
+use Rattle.network_defs.specs.Events.{Happened, Outcome, Done, Halted}
+use Rattle.network_defs.specs.Run.{Halts, Run, Traced, outcome, report_of, traced}
+use Rattle.network_defs.specs.World.{World, start}
 use Rattle.delivery_laws.specs.Flood.{lines_in}
 use Rattle.delivery_laws.proofs.Splits.{cut_at, runs_join, take_to}
 use Rattle.run_laws.specs.Octets.{ScriptHasOctets}

@@ -6,11 +6,11 @@ use Rattle.line_words.specs.declared.fault.TextFault.{TextFault}
 use Rattle.scenario_text.specs.Grammar.{script_of}
 use Rattle.mvpn_model.specs.Report.{Entry}
 use Rattle.mv_base.specs.declared.ids.NodeId.{NodeId}
-use Rattle.world_defs.specs.Costs.{AreCoresOf, Cores}
-use Rattle.world_defs.specs.Run.{Halts, Run, Traced}
-use Rattle.world_defs.specs.World.{World}
+use Rattle.network_defs.specs.Costs.{AreCoresOf, Cores}
+use Rattle.network_defs.specs.Run.{Halts, Run, Traced}
+use Rattle.network_defs.specs.World.{World}
 use Rattle.run_laws.specs.Runs.{of_events}
-use Rattle.world_defs.proofs.CostLemmas.{same_cores}
+use Rattle.network_defs.proofs.CostLemmas.{same_cores}
 use Rattle.network_events.specs.WorldView.{WorldView}
 use Rattle.mvpn_tool.specs.Input.{IsInput, Taken}
 use Rattle.mvpn_tool.specs.declared.command.Detail.{Detail}

@@ -5,9 +5,9 @@ use Rattle.scenario_defs.specs.Rules.{Rules, ScriptRules}
 use Rattle.scenario_defs.specs.declared.event.Script.{Script}
 use Rattle.scenario_defs.specs.declared.scenario.Scenario.{Scenario}
 use Rattle.mvpn_model.specs.Report.{Entry, lines_of}
-use Rattle.world_defs.specs.Costs.{AreCoresOf, Cores}
-use Rattle.world_defs.specs.Run.{Halts, Run, Traced, report_of}
-use Rattle.world_defs.specs.World.{World}
+use Rattle.network_defs.specs.Costs.{AreCoresOf, Cores}
+use Rattle.network_defs.specs.Run.{Halts, Run, Traced, report_of}
+use Rattle.network_defs.specs.World.{World}
 use Rattle.run_laws.specs.Octets.{ScriptHasOctets}
 use Rattle.mvpn_tool.specs.Report.{IsHaltedRun, IsReport, IsWholeRun, lines_text, text_of}
 use Rattle.mvpn_tool.specs.declared.command.Detail.{Detail}

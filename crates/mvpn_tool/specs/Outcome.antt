@@ -9,10 +9,10 @@ use Rattle.line_words.specs.FaultText.{fault_text}
 use Rattle.line_words.specs.declared.fault.TextFault.{TextFault}
 use Rattle.scenario_text.specs.Grammar.{script_of}
 use Rattle.mvpn_model.specs.Report.{Entry}
-use Rattle.world_defs.specs.Costs.{Cores}
-use Rattle.world_defs.specs.Events.{Happened, Done, Halted}
-use Rattle.world_defs.specs.Run.{Traced, outcome, report_of, traced}
-use Rattle.world_defs.specs.World.{World}
+use Rattle.network_defs.specs.Costs.{Cores}
+use Rattle.network_defs.specs.Events.{Happened, Done, Halted}
+use Rattle.network_defs.specs.Run.{Traced, outcome, report_of, traced}
+use Rattle.network_defs.specs.World.{World}
 use Rattle.run_laws.specs.Octets.{ScriptHasOctets}
 use Rattle.network_events.specs.Behind.{IsBehind}
 use Rattle.network_events.specs.WorldView.{WorldView}

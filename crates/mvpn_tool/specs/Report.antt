@@ -10,11 +10,11 @@ use Rattle.scenario_defs.specs.declared.scenario.Scenario.{Scenario}
 use Rattle.mvpn_model.specs.Once.{Once}
 use Rattle.mvpn_model.specs.Report.{Entry, report_text, refused_lines}
 use Rattle.mvpn_model.specs.Safe.{Safe}
-use Rattle.world_defs.specs.Costs.{AreCoresOf, Cores}
-use Rattle.world_defs.specs.Events.{Outcome, Done, Halted}
-use Rattle.world_defs.specs.Local.{Local}
-use Rattle.world_defs.specs.Run.{Halts, Run, Traced, report_of, traced}
-use Rattle.world_defs.specs.World.{World}
+use Rattle.network_defs.specs.Costs.{AreCoresOf, Cores}
+use Rattle.network_defs.specs.Events.{Outcome, Done, Halted}
+use Rattle.network_defs.specs.Local.{Local}
+use Rattle.network_defs.specs.Run.{Halts, Run, Traced, report_of, traced}
+use Rattle.network_defs.specs.World.{World}
 use Rattle.delivery_laws.specs.Flood.{lines_in}
 use Rattle.run_laws.specs.Plain.{is_plain, plain}
 use Rattle.mvpn_tool.specs.declared.command.Detail.{Detail}

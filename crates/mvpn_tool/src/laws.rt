@@ -3,7 +3,7 @@ ghost use Rattle.std.specs.Prelude.{All};
 ghost use Rattle.scenario_defs.specs.Text.{IsLineOf};
 ghost use Rattle.scenario_defs.specs.declared.event.Timed.{Timed};
 ghost use Rattle.scenario_defs.specs.declared.scenario.Scenario.{Scenario};
-ghost use Rattle.world_defs.specs.Run.{outcome};
+ghost use Rattle.network_defs.specs.Run.{outcome};
 ghost use Rattle.run_laws.specs.Octets.{ScriptHasOctets};
 ghost use Rattle.network_events.specs.WorldView.{WorldView};
 ghost use Rattle.mvpn_tool.specs.Known.{KnownRuns};

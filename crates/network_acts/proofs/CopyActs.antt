@@ -18,11 +18,11 @@ use Rattle.session_defs.specs.Octets.{OctetNetwork}
 use Rattle.edge_defs.specs.Datagrams as fates
 use Rattle.edge_defs.specs.Datagrams.{entering_fate}
 use Rattle.edge_defs.specs.Edge.{EdgeData}
-use Rattle.world_defs.specs.Acts.{Drop, Enter, Land, act, datagram_at, entering, enters_at, fate_at, fated, hop_line, landed, landing, with_branches, with_ttl, without_copy}
-use Rattle.world_defs.specs.Nodes as world_nodes
-use Rattle.world_defs.specs.Nodes.{NodeState, Nodes, place_of}
-use Rattle.world_defs.specs.World.{Datagram, LinkCopy, World, clock_of, numbered, scenario_of}
-use Rattle.world_defs.proofs.Kept.{branches_datagrams, branches_keep}
+use Rattle.network_defs.specs.Acts.{Drop, Enter, Land, act, datagram_at, entering, enters_at, fate_at, fated, hop_line, landed, landing, with_branches, with_ttl, without_copy}
+use Rattle.network_defs.specs.Nodes as world_nodes
+use Rattle.network_defs.specs.Nodes.{NodeState, Nodes, place_of}
+use Rattle.network_defs.specs.World.{Datagram, LinkCopy, World, clock_of, numbered, scenario_of}
+use Rattle.network_defs.proofs.Kept.{branches_datagrams, branches_keep}
 use Rattle.link_copies.specs.CopiesData.{Current}
 use Rattle.link_copies.specs.declared.kept.Landed.{Landed}
 use Rattle.control_plane.specs.Acted as planes

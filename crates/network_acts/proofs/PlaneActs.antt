@@ -12,12 +12,12 @@ use Rattle.session_defs.specs.System.{Behind}
 use Rattle.session_defs.specs.declared.direction.Direction.{Direction}
 use Rattle.edge_defs.specs.Steps.{Call}
 use Rattle.mldp_node.specs.declared.fault.NodeFault.{NodeFault}
-use Rattle.world_defs.specs.Acts.{Act, At, Tick, act, aged, at_node, put_line, put_lines, with_aged, with_network}
-use Rattle.world_defs.specs.Costs.{Cores}
-use Rattle.world_defs.specs.Counts.{directions}
-use Rattle.world_defs.specs.Nodes.{Nodes}
-use Rattle.world_defs.specs.System.{Elapse, NodeCall, Own, system}
-use Rattle.world_defs.specs.World.{World, scenario_of}
+use Rattle.network_defs.specs.Acts.{Act, At, Tick, act, aged, at_node, put_line, put_lines, with_aged, with_network}
+use Rattle.network_defs.specs.Costs.{Cores}
+use Rattle.network_defs.specs.Counts.{directions}
+use Rattle.network_defs.specs.Nodes.{Nodes}
+use Rattle.network_defs.specs.System.{Elapse, NodeCall, Own, system}
+use Rattle.network_defs.specs.World.{World, scenario_of}
 use Rattle.control_plane.specs.Acted as planes
 use Rattle.control_plane.specs.Acted.{Acted, Acts, IsIn, Standing}
 use Rattle.control_plane.specs.Customers.{CustomerActs}

@@ -7,11 +7,11 @@ use Rattle.scenario_defs.specs.declared.report.ReportLine.TheVariants as told
 use Rattle.scenario_defs.specs.declared.scenario.Scenario.{Scenario}
 use Rattle.mvpn_model.specs.Sessions.{sessions}
 use Rattle.mvpn_model.specs.declared.session.Session.{Session}
-use Rattle.world_defs.specs.Acts.{Tell}
-use Rattle.world_defs.specs.Counts.{all_copies, all_nodes, datagrams_with_copy, due_timers, is_ready, node_due, octets_in_transit, state_line, unready}
-use Rattle.world_defs.specs.World.{World, scenario_of}
-use Rattle.world_laws.proofs.Lists.{each_weaker}
-use Rattle.world_laws.proofs.RunNodes.{HasNodes, sessions_within}
+use Rattle.network_defs.specs.Acts.{Tell}
+use Rattle.network_defs.specs.Counts.{all_copies, all_nodes, datagrams_with_copy, due_timers, is_ready, node_due, octets_in_transit, state_line, unready}
+use Rattle.network_defs.specs.World.{World, scenario_of}
+use Rattle.network_laws.proofs.Lists.{each_weaker}
+use Rattle.network_laws.proofs.RunNodes.{HasNodes, sessions_within}
 use Rattle.control_plane.specs.Acted as planes
 use Rattle.control_plane.specs.Acted.{IsIn, Standing}
 use Rattle.control_plane.specs.Queries.{HasEnds, HaveEnds, without_copies}

@@ -5,7 +5,7 @@ use Rattle.mv_base.specs.declared.memory.NoMemory.{NoMemory}
 use Rattle.scenario_defs.specs.declared.report.ReportLine.{ReportLine}
 use Rattle.mldp_node.specs.declared.fault.NodeFault.{NodeFault}
 use Rattle.mldp_node.specs.declared.fault.NodeFault.TheVariants as halts
-use Rattle.world_defs.specs.Acts.{Act, Acted, act}
+use Rattle.network_defs.specs.Acts.{Act, Acted, act}
 use Rattle.control_plane.specs.Plane.{Moment}
 use Rattle.network_acts.specs.Instant.{Instant, IsWorld}
 use Rattle.network_acts.specs.NetworkView.{NetworkView}

@@ -5,7 +5,7 @@ use Rattle.scenario_defs.specs.declared.report.ReportLine.{ReportLine}
 use Rattle.edge_defs.specs.Steps.{Call}
 use Rattle.mldp_node.specs.declared.fault.NodeFault.{NodeFault}
 use Rattle.mldp_node.specs.declared.fault.NodeFault.TheVariants as halts
-use Rattle.world_defs.specs.Acts.{At, act}
+use Rattle.network_defs.specs.Acts.{At, act}
 use Rattle.control_plane.specs.Acted.{Standing}
 use Rattle.control_plane.specs.declared.customers.Verdict.{Verdict}
 use Rattle.control_plane.specs.declared.customers.Verdict.TheVariants as verdicts

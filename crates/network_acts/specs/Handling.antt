@@ -8,8 +8,8 @@ use Rattle.label_forwarding.specs.Reading.{packet_of}
 use Rattle.label_forwarding.specs.Spelling.{Packet}
 use Rattle.scenario_defs.specs.declared.report.ReportLine.{ReportLine}
 use Rattle.edge_defs.specs.Datagrams.{Fate}
-use Rattle.world_defs.specs.Acts.{Acted, Enter, Land, act, fate_at, with_ttl, without_copy}
-use Rattle.world_defs.specs.World.{Datagram, LinkCopy, World, scenario_of}
+use Rattle.network_defs.specs.Acts.{Acted, Enter, Land, act, fate_at, with_ttl, without_copy}
+use Rattle.network_defs.specs.World.{Datagram, LinkCopy, World, scenario_of}
 use Rattle.link_copies.specs.declared.kept.Landed.{Landed}
 use Rattle.control_plane.specs.Acted.{IsCurrent, IsIn}
 use Rattle.datagram_acts.specs.Stored as stored

@@ -1,8 +1,8 @@
 -- Which world of the definitions a network is.
 use Rattle.std.specs.Prelude.{◌≡◌}
 use Rattle.scenario_defs.specs.declared.scenario.Scenario.{Scenario}
-use Rattle.world_defs.specs.Costs.{Cores}
-use Rattle.world_defs.specs.World.{World, scenario_of, start}
+use Rattle.network_defs.specs.Costs.{Cores}
+use Rattle.network_defs.specs.World.{World, scenario_of, start}
 use Rattle.control_plane.specs.Acted.{IsIn, Standing}
 use Rattle.control_plane.specs.Plane.{Moment, at_rest}
 use Rattle.datagram_acts.specs.Stored.{IsIdle}

@@ -3,8 +3,8 @@ ghost use Rattle.std.specs.Prelude.{◌≡◌, ◌<◌, ◌+◌, ◌^◌, ℕ, I
 ghost use Rattle.mv_base.specs.declared.addr.Addr.{Addr};
 ghost use Rattle.mv_base.specs.declared.ids.SiteId.{SiteId};
 ghost use Rattle.edge_defs.specs.Datagrams as fates;
-ghost use Rattle.world_defs.specs.Acts as acts;
-ghost use Rattle.world_defs.specs.World as worlds;
+ghost use Rattle.network_defs.specs.Acts as acts;
+ghost use Rattle.network_defs.specs.World as worlds;
 ghost use Rattle.control_plane.specs.Queries.{IsEdgeOf, IsFate};
 ghost use Rattle.datagram_acts.specs.Stored.{with_datagram};
 ghost use Rattle.network_acts.specs.Acting.{Made, Passes};

@@ -1,7 +1,7 @@
 //! A whole network, as its callers have it.
 ghost use Rattle.std.specs.Prelude.{◌≡◌, IfOk};
 ghost use Rattle.scenario_defs.specs.Rules.{Rules};
-ghost use Rattle.world_defs.specs.Costs.{AreCoresOf, Cores};
+ghost use Rattle.network_defs.specs.Costs.{AreCoresOf, Cores};
 ghost use Rattle.network_acts.specs.Instant.{IsWorld, beginning};
 
 use control_plane::ControlPlane;

@@ -1,6 +1,6 @@
 //! Acts of time and of nodes: the clock, timers, costs and restarts.
 ghost use Rattle.std.specs.Prelude.{◌+◌, ◌<◌, ◌≤◌, ◌^◌, length};
-ghost use Rattle.world_defs.specs.Acts.{Reroute, Restart, SetCost, Tick, Timers};
+ghost use Rattle.network_defs.specs.Acts.{Reroute, Restart, SetCost, Tick, Timers};
 ghost use Rattle.control_plane.specs.Acted.{IsCurrent, IsWithin, same_moment, with_current};
 ghost use Rattle.control_plane.specs.Passing.{all_late};
 ghost use Rattle.network_acts.specs.Acting.{ActsAs, Passes, PassesAs};

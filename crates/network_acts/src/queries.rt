@@ -1,7 +1,7 @@
 //! What is asked of a network. Nothing changes.
 ghost use Rattle.std.specs.Prelude.{◌≡◌, length};
 ghost use Rattle.std.specs.FinMap as maps;
-ghost use Rattle.world_defs.specs.Counts.{all_copies, direction, is_end_up, octets_in_transit};
+ghost use Rattle.network_defs.specs.Counts.{all_copies, direction, is_end_up, octets_in_transit};
 ghost use Rattle.control_plane.specs.Acted.{IsWithin};
 ghost use Rattle.control_plane.specs.Customers.{IsVrfEdge, control_at};
 ghost use Rattle.datagram_acts.specs.Stored.{AreLinked};

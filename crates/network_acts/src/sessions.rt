@@ -1,6 +1,6 @@
 //! Acts on sessions: octets are moved, a session is lost, its loss is noticed, and its ends come up.
-ghost use Rattle.world_defs.specs.Acts as acts;
-ghost use Rattle.world_defs.specs.Counts.{direction};
+ghost use Rattle.network_defs.specs.Acts as acts;
+ghost use Rattle.network_defs.specs.Counts.{direction};
 ghost use Rattle.control_plane.specs.Acted.{same_moment};
 ghost use Rattle.control_plane.specs.Moving.{IsMovable};
 ghost use Rattle.control_plane.specs.Sessions.{IsDown, IsHalfUp, IsLost, none_rising, with_rising};

@@ -7,9 +7,9 @@ use Rattle.scenario_defs.specs.declared.report.ReportLine.{ReportLine}
 use Rattle.edge_defs.specs.Steps.{Call}
 use Rattle.mldp_node.specs.declared.fault.NodeFault.{NodeFault}
 use Rattle.mldp_node.specs.declared.fault.NodeFault.TheVariants as faults
-use Rattle.world_defs.specs.Acts.{Act, At}
-use Rattle.world_defs.specs.Events.{done, row}
-use Rattle.world_defs.specs.Refusals.{refusal, refused_if}
+use Rattle.network_defs.specs.Acts.{Act, At}
+use Rattle.network_defs.specs.Events.{done, row}
+use Rattle.network_defs.specs.Refusals.{refusal, refused_if}
 use Rattle.network_acts.specs.Acting.{ActsAs}
 use Rattle.network_acts.specs.Customers.{CustomerActsAs}
 use Rattle.network_acts.specs.Instant.{Instant, IsWorld, OfPlane, standing_of}

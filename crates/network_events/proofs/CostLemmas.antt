@@ -5,13 +5,13 @@ use Rattle.label_defs.proofs.KeyLemmas.{node_cases, node_itself}
 use Rattle.scenario_defs.specs.declared.report.ReportLine.{ReportLine}
 use Rattle.scenario_defs.specs.declared.scenario.Scenario.{Scenario}
 use Rattle.session_defs.specs.declared.direction.Direction.{Direction}
-use Rattle.world_defs.specs.Acts as acts
-use Rattle.world_defs.specs.Acts.{Act, Acted, act}
-use Rattle.world_defs.specs.Counts.{node_ids}
-use Rattle.world_defs.specs.Events.{Happened, Done, and_then, cost_acts, row}
-use Rattle.world_defs.specs.World.{World, scenario_of}
-use Rattle.world_defs.proofs.Kept.{Comes, Gives, row_keeps}
-use Rattle.world_laws.proofs.Lists.{each_of}
+use Rattle.network_defs.specs.Acts as acts
+use Rattle.network_defs.specs.Acts.{Act, Acted, act}
+use Rattle.network_defs.specs.Counts.{node_ids}
+use Rattle.network_defs.specs.Events.{Happened, Done, and_then, cost_acts, row}
+use Rattle.network_defs.specs.World.{World, scenario_of}
+use Rattle.network_defs.proofs.Kept.{Comes, Gives, row_keeps}
+use Rattle.network_laws.proofs.Lists.{each_of}
 use Rattle.control_plane.specs.Acted.{IsWithin, same_moment, with_current}
 use Rattle.control_plane.specs.Passing.{all_late}
 use Rattle.control_plane.specs.Plane.{Moment, at_rest}

@@ -38,14 +38,14 @@ use Rattle.edge_defs.specs.Steps as steps
 use Rattle.mldp_node.specs.declared.fault.NodeFault.{NodeFault}
 use Rattle.mvpn_model.proofs.VpnLemmas.{element_at}
 use Rattle.mvpn_model.specs.Messages.{handed, message_of, own_addr}
-use Rattle.net_defs.specs.Network.{fault_word, is_ours}
-use Rattle.world_defs.specs.Acts.{At}
-use Rattle.world_defs.specs.Events.{at_edge, done, with_message}
-use Rattle.world_defs.specs.Nodes.{CoreNode, Edge, NodeState}
-use Rattle.world_defs.specs.Refusals.{are_sessions_full, control_at, control_of, edge_of_vrf, is_selected, message_refusal, note_limit, refusal, refused_if, selection_limit, selections_at}
-use Rattle.world_defs.specs.World.{World, clock_of, scenario_of}
-use Rattle.world_laws.proofs.RunMessages.{IsSoundGiven, join_is_sound, prune_is_sound, read_is_sound}
-use Rattle.world_laws.specs.Sound.{IsFlow, SoundNode, SoundPattern}
+use Rattle.mvpn_model.specs.Refused.{fault_word, is_ours}
+use Rattle.network_defs.specs.Acts.{At}
+use Rattle.network_defs.specs.Events.{at_edge, done, with_message}
+use Rattle.network_defs.specs.Nodes.{CoreNode, Edge, NodeState}
+use Rattle.network_defs.specs.Refusals.{are_sessions_full, control_at, control_of, edge_of_vrf, is_selected, message_refusal, note_limit, refusal, refused_if, selection_limit, selections_at}
+use Rattle.network_defs.specs.World.{World, clock_of, scenario_of}
+use Rattle.network_laws.proofs.RunMessages.{IsSoundGiven, join_is_sound, prune_is_sound, read_is_sound}
+use Rattle.network_laws.specs.Sound.{IsFlow, SoundNode, SoundPattern}
 use Rattle.run_laws.proofs.SoundEvents.{sound_event}
 use Rattle.network_acts.specs.Acting.{ActsAs}
 use Rattle.network_acts.specs.Customers.{CustomerActsAs}

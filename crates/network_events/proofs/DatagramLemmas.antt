@@ -23,10 +23,10 @@ use Rattle.scenario_defs.specs.declared.scenario.Scenario.{Scenario}
 use Rattle.scenario_defs.specs.declared.scenario.Vrf.{Vrf}
 use Rattle.mvpn_model.specs.Packet.{packet}
 use Rattle.mvpn_model.specs.Packets.{no_addr, packet_word}
-use Rattle.world_defs.specs.Acts.{Act, Acted, Enter, datagram_at, entering}
-use Rattle.world_defs.specs.Events.{Done, Happened, Outcome, done, row, sent}
-use Rattle.world_defs.specs.Refusals.{are_links_full, edge_of_vrf, refusal, refused_if}
-use Rattle.world_defs.specs.World.{Datagram, World, scenario_of}
+use Rattle.network_defs.specs.Acts.{Act, Acted, Enter, datagram_at, entering}
+use Rattle.network_defs.specs.Events.{Done, Happened, Outcome, done, row, sent}
+use Rattle.network_defs.specs.Refusals.{are_links_full, edge_of_vrf, refusal, refused_if}
+use Rattle.network_defs.specs.World.{Datagram, World, scenario_of}
 use Rattle.network_acts.specs.Acting.{Made}
 use Rattle.network_acts.specs.Handling.{Enters, IsHandling, IsSentBy, IsSomeHandling}
 use Rattle.network_acts.specs.Instant.{Instant, IsSome, IsWorld, OfPlane, standing_of}

@@ -6,9 +6,9 @@ use Rattle.mv_base.specs.declared.ids.NodeId.{NodeId}
 use Rattle.scenario_defs.specs.declared.report.ReportLine.{ReportLine}
 use Rattle.mldp_node.specs.declared.fault.NodeFault.{NodeFault}
 use Rattle.mldp_node.specs.declared.fault.NodeFault.TheVariants as faults
-use Rattle.world_defs.specs.Acts.{Act, Acted, act}
-use Rattle.world_defs.specs.Events.{Happened, Outcome, Done, Halted, and_then, row}
-use Rattle.world_defs.specs.World.{World}
+use Rattle.network_defs.specs.Acts.{Act, Acted, act}
+use Rattle.network_defs.specs.Events.{Happened, Outcome, Done, Halted, and_then, row}
+use Rattle.network_defs.specs.World.{World}
 use Rattle.control_plane.specs.Plane.{Moment}
 use Rattle.network_acts.specs.Acting.{ActsAs, Made}
 use Rattle.network_acts.specs.Instant.{Instant, IsSome, IsWorld}

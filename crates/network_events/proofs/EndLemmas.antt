@@ -17,14 +17,14 @@ use Rattle.edge_defs.specs.Steps.{Call, Noticed, Raised}
 use Rattle.mldp_node.specs.declared.fault.NodeFault.{NodeFault}
 use Rattle.mvpn_model.specs.Sessions.{sessions}
 use Rattle.mvpn_model.specs.declared.session.Session.{Session}
-use Rattle.world_defs.specs.Acts as acts
-use Rattle.world_defs.specs.Acts.{Act, Acted, act, is_from_peer, is_of_session, with_network}
-use Rattle.world_defs.specs.Counts.{direction, is_end_up, is_up}
-use Rattle.world_defs.specs.Events.{Happened, Outcome, Done, and_then, is_session_of, one_act, raise_acts, row}
-use Rattle.world_defs.specs.Nodes.{Nodes}
-use Rattle.world_defs.specs.System.{Own, system}
-use Rattle.world_defs.specs.World.{World, scenario_of}
-use Rattle.world_defs.proofs.Kept.{Comes, Gives, both_give, one_comes, then_comes}
+use Rattle.network_defs.specs.Acts as acts
+use Rattle.network_defs.specs.Acts.{Act, Acted, act, is_from_peer, is_of_session, with_network}
+use Rattle.network_defs.specs.Counts.{direction, is_end_up, is_up}
+use Rattle.network_defs.specs.Events.{Happened, Outcome, Done, and_then, is_session_of, one_act, raise_acts, row}
+use Rattle.network_defs.specs.Nodes.{Nodes}
+use Rattle.network_defs.specs.System.{Own, system}
+use Rattle.network_defs.specs.World.{World, scenario_of}
+use Rattle.network_defs.proofs.Kept.{Comes, Gives, both_give, one_comes, then_comes}
 use Rattle.wire_laws.specs.Edges.{IsWay, begins}
 use Rattle.wire_laws.specs.Ends.{HasCall, end_behind, is_raise}
 use Rattle.wire_laws.specs.Ways.{IsFound}

@@ -7,10 +7,10 @@ use Rattle.scenario_defs.specs.declared.event.Event.TheVariants as events
 use Rattle.scenario_defs.specs.declared.event.Kind.{Kind}
 use Rattle.scenario_defs.specs.declared.report.Refusal.TheVariants as refusals
 use Rattle.scenario_defs.specs.declared.report.ReportLine.{ReportLine}
-use Rattle.world_defs.specs.Counts.{direction, is_up}
-use Rattle.world_defs.specs.Events.{Outcome, done}
-use Rattle.world_defs.specs.Refusals.{refusal, refused_if}
-use Rattle.world_defs.specs.World.{World}
+use Rattle.network_defs.specs.Counts.{direction, is_up}
+use Rattle.network_defs.specs.Events.{Outcome, done}
+use Rattle.network_defs.specs.Refusals.{refusal, refused_if}
+use Rattle.network_defs.specs.World.{World}
 use Rattle.control_plane.specs.Acted.{same_moment}
 use Rattle.network_acts.specs.Instant.{Instant, IsWorld}
 use Rattle.network_acts.specs.NetworkView.{NetworkView}

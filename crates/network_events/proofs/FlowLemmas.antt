@@ -21,13 +21,13 @@ use Rattle.scenario_defs.specs.declared.event.Event.TheVariants as events
 use Rattle.scenario_defs.specs.declared.report.Refusal.{Refusal}
 use Rattle.scenario_defs.specs.declared.report.Refusal.TheVariants as refusals
 use Rattle.mvpn_model.specs.Packets.{group_in, no_addr, packet_fault, packet_word, source_in}
-use Rattle.world_defs.proofs.Kept.{Comes, row_keeps}
-use Rattle.world_defs.proofs.Kept as kept
-use Rattle.world_defs.specs.Acts.{Act, Acted, act}
-use Rattle.world_defs.specs.Events.{Done, Happened, done, row}
-use Rattle.world_defs.specs.Refusals.{refusal, refused_if, are_links_full}
-use Rattle.world_defs.specs.World.{Datagram, World, scenario_of}
-use Rattle.world_laws.proofs.Lists.{each_append, each_of}
+use Rattle.network_defs.proofs.Kept.{Comes, row_keeps}
+use Rattle.network_defs.proofs.Kept as kept
+use Rattle.network_defs.specs.Acts.{Act, Acted, act}
+use Rattle.network_defs.specs.Events.{Done, Happened, done, row}
+use Rattle.network_defs.specs.Refusals.{refusal, refused_if, are_links_full}
+use Rattle.network_defs.specs.World.{Datagram, World, scenario_of}
+use Rattle.network_laws.proofs.Lists.{each_append, each_of}
 use Rattle.delivery_laws.proofs.Delivery.{done_sends}
 use Rattle.delivery_laws.proofs.Outcomes.{Gives}
 use Rattle.delivery_laws.proofs.Silent.{Sent, act_sent}

@@ -7,9 +7,9 @@ use Rattle.scenario_defs.specs.declared.report.ReportLine.{ReportLine}
 use Rattle.scenario_defs.specs.declared.scenario.Scenario.{Scenario}
 use Rattle.mvpn_model.specs.Sessions.{sessions}
 use Rattle.mvpn_model.specs.declared.session.Session.{Session}
-use Rattle.world_defs.specs.Counts.{direction, is_up}
-use Rattle.world_defs.specs.Events.{Outcome, Done, healed, is_session_of, notices, raise_acts, raises, row}
-use Rattle.world_defs.specs.World.{World, scenario_of}
+use Rattle.network_defs.specs.Counts.{direction, is_up}
+use Rattle.network_defs.specs.Events.{Outcome, Done, healed, is_session_of, notices, raise_acts, raises, row}
+use Rattle.network_defs.specs.World.{World, scenario_of}
 use Rattle.wire_laws.specs.Edges.{IsWay}
 use Rattle.wire_laws.proofs.SessionPairs.{session_has}
 use Rattle.wire_laws.proofs.WayLemmas.{has_way}

@@ -6,12 +6,12 @@ use Rattle.scenario_defs.specs.declared.report.ReportLine.{ReportLine}
 use Rattle.scenario_defs.specs.declared.scenario.Scenario.{Scenario}
 use Rattle.edge_defs.specs.Steps.{Noticed}
 use Rattle.mvpn_model.specs.declared.session.Session.{Session}
-use Rattle.world_defs.specs.Acts as acts
-use Rattle.world_defs.specs.Acts.{Act, Acted, act}
-use Rattle.world_defs.specs.Counts.{direction, is_joined, is_up}
-use Rattle.world_defs.specs.Events.{Happened, Outcome, Done, and_then, healed, raise_acts, row}
-use Rattle.world_defs.specs.World.{World, scenario_of}
-use Rattle.world_defs.proofs.Kept.{Comes, Gives, both_give}
+use Rattle.network_defs.specs.Acts as acts
+use Rattle.network_defs.specs.Acts.{Act, Acted, act}
+use Rattle.network_defs.specs.Counts.{direction, is_joined, is_up}
+use Rattle.network_defs.specs.Events.{Happened, Outcome, Done, and_then, healed, raise_acts, row}
+use Rattle.network_defs.specs.World.{World, scenario_of}
+use Rattle.network_defs.proofs.Kept.{Comes, Gives, both_give}
 use Rattle.wire_laws.specs.Edges.{IsWay}
 use Rattle.wire_laws.proofs.WayLemmas.{reversed}
 use Rattle.control_plane.specs.Acted.{same_moment}

@@ -19,14 +19,14 @@ use Rattle.scenario_defs.specs.declared.report.Refusal.TheVariants as refusals
 use Rattle.scenario_defs.specs.declared.report.ReportLine.{ReportLine}
 use Rattle.scenario_defs.specs.declared.scenario.Scenario.{Scenario}
 use Rattle.session_defs.specs.Octets.{OctetNetwork}
-use Rattle.world_defs.proofs.Kept.{Comes, Gives, land_keeps, row_keeps}
-use Rattle.world_defs.specs.Acts.{Act, Drop, Land, Tell, act}
-use Rattle.world_defs.specs.Counts.{link_ways}
-use Rattle.world_defs.specs.Events.{Done, Happened, Outcome, done, drain_round, drained, landings, row, times}
-use Rattle.world_defs.specs.Nodes.{Nodes}
-use Rattle.world_defs.specs.Refusals.{lacks_copy, refused_if}
-use Rattle.world_defs.specs.World.{World, scenario_of}
-use Rattle.world_laws.proofs.Lists.{each_at, each_flat, each_map, each_of, each_weaker}
+use Rattle.network_defs.proofs.Kept.{Comes, Gives, land_keeps, row_keeps}
+use Rattle.network_defs.specs.Acts.{Act, Drop, Land, Tell, act}
+use Rattle.network_defs.specs.Counts.{link_ways}
+use Rattle.network_defs.specs.Events.{Done, Happened, Outcome, done, drain_round, drained, landings, row, times}
+use Rattle.network_defs.specs.Nodes.{Nodes}
+use Rattle.network_defs.specs.Refusals.{lacks_copy, refused_if}
+use Rattle.network_defs.specs.World.{World, scenario_of}
+use Rattle.network_laws.proofs.Lists.{each_at, each_flat, each_map, each_of, each_weaker}
 use Rattle.network_acts.specs.Acting.{Made, Passes}
 use Rattle.network_acts.specs.Handling.{AreOfFlows, MayLand}
 use Rattle.network_acts.specs.Instant.{Instant, IsSome, IsWorld}

@@ -11,14 +11,14 @@ use Rattle.scenario_defs.specs.declared.scenario.Scenario.{Scenario}
 use Rattle.session_defs.specs.declared.direction.Direction.{Direction}
 use Rattle.mvpn_model.specs.Unready.{SessionsStand, is_that}
 use Rattle.mvpn_model.specs.declared.session.Session.{Session}
-use Rattle.world_defs.specs.Acts.{Act, Acted, Tick, Timers, Move, Lose, Notice, RaiseFirst, RaiseSecond, Restart, At, Enter, Land, Drop, Tell, SetCost, Reroute, act}
-use Rattle.world_defs.specs.Counts.{direction, is_joined}
-use Rattle.world_defs.specs.Events.{Happened, Outcome, Done, cost_acts, done, each, healed, notices, raise_acts, row, times, turn}
-use Rattle.world_defs.specs.Costs.{Cores}
-use Rattle.world_defs.specs.World.{World, clock_of, scenario_of, start}
-use Rattle.world_defs.proofs.Kept.{Comes, Gives, each_keeps, row_keeps, times_keeps}
-use Rattle.world_laws.proofs.Lists.{each_of}
-use Rattle.world_laws.proofs.SteadyEvents.{steady_event}
+use Rattle.network_defs.specs.Acts.{Act, Acted, Tick, Timers, Move, Lose, Notice, RaiseFirst, RaiseSecond, Restart, At, Enter, Land, Drop, Tell, SetCost, Reroute, act}
+use Rattle.network_defs.specs.Counts.{direction, is_joined}
+use Rattle.network_defs.specs.Events.{Happened, Outcome, Done, cost_acts, done, each, healed, notices, raise_acts, row, times, turn}
+use Rattle.network_defs.specs.Costs.{Cores}
+use Rattle.network_defs.specs.World.{World, clock_of, scenario_of, start}
+use Rattle.network_defs.proofs.Kept.{Comes, Gives, each_keeps, row_keeps, times_keeps}
+use Rattle.network_laws.proofs.Lists.{each_of}
+use Rattle.network_laws.proofs.SteadyEvents.{steady_event}
 use Rattle.ready_laws.proofs.ActsStand as stand
 use Rattle.ready_laws.proofs.ActsStand.{WorldStands, act_gives, act_stand}
 use Rattle.ready_laws.proofs.Nodes.{end_of}

@@ -10,8 +10,8 @@ use Rattle.core_walks.specs.Topology.{HasEnds, IsTopology, JoinsSamePair}
 use Rattle.label_defs.proofs.MemberLemmas.{count-cons}
 use Rattle.scenario_defs.specs.Rules.{Rules}
 use Rattle.scenario_defs.specs.declared.scenario.Scenario.{Scenario}
-use Rattle.world_defs.specs.Counts.{link_ways}
-use Rattle.world_defs.specs.World.{LinkCopy, World, scenario_of}
+use Rattle.network_defs.specs.Counts.{link_ways}
+use Rattle.network_defs.specs.World.{LinkCopy, World, scenario_of}
 use Rattle.link_copies.specs.CopiesData.{is_way}
 use Rattle.delivery_laws.specs.Flood.{AreSound, SoundCopy}
 use Rattle.delivery_laws.specs.Flood as floods

@@ -4,10 +4,10 @@ use Rattle.std.proofs.lemmas.List.{take-append-drop, take_more}
 use Rattle.mv_base.specs.Lists.{Among}
 use Rattle.mv_base.specs.declared.ids.NodeId.{NodeId}
 use Rattle.scenario_defs.specs.declared.report.ReportLine.{ReportLine}
-use Rattle.world_defs.specs.Acts.{Act}
-use Rattle.world_defs.specs.Counts.{node_ids}
-use Rattle.world_defs.specs.Events.{Outcome, Done, each, row, times}
-use Rattle.world_defs.specs.World.{World}
+use Rattle.network_defs.specs.Acts.{Act}
+use Rattle.network_defs.specs.Counts.{node_ids}
+use Rattle.network_defs.specs.Events.{Outcome, Done, each, row, times}
+use Rattle.network_defs.specs.World.{World}
 use Rattle.control_plane.specs.Acted.{same_moment}
 use Rattle.network_acts.specs.Instant.{Instant, IsWorld}
 use Rattle.network_acts.specs.NetworkView.{NetworkView}

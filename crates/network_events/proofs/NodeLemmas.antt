@@ -6,10 +6,10 @@ use Rattle.scenario_defs.specs.declared.event.Kind.{Kind}
 use Rattle.scenario_defs.specs.declared.report.ReportLine.{ReportLine}
 use Rattle.scenario_defs.specs.declared.scenario.Scenario.{Scenario}
 use Rattle.mldp_node.specs.declared.fault.NodeFault.{NodeFault}
-use Rattle.world_defs.specs.Acts as acts
-use Rattle.world_defs.specs.Counts.{direction}
-use Rattle.world_defs.specs.Events.{row}
-use Rattle.world_defs.specs.World.{scenario_of}
+use Rattle.network_defs.specs.Acts as acts
+use Rattle.network_defs.specs.Counts.{direction}
+use Rattle.network_defs.specs.Events.{row}
+use Rattle.network_defs.specs.World.{scenario_of}
 use Rattle.wire_laws.specs.Edges.{IsWay}
 use Rattle.wire_laws.proofs.WayLemmas.{has_way}
 use Rattle.control_plane.specs.Acted.{IsCurrent, same_moment}

@@ -14,10 +14,10 @@ use Rattle.scenario_defs.specs.declared.scenario.Iface.{Iface}
 use Rattle.scenario_defs.specs.declared.scenario.Scenario.{Scenario}
 use Rattle.scenario_defs.specs.declared.scenario.Vrf.{Vrf}
 use Rattle.mvpn_model.proofs.VpnLemmas.{element_at}
-use Rattle.world_defs.specs.Refusals.{edge_of_vrf}
-use Rattle.world_defs.specs.World.{scenario_of}
-use Rattle.world_laws.proofs.RunNodes.{IsFoundNode, edge_within, vrf_within}
-use Rattle.world_laws.specs.Sound.{SoundScenario}
+use Rattle.network_defs.specs.Refusals.{edge_of_vrf}
+use Rattle.network_defs.specs.World.{scenario_of}
+use Rattle.network_laws.proofs.RunNodes.{IsFoundNode, edge_within, vrf_within}
+use Rattle.network_laws.specs.Sound.{SoundScenario}
 use Rattle.control_plane.specs.Acted.{IsIn}
 use Rattle.network_acts.specs.Instant.{Instant, standing_of}
 use Rattle.network_acts.specs.NetworkView.{NetworkView}

@@ -3,10 +3,10 @@ use Rattle.std.proofs.Common.{◌≡◌, ◌∙◌, refl, sym, ap, subst, arith,
 use Rattle.std.proofs.lemmas.List.{append-nil, map-append}
 use Rattle.mv_base.specs.declared.ids.NodeId.{NodeId}
 use Rattle.scenario_defs.specs.declared.report.ReportLine.{ReportLine}
-use Rattle.world_defs.specs.Acts.{Act}
-use Rattle.world_defs.specs.Counts.{node_ids}
-use Rattle.world_defs.specs.Events.{Happened, Outcome, Done, Halted, and_then, each, one_act, row, times}
-use Rattle.world_defs.specs.World.{World}
+use Rattle.network_defs.specs.Acts.{Act}
+use Rattle.network_defs.specs.Counts.{node_ids}
+use Rattle.network_defs.specs.Events.{Happened, Outcome, Done, Halted, and_then, each, one_act, row, times}
+use Rattle.network_defs.specs.World.{World}
 use Rattle.control_plane.specs.Acted.{same_moment}
 use Rattle.control_plane.specs.Plane.{Moment}
 use Rattle.network_acts.specs.Acting.{Passes}

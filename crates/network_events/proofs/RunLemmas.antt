@@ -14,9 +14,9 @@ use Rattle.scenario_defs.specs.declared.event.Timed.{Timed}
 use Rattle.scenario_defs.specs.declared.scenario.Scenario.{Scenario}
 use Rattle.mvpn_model.specs.Past.{Past, is_accepted, expiry_by, standing, stands_after, ticks_of}
 use Rattle.mvpn_model.specs.declared.standing.Standing.{Standing}
-use Rattle.world_defs.specs.Events.{Happened, Done}
-use Rattle.world_defs.specs.Run.{Runs, Traced, outcome, traced}
-use Rattle.world_defs.specs.World.{World}
+use Rattle.network_defs.specs.Events.{Happened, Done}
+use Rattle.network_defs.specs.Run.{Runs, Traced, outcome, traced}
+use Rattle.network_defs.specs.World.{World}
 
 -- ---- one event more
 

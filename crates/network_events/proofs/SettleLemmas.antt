@@ -5,10 +5,10 @@ use Rattle.mldp_node.specs.declared.fault.NodeFault.{NodeFault}
 use Rattle.scenario_defs.specs.declared.report.ReportLine.{ReportLine}
 use Rattle.scenario_defs.specs.declared.scenario.Scenario.{Scenario}
 use Rattle.session_defs.specs.declared.direction.Direction.{Direction}
-use Rattle.world_defs.specs.Acts as acts
-use Rattle.world_defs.specs.Counts.{directions, node_ids, octets_in_transit}
-use Rattle.world_defs.specs.Events.{Outcome, Done, and_then, each, row, settled, times, turn}
-use Rattle.world_defs.specs.World.{World, scenario_of}
+use Rattle.network_defs.specs.Acts as acts
+use Rattle.network_defs.specs.Counts.{directions, node_ids, octets_in_transit}
+use Rattle.network_defs.specs.Events.{Outcome, Done, and_then, each, row, settled, times, turn}
+use Rattle.network_defs.specs.World.{World, scenario_of}
 use Rattle.wire_laws.specs.Edges.{IsWay}
 use Rattle.control_plane.specs.Acted.{same_moment}
 use Rattle.control_plane.specs.Moving.{IsMovable}

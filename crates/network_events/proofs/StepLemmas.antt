@@ -17,12 +17,12 @@ use Rattle.scenario_defs.specs.declared.report.ReportLine.{ReportLine}
 use Rattle.scenario_defs.specs.declared.report.ReportLine.TheVariants as told
 use Rattle.scenario_defs.specs.declared.scenario.Scenario.{Scenario}
 use Rattle.mvpn_model.specs.Past.{Past, standing, ticks_of}
-use Rattle.world_defs.specs.Costs.{Cores}
-use Rattle.world_defs.specs.Counts.{link_ways}
-use Rattle.world_defs.specs.Events.{Done, Halted, Happened, Outcome, done}
-use Rattle.world_defs.specs.Refusals.{refusal}
-use Rattle.world_defs.specs.Run.{Run, Runs, Traced, outcome, traced}
-use Rattle.world_defs.specs.World.{Datagram, World, clock_of, scenario_of, start}
+use Rattle.network_defs.specs.Costs.{Cores}
+use Rattle.network_defs.specs.Counts.{link_ways}
+use Rattle.network_defs.specs.Events.{Done, Halted, Happened, Outcome, done}
+use Rattle.network_defs.specs.Refusals.{refusal}
+use Rattle.network_defs.specs.Run.{Run, Runs, Traced, outcome, traced}
+use Rattle.network_defs.specs.World.{Datagram, World, clock_of, scenario_of, start}
 use Rattle.delivery_laws.specs.Flood.{AreSound, lines_in}
 use Rattle.delivery_laws.specs.Once.{brought_by, past_of}
 use Rattle.delivery_laws.proofs.Copies.{all_take}
@@ -33,7 +33,7 @@ use Rattle.delivery_laws.proofs.LinksOnce.{links_once}
 use Rattle.once_laws.proofs.StandRuns.{entries_told}
 use Rattle.run_laws.specs.Octets.{EventHasOctets}
 use Rattle.run_laws.proofs.SoundEvents.{sound_event}
-use Rattle.world_laws.proofs.Lists.{each_at}
+use Rattle.network_laws.proofs.Lists.{each_at}
 use Rattle.network_acts.specs.Handling.{AreOfFlows}
 use Rattle.network_acts.specs.Instant.{Instant, IsSome, IsWorld}
 use Rattle.network_acts.specs.NetworkView.{NetworkView}

@@ -7,10 +7,10 @@ use Rattle.session_defs.specs.Message.{SessionMessage}
 use Rattle.session_defs.specs.Octets.{Stream}
 use Rattle.session_defs.specs.Refined.{IsLine}
 use Rattle.session_defs.specs.declared.direction.Direction.{Direction}
-use Rattle.world_defs.specs.Acts as acts
-use Rattle.world_defs.specs.Counts.{directions, octets_in_transit}
-use Rattle.world_defs.specs.Events.{Outcome, Done, and_then, each, row, turn}
-use Rattle.world_defs.specs.World.{World, scenario_of}
+use Rattle.network_defs.specs.Acts as acts
+use Rattle.network_defs.specs.Counts.{directions, octets_in_transit}
+use Rattle.network_defs.specs.Events.{Outcome, Done, and_then, each, row, turn}
+use Rattle.network_defs.specs.World.{World, scenario_of}
 use Rattle.wire_laws.specs.Edges.{IsWay}
 use Rattle.control_plane.specs.Moving.{IsMovable}
 use Rattle.control_plane.specs.Plane.{Moment}

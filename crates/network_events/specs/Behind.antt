@@ -6,10 +6,10 @@ use Rattle.scenario_defs.specs.declared.event.Script.{Script}
 use Rattle.scenario_defs.specs.declared.event.Timed.{Timed}
 use Rattle.scenario_defs.specs.declared.report.ReportLine.{ReportLine}
 use Rattle.scenario_defs.specs.declared.scenario.Scenario.{Scenario}
-use Rattle.world_defs.specs.Costs.{AreCoresOf, Cores}
-use Rattle.world_defs.specs.Events.{Happened, Done, Halted}
-use Rattle.world_defs.specs.Run.{Run, Traced, outcome, traced}
-use Rattle.world_defs.specs.World.{World, start}
+use Rattle.network_defs.specs.Costs.{AreCoresOf, Cores}
+use Rattle.network_defs.specs.Events.{Happened, Done, Halted}
+use Rattle.network_defs.specs.Run.{Run, Traced, outcome, traced}
+use Rattle.network_defs.specs.World.{World, start}
 use Rattle.control_plane.specs.Plane.{at_rest}
 use Rattle.network_acts.specs.Handling.{AreOfFlows}
 use Rattle.network_acts.specs.Instant.{Instant, IsWorld}

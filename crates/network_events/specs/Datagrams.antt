@@ -12,10 +12,10 @@ use Rattle.mvpn_model.specs.Packets.{group_in, packet_fault, source_in}
 use Rattle.scenario_defs.specs.declared.event.Event.{Event}
 use Rattle.scenario_defs.specs.declared.report.Refusal.TheVariants as refusals
 use Rattle.scenario_defs.specs.declared.report.ReportLine.{ReportLine}
-use Rattle.world_defs.specs.Acts.{Enter, Land}
-use Rattle.world_defs.specs.Events.{Done, Happened, Outcome, done, drain_round, row, sent}
-use Rattle.world_defs.specs.Refusals.{are_links_full, refusal, refused_if}
-use Rattle.world_defs.specs.World.{Datagram, World, scenario_of}
+use Rattle.network_defs.specs.Acts.{Enter, Land}
+use Rattle.network_defs.specs.Events.{Done, Happened, Outcome, done, drain_round, row, sent}
+use Rattle.network_defs.specs.Refusals.{are_links_full, refusal, refused_if}
+use Rattle.network_defs.specs.World.{Datagram, World, scenario_of}
 use Rattle.network_acts.specs.Handling.{AreOfFlows, IsHandling, IsSentBy}
 use Rattle.network_acts.specs.Instant.{Instant, IsWorld}
 use Rattle.network_acts.specs.NetworkView.{NetworkView}

@@ -4,8 +4,8 @@ use Rattle.mv_base.specs.declared.ids.NodeId.{NodeId}
 use Rattle.scenario_defs.specs.declared.report.ReportLine.{ReportLine}
 use Rattle.mldp_node.specs.declared.fault.NodeFault.{NodeFault}
 use Rattle.mldp_node.specs.declared.fault.NodeFault.TheVariants as faults
-use Rattle.world_defs.specs.Events.{Happened, Outcome, Done, Halted}
-use Rattle.world_defs.specs.World.{World}
+use Rattle.network_defs.specs.Events.{Happened, Outcome, Done, Halted}
+use Rattle.network_defs.specs.World.{World}
 pub use Rattle.delivery_laws.specs.Flood.{lines_in}
 use Rattle.control_plane.specs.Plane.{Moment}
 use Rattle.network_acts.specs.Instant.{Instant, IsWorld}

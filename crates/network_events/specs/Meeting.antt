@@ -7,11 +7,11 @@ use Rattle.scenario_defs.specs.declared.event.Kind.{Kind}
 use Rattle.scenario_defs.specs.declared.report.Refusal.{Refusal}
 use Rattle.scenario_defs.specs.declared.report.ReportLine.{ReportLine}
 use Rattle.scenario_defs.specs.declared.scenario.Scenario.{Scenario}
-use Rattle.world_defs.specs.Counts.{direction}
-use Rattle.world_defs.specs.Events.{done}
-use Rattle.world_defs.specs.Refusals.{refusal}
-use Rattle.world_defs.specs.World.{World}
-use Rattle.world_laws.specs.Honest.{IsSoundEvent}
+use Rattle.network_defs.specs.Counts.{direction}
+use Rattle.network_defs.specs.Events.{done}
+use Rattle.network_defs.specs.Refusals.{refusal}
+use Rattle.network_defs.specs.World.{World}
+use Rattle.network_laws.specs.Honest.{IsSoundEvent}
 use Rattle.control_plane.specs.Plane.{at_rest}
 use Rattle.datagram_acts.specs.Stored.{AreLinked}
 use Rattle.network_acts.specs.Handling.{AreOfFlows}

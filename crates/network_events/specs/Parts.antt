@@ -2,8 +2,8 @@
 use Rattle.std.specs.Prelude.{◌≡◌, false}
 use Rattle.mv_base.specs.declared.ids.NodeId.{NodeId}
 use Rattle.scenario_defs.specs.declared.event.Kind.{Kind}
-use Rattle.world_defs.specs.Counts.{direction, is_up}
-use Rattle.world_defs.specs.World.{scenario_of}
+use Rattle.network_defs.specs.Counts.{direction, is_up}
+use Rattle.network_defs.specs.World.{scenario_of}
 use Rattle.wire_laws.specs.Edges.{IsWay}
 use Rattle.control_plane.specs.Passing.{all_late}
 use Rattle.control_plane.specs.Plane.{at_rest}

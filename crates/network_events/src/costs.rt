@@ -1,10 +1,10 @@
 //! A link that gets another cost: each node then acts on it (RFC 6388 section 2.4.3).
 ghost use Rattle.std.specs.Prelude.{◌≡◌, ◌≤◌, ◌^◌, length, map, [], ◌∷◌};
 ghost use Rattle.scenario_defs.specs.declared.event.Event.TheVariants as events;
-ghost use Rattle.world_defs.specs.Acts as acts;
-ghost use Rattle.world_defs.specs.Counts.{node_ids};
-ghost use Rattle.world_defs.specs.Events.{cost_acts, row};
-ghost use Rattle.world_defs.specs.World.{scenario_of};
+ghost use Rattle.network_defs.specs.Acts as acts;
+ghost use Rattle.network_defs.specs.Counts.{node_ids};
+ghost use Rattle.network_defs.specs.Events.{cost_acts, row};
+ghost use Rattle.network_defs.specs.World.{scenario_of};
 ghost use Rattle.control_plane.specs.Acted.{IsWithin, same_moment, with_current};
 ghost use Rattle.control_plane.specs.Plane.{at_rest};
 ghost use Rattle.network_acts.specs.Instant.{IsSome, OfPlane};

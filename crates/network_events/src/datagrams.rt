@@ -4,8 +4,8 @@ ghost use Rattle.std.specs.Prelude.{◌≡◌, ◌<◌, ◌+◌, ◌^◌, [], �
 ghost use Rattle.mvpn_model.specs.Packets.{packet_word};
 ghost use Rattle.scenario_defs.specs.declared.event.Event.{Event};
 ghost use Rattle.scenario_defs.specs.declared.event.Event.TheVariants as events;
-ghost use Rattle.world_defs.specs.Events as definitions;
-ghost use Rattle.world_defs.specs.Refusals.{are_links_full};
+ghost use Rattle.network_defs.specs.Events as definitions;
+ghost use Rattle.network_defs.specs.Refusals.{are_links_full};
 ghost use Rattle.datagram_acts.specs.Stored.{AreLinked};
 ghost use Rattle.network_acts.specs.Instant.{Instant, IsSome, IsWorld};
 ghost use Rattle.network_events.specs.Datagrams.{EntersAt, IsSomeSent, Makes, Sends, of_memory};

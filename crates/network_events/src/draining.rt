@@ -2,7 +2,7 @@
 ghost use Rattle.std.specs.Prelude.{◌≡◌, ◌<◌, ◌++◌, [], ◌∷◌, length, IfOk, OnOk};
 ghost use Rattle.std.specs.List.{AllByRecursion};
 ghost use Rattle.scenario_defs.specs.declared.event.Event.TheVariants as events;
-ghost use Rattle.world_defs.specs.Events.{drained};
+ghost use Rattle.network_defs.specs.Events.{drained};
 ghost use Rattle.network_acts.specs.Instant.{Instant, IsSome, IsWorld};
 ghost use Rattle.network_events.specs.Datagrams.{HasRound, Makes, MayDrain, lands, standing_ways, ways_of, ways_of_links};
 ghost use Rattle.network_events.specs.Meeting.{IsReady, Meets};

@@ -1,7 +1,7 @@
 //! At which node and in which VRFs events of customers take place.
 ghost use Rattle.std.specs.Prelude.{◌≡◌, ◌≤◌, ◌^◌, length, IfOk};
 ghost use Rattle.scenario_defs.specs.Vpn.{entered};
-ghost use Rattle.world_defs.specs.Refusals.{edge_of_vrf};
+ghost use Rattle.network_defs.specs.Refusals.{edge_of_vrf};
 ghost use Rattle.network_events.specs.Places.{among_from, has_vrf, vrfs_of};
 
 use mv_base::{NoMemory, NodeId, Seq, SiteId, VrfId};

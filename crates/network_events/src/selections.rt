@@ -1,7 +1,7 @@
 //! Events of the operator at a VRF: a pattern is selected there for selective tunnels, or no longer (RFC 6514 section 12.1, RFC 6625).
 ghost use Rattle.std.specs.Prelude.{◌≡◌, Some};
 ghost use Rattle.scenario_defs.specs.declared.event.Event.TheVariants as events;
-ghost use Rattle.world_defs.specs.Refusals.{edge_of_vrf};
+ghost use Rattle.network_defs.specs.Refusals.{edge_of_vrf};
 ghost use Rattle.network_acts.specs.Instant.{IsSome};
 ghost use Rattle.network_events.specs.Meeting.{IsGiven, IsReady, Meets};
 

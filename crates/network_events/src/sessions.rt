@@ -2,10 +2,10 @@
 ghost use Rattle.std.specs.Prelude.{◌≡◌, find, [], ◌∷◌, option_copied, if◌then◌else◌};
 ghost use Rattle.scenario_defs.specs.declared.event.Event.TheVariants as events;
 ghost use Rattle.mvpn_model.specs.Sessions as models;
-ghost use Rattle.world_defs.specs.Acts as acts;
-ghost use Rattle.world_defs.specs.Counts.{direction};
-ghost use Rattle.world_defs.specs.Events.{each, healed, is_session_of, raise_acts, raises, row};
-ghost use Rattle.world_defs.specs.World.{scenario_of};
+ghost use Rattle.network_defs.specs.Acts as acts;
+ghost use Rattle.network_defs.specs.Counts.{direction};
+ghost use Rattle.network_defs.specs.Events.{each, healed, is_session_of, raise_acts, raises, row};
+ghost use Rattle.network_defs.specs.World.{scenario_of};
 ghost use Rattle.wire_laws.specs.Edges.{IsWay};
 ghost use Rattle.control_plane.specs.Acted.{same_moment};
 ghost use Rattle.control_plane.specs.Sessions.{IsLost};

@@ -1,9 +1,9 @@
 //! A network settles: the timers of its nodes run, and then octets are moved until none is in transit, or the rounds are done.
 ghost use Rattle.std.specs.Prelude.{◌≡◌, ◌≤◌, ◌^◌, length, map, [], ◌∷◌, IfOk};
 ghost use Rattle.scenario_defs.specs.declared.event.Event.TheVariants as events;
-ghost use Rattle.world_defs.specs.Acts as acts;
-ghost use Rattle.world_defs.specs.Counts.{directions, node_ids};
-ghost use Rattle.world_defs.specs.Events.{each, row, settled, times, turn};
+ghost use Rattle.network_defs.specs.Acts as acts;
+ghost use Rattle.network_defs.specs.Counts.{directions, node_ids};
+ghost use Rattle.network_defs.specs.Events.{each, row, settled, times, turn};
 ghost use Rattle.wire_laws.specs.Edges.{IsWay};
 ghost use Rattle.control_plane.specs.Acted.{same_moment};
 ghost use Rattle.network_acts.specs.Instant.{IsSome};

@@ -11,7 +11,7 @@ use Rattle.edge_home.specs.Home as homes
 use Rattle.edge_home.specs.Home.{Home}
 use Rattle.node_defs.specs.EdgeState.{EdgeState, called}
 use Rattle.node_laws.specs.Places.{node_place}
-use Rattle.world_defs.specs.Nodes.{Nodes, core_at, place_of}
+use Rattle.network_defs.specs.Nodes.{Nodes, core_at, place_of}
 use Rattle.wire_laws.specs.AnyNodes as any
 use Rattle.wire_laws.specs.AnyNodes.{AnyNode, core_after, spent_of}
 use Rattle.wire_laws.specs.CoreNodes.{CoreState, core_called}

@@ -26,9 +26,9 @@ use Rattle.control_laws.proofs.Parts.{no_core}
 use Rattle.edge_streams.specs.Kept.{session}
 use Rattle.node_defs.specs.EdgeState.{EdgeState, handed, handed_out, handed_unless}
 use Rattle.node_laws.proofs.PlaceLemmas.{one_addr, one_place}
-use Rattle.world_defs.specs.Counts.{node_due}
-use Rattle.world_defs.specs.Nodes as world
-use Rattle.world_defs.specs.Nodes.{NodeState, Nodes, core_at, label_place_of, place_of}
+use Rattle.network_defs.specs.Counts.{node_due}
+use Rattle.network_defs.specs.Nodes as world
+use Rattle.network_defs.specs.Nodes.{NodeState, Nodes, core_at, label_place_of, place_of}
 use Rattle.wire_laws.specs.AnyNodes as any
 use Rattle.wire_laws.specs.AnyNodes.{AnyNode}
 use Rattle.edge_core.specs.State as states

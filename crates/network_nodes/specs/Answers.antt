@@ -8,7 +8,7 @@ use Rattle.label_defs.specs.Node.{Spent, LacksLabel}
 use Rattle.scenario_defs.specs.declared.event.Kind.{Kind}
 use Rattle.scenario_defs.specs.declared.scenario.Scenario.{Scenario}
 use Rattle.edge_defs.specs.Steps.{Call}
-use Rattle.world_defs.specs.Nodes.{Nodes, core_at}
+use Rattle.network_defs.specs.Nodes.{Nodes, core_at}
 use Rattle.wire_laws.specs.AnyNodes.{AnyNode, node_after, node_taking, spent_of}
 use Rattle.edge_streams.specs.Streams.{told_fault}
 use Rattle.edge_streams.specs.declared.reason.SessionReason.{SessionReason}

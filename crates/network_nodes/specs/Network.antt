@@ -6,7 +6,7 @@ use Rattle.label_defs.specs.LabelData.{LabelData, branches_of, use_of}
 use Rattle.session_defs.specs.Octets.{OctetNetwork}
 use Rattle.session_defs.specs.System.{Put}
 use Rattle.edge_defs.specs.Datagrams.{Fate, arriving_fate, discarded, tree_of}
-use Rattle.world_defs.specs.Nodes.{NodeState, Nodes, Edge, CoreNode, place_of}
+use Rattle.network_defs.specs.Nodes.{NodeState, Nodes, Edge, CoreNode, place_of}
 use Rattle.wire_laws.specs.AnyNodes.{AnyNode, IsNodeAt}
 use Rattle.network_nodes.specs.NodeView.{IsNode}
 use Rattle.network_nodes.specs.declared.node.NetworkNode.{NetworkNode}

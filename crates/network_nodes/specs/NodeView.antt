@@ -13,8 +13,8 @@ use Rattle.edge_home.specs.Home.{home_of}
 use Rattle.edge_control.specs.Places.{is_own_iface, is_own_vrf}
 use Rattle.node_defs.specs.EdgeState.{fresh_state, handed_out, waiting_at}
 use Rattle.node_laws.specs.Places.{node_place}
-use Rattle.world_defs.specs.Nodes as world
-use Rattle.world_defs.specs.Nodes.{NodeState, is_edge}
+use Rattle.network_defs.specs.Nodes as world
+use Rattle.network_defs.specs.Nodes.{NodeState, is_edge}
 use Rattle.wire_laws.specs.AnyNodes as any
 use Rattle.wire_laws.specs.AnyNodes.{AnyNode}
 use Rattle.wire_laws.specs.CoreNodes.{core_handed_out, fresh_core, ldp_with}

@@ -5,7 +5,7 @@ ghost use Rattle.edge_streams.specs.Kept.{session};
 ghost use Rattle.edge_core.specs.Answers.{IsOneOf};
 ghost use Rattle.edge_core.specs.State.{home_of, is_up};
 ghost use Rattle.edge_core.specs.Taking.{AnswersOctets as EdgeOctets};
-ghost use Rattle.world_defs.specs.Counts.{is_end_up};
+ghost use Rattle.network_defs.specs.Counts.{is_end_up};
 ghost use Rattle.network_nodes.specs.Answers.{Answers, AnswersOctets, after};
 ghost use Rattle.network_nodes.specs.NodeView.{MayBePeer, count_around, data_in, spent_in};
 

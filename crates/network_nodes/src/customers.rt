@@ -10,7 +10,7 @@ ghost use Rattle.edge_control.specs.Places.{is_note_too_many, is_selection_too_m
 ghost use Rattle.edge_core.specs.Answers.{IsOneOf, OnTaken};
 ghost use Rattle.edge_core.specs.Pim.{AnswersPim};
 ghost use Rattle.edge_core.specs.declared.fault.EdgeFault.TheVariants as EdgeFault;
-ghost use Rattle.world_defs.specs.Refusals.{control_of};
+ghost use Rattle.network_defs.specs.Refusals.{control_of};
 ghost use Rattle.network_nodes.specs.Answers.{Answers, OfEdges, after};
 ghost use Rattle.network_nodes.specs.NodeView.{HasIface, HasVrf, count_around, data_in, spent_in};
 

@@ -6,7 +6,7 @@ ghost use Rattle.edge_core.specs.State.{IsFate};
 ghost use Rattle.edge_defs.specs.Datagrams.{entering_fate};
 ghost use Rattle.edge_defs.specs.Edge.{EdgeData};
 ghost use Rattle.edge_defs.specs.Place.{OwnVrf, own_vrfs};
-ghost use Rattle.world_defs.specs.Nodes.{Edge, Nodes, place_of};
+ghost use Rattle.network_defs.specs.Nodes.{Edge, Nodes, place_of};
 ghost use Rattle.network_nodes.specs.Answers.{Stands};
 ghost use Rattle.network_nodes.specs.Network.{core_fate, landing_fate};
 ghost use Rattle.network_nodes.specs.NodeView.{HasVrf, count_around, data_in, spent_in};

@@ -3,7 +3,7 @@ ghost use Rattle.std.specs.Prelude.{◌≡◌, ◌<◌, length, IfOk, None};
 ghost use Rattle.scenario_defs.specs.Rules.{Rules};
 ghost use Rattle.core_node.specs.View.{state_of};
 ghost use Rattle.node_laws.specs.Places.{node_place};
-ghost use Rattle.world_defs.specs.Nodes.{is_edge};
+ghost use Rattle.network_defs.specs.Nodes.{is_edge};
 ghost use Rattle.wire_laws.specs.CoreNodes.{fresh_core};
 ghost use Rattle.network_nodes.specs.Answers.{told_as};
 ghost use Rattle.network_nodes.specs.NodeView.{IsNode, IsPlacedAt, first_node, spent_in};

@@ -3,9 +3,9 @@ ghost use Rattle.std.specs.Prelude.{◌≡◌, min, not, false, None, Some};
 ghost use Rattle.std.specs.FinMap as maps;
 ghost use Rattle.label_defs.specs.LabelData as labels;
 ghost use Rattle.mv_base.specs.declared.ids.NodeId.{NodeId};
-ghost use Rattle.world_defs.specs.Counts.{is_end_up, node_due};
-ghost use Rattle.world_defs.specs.Nodes.{Nodes, part_of};
-ghost use Rattle.world_defs.specs.Refusals.{control_of};
+ghost use Rattle.network_defs.specs.Counts.{is_end_up, node_due};
+ghost use Rattle.network_defs.specs.Nodes.{Nodes, part_of};
+ghost use Rattle.network_defs.specs.Refusals.{control_of};
 ghost use Rattle.network_nodes.specs.NodeView.{HasVrf, IsPlacedAt, data_in, spent_in};
 
 use crate::node::NetworkNode;

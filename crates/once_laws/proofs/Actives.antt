@@ -37,7 +37,7 @@ use Rattle.edge_defs.specs.Keys.{Value}
 use Rattle.bgp_update.specs.Written.{afi_of}
 use Rattle.edge_defs.specs.Originated.{is_iface_of, notes_of, active_key, plain_value, target_comms, unicast_routes, selective_routes, active_routes}
 use Rattle.edge_defs.specs.Place.{EdgePlace, OwnVrf, own_vrfs}
-use Rattle.world_defs.specs.Costs.{Cores}
+use Rattle.network_defs.specs.Costs.{Cores}
 use Rattle.edge_defs.proofs.KeyLemmas.{note_total, note_exact, key_total, key_exact}
 use Rattle.edge_laws.specs.Network.{EdgeNetwork, place_of}
 use Rattle.calm_laws.specs.Calm.{AreOfOneVpn}
@@ -49,8 +49,8 @@ use Rattle.calm_laws.proofs.Targets.{same_itself, same_back, shares_by, admitted
 use Rattle.calm_laws.proofs.Upstreams.{chained}
 use Rattle.calm_laws.proofs.Vrfs.{own_at, own_edge, own_rules, one_rd, one_vpn, shared_vpn}
 use Rattle.rule_laws.proofs.Vpns.{targets_at}
-use Rattle.world_defs.specs.Nodes.{is_edge}
-use Rattle.world_defs.specs.World.{World, scenario_of}
+use Rattle.network_defs.specs.Nodes.{is_edge}
+use Rattle.network_defs.specs.World.{World, scenario_of}
 use Rattle.once_laws.specs.Told.{NotesAreTold}
 use Rattle.once_laws.proofs.Behind.{Known}
 use Rattle.once_laws.proofs.CalmFlows.{among_where, where_among, as_flow, peer_is}

@@ -14,15 +14,15 @@ use Rattle.scenario_defs.specs.declared.scenario.Vrf.{Vrf}
 use Rattle.session_defs.specs.declared.direction.Direction.{Direction}
 use Rattle.edge_defs.specs.Datagrams.{is_from_site}
 use Rattle.edge_defs.specs.Place.{OwnVrf, addr_of}
-use Rattle.world_defs.specs.Costs.{Cores}
+use Rattle.network_defs.specs.Costs.{Cores}
 use Rattle.edge_defs.specs.Tunnels.{is_joined_in, transmit_tunnel}
 use Rattle.edge_defs.specs.Upstream.{upstream_for}
-use Rattle.world_defs.specs.Nodes.{Nodes, NodeState, Edge, CoreNode, place_of, part_of}
-use Rattle.world_defs.specs.Run.{Traced}
-use Rattle.world_defs.specs.World.{World, Datagram, scenario_of}
-use Rattle.world_laws.specs.Costs.{KnowCosts}
-use Rattle.world_laws.specs.Sound.{IsBare, HasOctets}
-use Rattle.world_laws.proofs.KnownCosts.{run_known}
+use Rattle.network_defs.specs.Nodes.{Nodes, NodeState, Edge, CoreNode, place_of, part_of}
+use Rattle.network_defs.specs.Run.{Traced}
+use Rattle.network_defs.specs.World.{World, Datagram, scenario_of}
+use Rattle.network_laws.specs.Costs.{KnowCosts}
+use Rattle.network_laws.specs.Sound.{IsBare, HasOctets}
+use Rattle.network_laws.proofs.KnownCosts.{run_known}
 use Rattle.rule_laws.proofs.Acts.{InStep}
 use Rattle.rule_laws.proofs.Start.{run_in_step}
 use Rattle.delivery_laws.specs.Calm.{CalmTree}

@@ -25,7 +25,7 @@ use Rattle.edge_defs.specs.Flows.{active_flows, same_flow, is_active, is_asking,
 use Rattle.edge_defs.specs.Imported.{FlowRoute, found_in}
 use Rattle.edge_defs.specs.Originated.{is_iface_of}
 use Rattle.edge_defs.specs.Place.{EdgePlace, OwnVrf, own_vrfs}
-use Rattle.world_defs.specs.Costs.{Cores}
+use Rattle.network_defs.specs.Costs.{Cores}
 use Rattle.edge_defs.specs.Upstream.{upstream_for}
 use Rattle.edge_defs.proofs.KeyLemmas.{flow_total}
 use Rattle.edge_laws.specs.Network.{EdgeNetwork, place_of}
@@ -34,9 +34,9 @@ use Rattle.calm_laws.proofs.Maps.{some_found, get_entry}
 use Rattle.calm_laws.proofs.Upstreams.{is_flow_of}
 use Rattle.calm_laws.proofs.Vrfs.{one_number}
 use Rattle.delivery_laws.specs.Leaving.{passes, is_iface_of_vrf}
-use Rattle.world_defs.specs.Nodes.{NodeState, is_edge}
-use Rattle.world_defs.specs.Refusals.{control_of}
-use Rattle.world_defs.specs.World.{World, scenario_of}
+use Rattle.network_defs.specs.Nodes.{NodeState, is_edge}
+use Rattle.network_defs.specs.Refusals.{control_of}
+use Rattle.network_defs.specs.World.{World, scenario_of}
 use Rattle.once_laws.proofs.Behind.{Known}
 use Rattle.once_laws.proofs.Edges.{net, flows_stand, calm_edge}
 

@@ -32,11 +32,11 @@ use Rattle.session_defs.specs.Refined.{Carried, IsLine, AreLines, seen}
 use Rattle.session_defs.specs.declared.direction.Direction.{Direction}
 use Rattle.edge_defs.specs.Place.{addr_of, node_with}
 use Rattle.core_walks.specs.Core.{Core, IsCoreOf}
-use Rattle.world_defs.specs.Counts.{direction}
+use Rattle.network_defs.specs.Counts.{direction}
 use Rattle.core_walks.specs.Topology.{HasCost, HasEnds}
-use Rattle.world_defs.specs.Nodes.{Nodes, core_at, label_place_of, part_of}
-use Rattle.world_laws.specs.Costs.{KnowCosts}
-use Rattle.world_defs.specs.World.{World, Datagram, scenario_of}
+use Rattle.network_defs.specs.Nodes.{Nodes, core_at, label_place_of, part_of}
+use Rattle.network_laws.specs.Costs.{KnowCosts}
+use Rattle.network_defs.specs.World.{World, Datagram, scenario_of}
 use Rattle.rule_laws.specs.Labels.{labels_in, label_network}
 use Rattle.rule_laws.proofs.Vpns.{first_at, some_first, one_addr, addr_at}
 use Rattle.delivery_laws.specs.Flood.{OnLinks}

@@ -33,15 +33,15 @@ use Rattle.session_defs.specs.System.{Put, Stepped, Behind, with_earlier}
 use Rattle.session_defs.specs.declared.direction.Direction.{Direction}
 use Rattle.edge_defs.specs.Datagrams.{entering_fate}
 use Rattle.edge_defs.specs.Steps as steps
-use Rattle.world_defs.specs.Acts.{Act, Tick, Timers, Move, Lose, Notice, RaiseFirst, RaiseSecond, Restart, At, Enter, Land, Drop, Tell, SetCost, Reroute, Acted, act, with_network, at_node, is_of_session, is_at, leads_to, is_from_peer, with_aged, with_branches, copy_on, fate_at, with_ttl, landed, landing, without_copy, enters_at, entering, datagram_at}
-use Rattle.world_defs.specs.Counts.{direction, directions, is_joined, is_up, link_ways, all_nodes}
-use Rattle.world_defs.specs.Events.{Done, row, each, times, raise_acts, raises, is_session_of, notices, healed, turn, landings, drain_round, sent, at_edge, with_message, done}
-use Rattle.world_defs.specs.Nodes.{Nodes, NodeState, Edge, CoreNode, place_of}
+use Rattle.network_defs.specs.Acts.{Act, Tick, Timers, Move, Lose, Notice, RaiseFirst, RaiseSecond, Restart, At, Enter, Land, Drop, Tell, SetCost, Reroute, Acted, act, with_network, at_node, is_of_session, is_at, leads_to, is_from_peer, with_aged, with_branches, copy_on, fate_at, with_ttl, landed, landing, without_copy, enters_at, entering, datagram_at}
+use Rattle.network_defs.specs.Counts.{direction, directions, is_joined, is_up, link_ways, all_nodes}
+use Rattle.network_defs.specs.Events.{Done, row, each, times, raise_acts, raises, is_session_of, notices, healed, turn, landings, drain_round, sent, at_edge, with_message, done}
+use Rattle.network_defs.specs.Nodes.{Nodes, NodeState, Edge, CoreNode, place_of}
 use Rattle.mvpn_model.specs.Packets.{source_in, group_in}
-use Rattle.world_defs.specs.Refusals.{edge_of_vrf}
-use Rattle.world_defs.specs.Run.{Traced, Runs}
-use Rattle.world_defs.specs.System.{NodeCall, Own, Elapse, Reset, Price, Follow, system, call_of, nodes_called}
-use Rattle.world_defs.specs.World.{World, Datagram, LinkCopy, scenario_of, clock_of, with_copies}
+use Rattle.network_defs.specs.Refusals.{edge_of_vrf}
+use Rattle.network_defs.specs.Run.{Traced, Runs}
+use Rattle.network_defs.specs.System.{NodeCall, Own, Elapse, Reset, Price, Follow, system, call_of, nodes_called}
+use Rattle.network_defs.specs.World.{World, Datagram, LinkCopy, scenario_of, clock_of, with_copies}
 use Rattle.std.proofs.lemmas.List.Folds.{find_at}
 use Rattle.delivery_laws.proofs.Copies.{all_at}
 use Rattle.delivery_laws.proofs.Outcomes.{Leads, Gives, then_leads, row_leads, times_leads}
@@ -49,7 +49,7 @@ use Rattle.delivery_laws.proofs.Silent.{any_lines}
 use Rattle.delivery_laws.proofs.Delivery.{came}
 use Rattle.ready_laws.proofs.Ends.{Holds}
 use Rattle.once_laws.proofs.Rests.{Rests, fed_rests, unfed_rests}
-use Rattle.world_laws.proofs.Lists.{each_append}
+use Rattle.network_laws.proofs.Lists.{each_append}
 
 -- a call by a session: a message is taken, or an end comes up, or a loss is noticed
 abbrev pub IsOfSession : (Kind → NodeId → NodeId → Type 0) → NodeId → steps.Call → Type 0

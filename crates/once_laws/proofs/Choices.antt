@@ -38,7 +38,7 @@ use Rattle.edge_defs.specs.Imported.{JoinBy, is_admitted, join_by, taken_from}
 use Rattle.edge_defs.specs.Keys.{Value}
 use Rattle.edge_defs.specs.Originated.{own_import, import_comm, source_as_comm, unicast_value, unicast_routes, selective_routes, active_routes}
 use Rattle.edge_defs.specs.Place.{EdgePlace, OwnVrf, own_vrfs, vrfs_from, addr_of}
-use Rattle.world_defs.specs.Costs.{Cores}
+use Rattle.network_defs.specs.Costs.{Cores}
 use Rattle.edge_defs.specs.Upstream.{costs_of, known_route, known_from, known_routes, upstream_by, upstream_for}
 use Rattle.edge_defs.proofs.KeyLemmas.{key_total, key_exact}
 use Rattle.edge_laws.specs.Network.{EdgeNetwork, place_of}
@@ -53,8 +53,8 @@ use Rattle.calm_laws.proofs.Targets.{same_itself, same_back, vpn_admits}
 use Rattle.calm_laws.proofs.Upstreams.{chained, admitted_unicast}
 use Rattle.calm_laws.proofs.Vrfs.{own_at, own_rules, one_rd, one_vpn}
 use Rattle.rule_laws.proofs.Vpns.{targets_at}
-use Rattle.world_defs.specs.Nodes.{is_edge}
-use Rattle.world_defs.specs.World.{World, scenario_of}
+use Rattle.network_defs.specs.Nodes.{is_edge}
+use Rattle.network_defs.specs.World.{World, scenario_of}
 use Rattle.once_laws.proofs.Behind.{Known}
 use Rattle.once_laws.proofs.CalmFlows.{peer_is}
 use Rattle.once_laws.proofs.Edges.{net, rule, calm_session}

@@ -24,12 +24,12 @@ use Rattle.edge_defs.specs.Upstream.{known_routes}
 use Rattle.calm_laws.proofs.Targets.{same_itself}
 use Rattle.edge_words.specs.Known.{AreNodes}
 use Rattle.edge_words.proofs.Known.{of_edges, chosen_is, local_is}
-use Rattle.world_defs.specs.Costs.{Cores}
-use Rattle.world_defs.specs.Nodes.{NodeState, Edge, place_of}
-use Rattle.world_defs.specs.Run.{Traced}
-use Rattle.world_defs.specs.World.{World}
-use Rattle.world_laws.specs.Sound.{HasOctets}
-use Rattle.world_laws.specs.SoundRun.{SoundRun}
+use Rattle.network_defs.specs.Costs.{Cores}
+use Rattle.network_defs.specs.Nodes.{NodeState, Edge, place_of}
+use Rattle.network_defs.specs.Run.{Traced}
+use Rattle.network_defs.specs.World.{World}
+use Rattle.network_laws.specs.Sound.{HasOctets}
+use Rattle.network_laws.specs.SoundRun.{SoundRun}
 use Rattle.once_laws.specs.Chooses.{ChoosesByTheRule}
 use Rattle.once_laws.specs.Facts.{NodeFact, EdgeFact}
 use Rattle.once_laws.proofs.Choices.{attached_of}

@@ -11,8 +11,8 @@ use Rattle.core_walks.specs.Walks.{IsLinked, IsToward}
 use Rattle.scenario_defs.specs.Rules.{Rules}
 use Rattle.scenario_defs.specs.declared.scenario.Scenario.{Scenario}
 use Rattle.core_walks.specs.Core.{Core, IsCoreOf}
-use Rattle.world_defs.specs.Costs.{AreRepriced}
-use Rattle.world_defs.specs.Counts.{node_ids, all_nodes}
+use Rattle.network_defs.specs.Costs.{AreRepriced}
+use Rattle.network_defs.specs.Counts.{node_ids, all_nodes}
 use Rattle.label_defs.proofs.MemberLemmas.{count-cons}
 
 -- how many nodes have a lower cost to the root

@@ -24,7 +24,7 @@ use Rattle.edge_defs.specs.Due as dues
 use Rattle.edge_defs.specs.Due.{is_selection_due}
 use Rattle.edge_defs.specs.Edge.{VrfPattern, pattern_cmp, Selected, EdgeData}
 use Rattle.edge_defs.specs.Flows.{flows_at}
-use Rattle.world_defs.specs.Costs.{Cores}
+use Rattle.network_defs.specs.Costs.{Cores}
 use Rattle.edge_defs.proofs.KeyLemmas.{pattern_exact}
 use Rattle.edge_laws.specs.Network.{EdgeNetwork}
 use Rattle.edge_laws.specs.Rule.{Rule}
@@ -33,10 +33,10 @@ use Rattle.calm_laws.specs.Calm as calm
 use Rattle.calm_laws.proofs.Flows.{fresh_stands}
 use Rattle.calm_laws.proofs.Lists.{among_map}
 use Rattle.calm_laws.proofs.Maps.{get_entry}
-use Rattle.world_defs.specs.Counts.{direction, node_ids, node_due}
-use Rattle.world_defs.specs.Nodes.{NodeState, Edge, CoreNode, is_edge, place_of, label_place_of}
-use Rattle.world_defs.specs.Refusals.{control_of}
-use Rattle.world_defs.specs.World.{World, scenario_of}
+use Rattle.network_defs.specs.Counts.{direction, node_ids, node_due}
+use Rattle.network_defs.specs.Nodes.{NodeState, Edge, CoreNode, is_edge, place_of, label_place_of}
+use Rattle.network_defs.specs.Refusals.{control_of}
+use Rattle.network_defs.specs.World.{World, scenario_of}
 use Rattle.rule_laws.specs.Edges.{as_message, edge_network}
 use Rattle.rule_laws.proofs.Rows.{IsEdgeNode}
 use Rattle.once_laws.specs.Facts.{EdgeFact, NodeFact}
@@ -44,7 +44,7 @@ use Rattle.once_laws.proofs.Behind.{Known}
 use Rattle.once_laws.proofs.Pairs.{CalmSession, calm_sessions, each_behind, each_unmapped}
 use Rattle.once_laws.proofs.Rests.{nothing_pending}
 use Rattle.once_laws.proofs.Zeros.{none_counted}
-use Rattle.world_laws.proofs.Lists.{each_front}
+use Rattle.network_laws.proofs.Lists.{each_front}
 
 -- ---- lists
 

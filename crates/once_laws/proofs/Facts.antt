@@ -34,17 +34,17 @@ use Rattle.edge_defs.specs.Edge as edges
 use Rattle.edge_defs.specs.Edge.{Taken, Control, EdgeData}
 use Rattle.edge_defs.specs.Flows.{flows_at}
 use Rattle.edge_defs.specs.Place.{EdgePlace}
-use Rattle.world_defs.specs.Costs.{Cores}
+use Rattle.network_defs.specs.Costs.{Cores}
 use Rattle.edge_defs.specs.Steps as steps
 use Rattle.edge_defs.specs.Steps.{EdgeStepped, LabelStep, edge_step, own_label_call, changed_leaves, one_call, control_step, label_row, part_after}
 use Rattle.bgp_update.specs.Table.{changes_of}
 use Rattle.edge_defs.specs.Tunnels.{leaves}
 use Rattle.edge_defs.proofs.LeafSteps.{fresh_leaves, leaves_follow}
 use Rattle.calm_laws.proofs.Flows.{Stands, fresh_stands, later_stands, step_stands}
-use Rattle.world_defs.specs.Nodes.{NodeState, Edge, CoreNode, Nodes, is_edge, start_nodes, fresh_node, with_node, following, label_place_of, place_of}
-use Rattle.world_defs.specs.Run.{Traced, Runs}
-use Rattle.world_defs.specs.System.{NodeCall, Own, Elapse, Reset, Price, Follow, node_called, core_called, nodes_called}
-use Rattle.world_defs.specs.World.{World, start}
+use Rattle.network_defs.specs.Nodes.{NodeState, Edge, CoreNode, Nodes, is_edge, start_nodes, fresh_node, with_node, following, label_place_of, place_of}
+use Rattle.network_defs.specs.Run.{Traced, Runs}
+use Rattle.network_defs.specs.System.{NodeCall, Own, Elapse, Reset, Price, Follow, node_called, core_called, nodes_called}
+use Rattle.network_defs.specs.World.{World, start}
 use Rattle.mv_base.specs.declared.core_link.Link.{Link}
 use Rattle.mvpn_model.specs.Sessions.{sessions, edges_from, bgp_session, bgp_sessions, ldp_session}
 use Rattle.scenario_defs.specs.declared.scenario.Node.{Node}
@@ -52,7 +52,7 @@ use Rattle.label_defs.specs.Keys.{node_cmp}
 use Rattle.label_defs.proofs.KeyLemmas.{node_cmp_total, node_cmp_exact, node_equal, node_itself}
 use Rattle.ready_laws.proofs.Ends.{Holds}
 use Rattle.once_laws.specs.Facts.{EdgeFact, NodeFact, NodesFact, FitEnd}
-use Rattle.world_laws.proofs.Lists.{each_map, each_weaker, each_append}
+use Rattle.network_laws.proofs.Lists.{each_map, each_weaker, each_append}
 use Rattle.once_laws.proofs.Carry.{IsOfSession, AreFit, EventMay, runs_hold}
 use Rattle.once_laws.proofs.Rests.{Rests, unfed_rests}
 use Rattle.ready_laws.proofs.Ends.{holds_from, holds_then}

@@ -17,14 +17,14 @@ use Rattle.pim_defs.specs.Expiry.{counts}
 use Rattle.pim_defs.specs.declared.expiry.Expiry.{Expiry}
 use Rattle.bgp_update.specs.Written.{afi_of}
 use Rattle.delivery_laws.specs.Once.{past_of}
-use Rattle.world_defs.specs.Costs.{Cores}
-use Rattle.world_defs.specs.Nodes.{NodeState, Edge, CoreNode}
-use Rattle.world_defs.specs.Refusals.{control_of}
-use Rattle.world_defs.specs.Run.{Traced}
-use Rattle.world_defs.specs.World.{World, clock_of}
-use Rattle.world_laws.specs.Sound.{SoundEntry, SoundNode}
-use Rattle.world_laws.specs.SoundRun.{SoundRun}
-use Rattle.world_laws.proofs.RunEvents.{run_stays}
+use Rattle.network_defs.specs.Costs.{Cores}
+use Rattle.network_defs.specs.Nodes.{NodeState, Edge, CoreNode}
+use Rattle.network_defs.specs.Refusals.{control_of}
+use Rattle.network_defs.specs.Run.{Traced}
+use Rattle.network_defs.specs.World.{World, clock_of}
+use Rattle.network_laws.specs.Sound.{SoundEntry, SoundNode}
+use Rattle.network_laws.specs.SoundRun.{SoundRun}
+use Rattle.network_laws.proofs.RunEvents.{run_stays}
 use Rattle.once_laws.specs.Families.{IsOfOneFamily, EntriesAreOfOneFamily}
 use Rattle.once_laws.proofs.StandRuns.{entries_told}
 

@@ -15,10 +15,10 @@ use Rattle.scenario_defs.specs.declared.scenario.Scenario.{Scenario}
 use Rattle.mvpn_model.specs.Once.{Once}
 use Rattle.mvpn_model.specs.Report.{Entry, datagrams, lines_of, refused_line, refused_lines}
 use Rattle.mvpn_model.specs.Safe.{IsSafeOut, IsSafeLine, IsSafeEntry, Safe}
-use Rattle.world_defs.specs.Costs.{Cores}
-use Rattle.world_defs.specs.Events.{Happened}
-use Rattle.world_defs.specs.Run.{Traced, traced, report_of}
-use Rattle.world_laws.proofs.Lists.{each_append, each_weaker}
+use Rattle.network_defs.specs.Costs.{Cores}
+use Rattle.network_defs.specs.Events.{Happened}
+use Rattle.network_defs.specs.Run.{Traced, traced, report_of}
+use Rattle.network_laws.proofs.Lists.{each_append, each_weaker}
 use Rattle.rule_laws.specs.SoundHalt.{SoundHalt}
 use Rattle.rule_laws.proofs.Halting.{run_before, acts_quiet}
 use Rattle.rule_laws.proofs.Plain.{IsPlainLine, IsQuiet, of_plain}

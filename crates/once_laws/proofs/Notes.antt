@@ -36,17 +36,17 @@ use Rattle.session_defs.specs.System.{Stepped}
 use Rattle.edge_defs.specs.Edge as edges
 use Rattle.edge_defs.specs.Edge.{Note, note_cmp, Taken, Control}
 use Rattle.edge_defs.specs.Place.{EdgePlace}
-use Rattle.world_defs.specs.Costs.{Cores}
+use Rattle.network_defs.specs.Costs.{Cores}
 use Rattle.edge_defs.specs.Steps as steps
 use Rattle.edge_defs.specs.Steps.{EdgeStepped, edge_step, own_label_call, control_step}
 use Rattle.edge_defs.proofs.KeyLemmas.{note_total, note_exact}
-use Rattle.world_defs.specs.Acts.{At}
-use Rattle.world_defs.specs.Events.{Happened, Done, row, one_act, at_edge, done}
-use Rattle.world_defs.specs.Nodes.{NodeState, Edge, CoreNode, Nodes, is_edge, fresh_node, with_node, place_of, label_place_of, following}
-use Rattle.world_defs.specs.Refusals.{control_of, refusal}
-use Rattle.world_defs.specs.Run.{Traced, Runs, outcome, report_of}
-use Rattle.world_defs.specs.System.{NodeCall, Own, Elapse, Reset, Price, Follow, node_called, core_called, nodes_called}
-use Rattle.world_defs.specs.World.{World, start, scenario_of}
+use Rattle.network_defs.specs.Acts.{At}
+use Rattle.network_defs.specs.Events.{Happened, Done, row, one_act, at_edge, done}
+use Rattle.network_defs.specs.Nodes.{NodeState, Edge, CoreNode, Nodes, is_edge, fresh_node, with_node, place_of, label_place_of, following}
+use Rattle.network_defs.specs.Refusals.{control_of, refusal}
+use Rattle.network_defs.specs.Run.{Traced, Runs, outcome, report_of}
+use Rattle.network_defs.specs.System.{NodeCall, Own, Elapse, Reset, Price, Follow, node_called, core_called, nodes_called}
+use Rattle.network_defs.specs.World.{World, start, scenario_of}
 use Rattle.delivery_laws.proofs.Accepted.{TellsAccepted, accepts, tells_accepted}
 use Rattle.delivery_laws.proofs.Outcomes.{Leads, then_leads, one_leads, leads_as}
 use Rattle.delivery_laws.proofs.Silent.{any_lines}

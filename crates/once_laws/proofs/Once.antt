@@ -21,17 +21,17 @@ use Rattle.scenario_defs.specs.declared.scenario.Iface.{Iface}
 use Rattle.scenario_defs.specs.declared.scenario.Scenario.{Scenario}
 use Rattle.scenario_defs.specs.declared.scenario.Vrf.{Vrf}
 use Rattle.selective_defs.specs.Selective.{Among}
-use Rattle.world_defs.specs.Costs.{Cores}
+use Rattle.network_defs.specs.Costs.{Cores}
 use Rattle.calm_laws.proofs.Lists.{any_from, any_among}
 use Rattle.delivery_laws.specs.Choice.{serves_by, serves_from, is_served, CalmChoice}
 use Rattle.delivery_laws.specs.Once.{receives_by, past_of}
 use Rattle.delivery_laws.proofs.OnceLemmas.{calm_choices_once}
 use Rattle.delivery_laws.proofs.Copies.{all_take}
 use Rattle.scenario_defs.specs.Rules.{Rises}
-use Rattle.world_laws.specs.Honest.{IsSoundEvent}
-use Rattle.world_defs.specs.Run.{Traced, Run, report_of}
-use Rattle.world_defs.specs.World.{World, Datagram, scenario_of}
-use Rattle.world_laws.specs.SoundRun.{SoundRun}
+use Rattle.network_laws.specs.Honest.{IsSoundEvent}
+use Rattle.network_defs.specs.Run.{Traced, Run, report_of}
+use Rattle.network_defs.specs.World.{World, Datagram, scenario_of}
+use Rattle.network_laws.specs.SoundRun.{SoundRun}
 use Rattle.once_laws.specs.Run.{CalmRun}
 use Rattle.once_laws.specs.Told.{AsksAreTold, NotesAreTold}
 use Rattle.once_laws.proofs.Behind.{Known, known_of, trees_calm}

@@ -17,14 +17,14 @@ use Rattle.scenario_defs.specs.Rules.{Rules}
 use Rattle.scenario_defs.specs.declared.event.Kind.TheVariants as kinds
 use Rattle.scenario_defs.specs.declared.scenario.Scenario.{Scenario}
 use Rattle.session_defs.specs.declared.direction.Direction.{Direction}
-use Rattle.world_defs.specs.Counts as counts
-use Rattle.world_defs.specs.Counts.{direction, directions_of}
-use Rattle.world_defs.specs.Nodes.{part_of}
-use Rattle.world_defs.specs.World.{World, scenario_of}
+use Rattle.network_defs.specs.Counts as counts
+use Rattle.network_defs.specs.Counts.{direction, directions_of}
+use Rattle.network_defs.specs.Nodes.{part_of}
+use Rattle.network_defs.specs.World.{World, scenario_of}
 use Rattle.delivery_laws.specs.Flood.{is_way}
 use Rattle.once_laws.specs.Zeros.{Zeros, CalmPair}
-use Rattle.world_laws.proofs.Lists.{each_front}
-use Rattle.world_laws.proofs.BgpPlaces.{all_both}
+use Rattle.network_laws.proofs.Lists.{each_front}
+use Rattle.network_laws.proofs.BgpPlaces.{all_both}
 
 pub each_behind : {X : Type 0} (P : X → Type 0) (xs ys : List X) → AllByRecursion P (xs ++ ys) → AllByRecursion P ys
 each_behind P [] ys h = h

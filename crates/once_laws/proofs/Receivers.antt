@@ -32,7 +32,7 @@ use Rattle.label_defs.proofs.KeyLemmas.{node_itself, node_apart}
 use Rattle.edge_defs.specs.Datagrams.{is_from_site, is_from_edge, is_outside, is_imported_from}
 use Rattle.edge_defs.specs.Edge.{VrfFlow, Upstream, Site, Remote, Taken}
 use Rattle.edge_defs.specs.Place.{OwnVrf, own_vrfs, addr_of}
-use Rattle.world_defs.specs.Costs.{Cores}
+use Rattle.network_defs.specs.Costs.{Cores}
 use Rattle.edge_defs.specs.Tunnels.{transmit_tunnel, is_joined_in, leaves}
 use Rattle.edge_defs.specs.Flows.{is_asking}
 use Rattle.edge_defs.specs.Upstream.{upstream_for}
@@ -48,8 +48,8 @@ use Rattle.label_defs.proofs.MemberLemmas.{count-cons}
 use Rattle.rule_laws.proofs.Vpns.{one_addr, addr_at}
 use Rattle.delivery_laws.specs.Choice.{serves_near, sends_on, serves_far, serves_by, serves_from, is_served}
 use Rattle.delivery_laws.specs.Leaving.{is_iface_of_vrf, asks_at, takes_from}
-use Rattle.world_defs.specs.Nodes.{is_edge, part_of}
-use Rattle.world_defs.specs.World.{World, Datagram, scenario_of}
+use Rattle.network_defs.specs.Nodes.{is_edge, part_of}
+use Rattle.network_defs.specs.World.{World, Datagram, scenario_of}
 use Rattle.once_laws.specs.Told.{kept_at_edge, AsksAreTold, NotesAreTold}
 use Rattle.once_laws.proofs.Actives.{active_at_told}
 use Rattle.once_laws.proofs.Behind.{Known}

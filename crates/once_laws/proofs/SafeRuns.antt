@@ -13,15 +13,15 @@ use Rattle.scenario_defs.specs.declared.report.ReportLine.TheVariants as lines
 use Rattle.scenario_defs.specs.declared.scenario.Scenario.{Scenario}
 use Rattle.mvpn_model.specs.Report.{Datagram as Accepted, datagrams, refused_lines}
 use Rattle.mvpn_model.specs.Safe.{IsAdmitted, IsSafeOut, IsSafeLine, Safe}
-use Rattle.world_defs.specs.Costs.{Cores}
-use Rattle.world_defs.specs.Events.{Happened}
-use Rattle.world_defs.specs.Run.{Traced, traced, report_of, Runs, Run}
-use Rattle.world_defs.specs.World.{World, Datagram, start}
-use Rattle.world_defs.proofs.Numbered.{numbered_some}
-use Rattle.world_laws.specs.Honest.{IsSoundEvent}
-use Rattle.world_laws.specs.Sound.{SoundScenario}
-use Rattle.world_laws.specs.SoundRun.{SoundRun}
-use Rattle.world_laws.proofs.Lists.{each_front, each_weaker}
+use Rattle.network_defs.specs.Costs.{Cores}
+use Rattle.network_defs.specs.Events.{Happened}
+use Rattle.network_defs.specs.Run.{Traced, traced, report_of, Runs, Run}
+use Rattle.network_defs.specs.World.{World, Datagram, start}
+use Rattle.network_defs.proofs.Numbered.{numbered_some}
+use Rattle.network_laws.specs.Honest.{IsSoundEvent}
+use Rattle.network_laws.specs.Sound.{SoundScenario}
+use Rattle.network_laws.specs.SoundRun.{SoundRun}
+use Rattle.network_laws.proofs.Lists.{each_front, each_weaker}
 use Rattle.rule_laws.specs.Outs.{IsAdmittedOut, IsAdmittedLine}
 use Rattle.rule_laws.proofs.Halting.{each_behind}
 use Rattle.rule_laws.proofs.Start.{run_says}

@@ -25,7 +25,7 @@ use Rattle.edge_defs.specs.Datagrams.{is_from_site, is_from_edge, is_outside, is
 use Rattle.edge_defs.specs.Edge.{Import, Upstream, Site, Remote, Taken}
 use Rattle.edge_defs.specs.Flows.{is_asking}
 use Rattle.edge_defs.specs.Place.{OwnVrf, own_vrfs, own_addr, addr_of, lsp, tunnel_number}
-use Rattle.world_defs.specs.Costs.{Cores}
+use Rattle.network_defs.specs.Costs.{Cores}
 use Rattle.edge_defs.specs.Tunnels.{transmit_tunnel, is_joined_in, leaves, selections_of, number_by, tunnels_of}
 use Rattle.edge_defs.specs.Upstream.{upstream_for}
 use Rattle.edge_laws.specs.Network.{EdgeNetwork, place_of}
@@ -37,9 +37,9 @@ use Rattle.calm_laws.proofs.Vrfs.{one_number, one_in_vpn}
 use Rattle.rule_laws.proofs.Vpns.{one_addr, addr_at}
 use Rattle.delivery_laws.specs.Choice.{serves_near, sends_on, serves_far, serves_by, serves_from, is_served}
 use Rattle.delivery_laws.specs.Leaving.{passes, is_iface_of_vrf, asks_at, takes_from}
-use Rattle.world_defs.specs.Nodes.{NodeState, is_edge, part_of}
-use Rattle.world_defs.specs.Refusals.{control_of}
-use Rattle.world_defs.specs.World.{World, Datagram, scenario_of}
+use Rattle.network_defs.specs.Nodes.{NodeState, is_edge, part_of}
+use Rattle.network_defs.specs.Refusals.{control_of}
+use Rattle.network_defs.specs.World.{World, Datagram, scenario_of}
 use Rattle.once_laws.proofs.Behind.{Known}
 use Rattle.once_laws.proofs.CalmFlows.{peer_is}
 use Rattle.once_laws.proofs.Choices.{own_among}

@@ -43,16 +43,16 @@ use Rattle.session_defs.specs.System.{Stepped, with_earlier}
 use Rattle.session_defs.specs.declared.direction.Direction.{Direction}
 use Rattle.edge_defs.specs.Edge as edges
 use Rattle.edge_defs.specs.Edge.{Control}
-use Rattle.world_defs.specs.Costs.{Cores}
+use Rattle.network_defs.specs.Costs.{Cores}
 use Rattle.edge_defs.specs.Steps as steps
 use Rattle.edge_defs.specs.Steps.{EdgeStepped, edge_step, control_step}
-use Rattle.world_defs.specs.Acts.{At, with_network}
-use Rattle.world_defs.specs.Events.{Happened, Done, row, one_act, at_edge, with_message, done}
-use Rattle.world_defs.specs.Nodes.{NodeState, Edge, CoreNode, Nodes, is_edge, fresh_node, with_node, place_of}
-use Rattle.world_defs.specs.Refusals.{control_of, refusal}
-use Rattle.world_defs.specs.Run.{Traced, Runs, outcome, report_of}
-use Rattle.world_defs.specs.System.{NodeCall, Own, node_called, nodes_called}
-use Rattle.world_defs.specs.World.{World, start, scenario_of, clock_of}
+use Rattle.network_defs.specs.Acts.{At, with_network}
+use Rattle.network_defs.specs.Events.{Happened, Done, row, one_act, at_edge, with_message, done}
+use Rattle.network_defs.specs.Nodes.{NodeState, Edge, CoreNode, Nodes, is_edge, fresh_node, with_node, place_of}
+use Rattle.network_defs.specs.Refusals.{control_of, refusal}
+use Rattle.network_defs.specs.Run.{Traced, Runs, outcome, report_of}
+use Rattle.network_defs.specs.System.{NodeCall, Own, node_called, nodes_called}
+use Rattle.network_defs.specs.World.{World, start, scenario_of, clock_of}
 use Rattle.delivery_laws.proofs.Accepted.{TellsAccepted, accepts, tells_accepted}
 use Rattle.ready_laws.proofs.Ends.{Holds}
 use Rattle.delivery_laws.proofs.Outcomes.{Leads, Gives, then_leads, one_leads, leads_as}

@@ -31,9 +31,9 @@ use Rattle.edge_defs.specs.Place.{EdgePlace}
 use Rattle.edge_defs.specs.Steps as steps
 use Rattle.edge_defs.specs.Steps.{EdgeStepped, LabelStep, edge_step, own_label_call, changed_leaves, one_call, control_step, label_row, part_after}
 use Rattle.edge_defs.specs.Tunnels.{leaves}
-use Rattle.world_defs.specs.Nodes.{NodeState, Edge, CoreNode, Nodes, is_edge, with_node, place_of, label_place_of, following}
-use Rattle.world_defs.specs.Refusals.{control_of}
-use Rattle.world_defs.specs.System.{NodeCall, Own, Elapse, Reset, Price, Follow, node_called, core_called, nodes_called}
+use Rattle.network_defs.specs.Nodes.{NodeState, Edge, CoreNode, Nodes, is_edge, with_node, place_of, label_place_of, following}
+use Rattle.network_defs.specs.Refusals.{control_of}
+use Rattle.network_defs.specs.System.{NodeCall, Own, Elapse, Reset, Price, Follow, node_called, core_called, nodes_called}
 use Rattle.ready_laws.proofs.Ends.{Holds}
 use Rattle.rule_laws.proofs.Rows.{IsEdgeNode}
 use Rattle.ready_laws.proofs.Ends.{holds_from, holds_then}

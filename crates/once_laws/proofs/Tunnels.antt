@@ -23,7 +23,7 @@ use Rattle.edge_defs.specs.Imported.{ImportedSelective, is_admitted, lsp_of, tun
 use Rattle.edge_defs.specs.Keys.{Value, key_cmp}
 use Rattle.edge_defs.specs.Originated.{target_comms}
 use Rattle.edge_defs.specs.Place.{EdgePlace, OwnVrf, own_vrfs, addr_of, lsp, tunnel_number}
-use Rattle.world_defs.specs.Costs.{Cores}
+use Rattle.network_defs.specs.Costs.{Cores}
 use Rattle.edge_defs.specs.Tunnels.{inclusive_tunnels, flow_tunnels, flows_of, tunnels_of, learned_route, learned_routes, transmit_tunnel, selections_of, number_by}
 use Rattle.edge_defs.proofs.KeyLemmas.{key_total}
 use Rattle.edge_laws.specs.Network.{EdgeNetwork, place_of}
@@ -36,7 +36,7 @@ use Rattle.calm_laws.proofs.Upstreams.{chained}
 use Rattle.rule_laws.specs.Labels.{is_own_tunnel}
 use Rattle.rule_laws.specs.Honest.{IsTunnelRoute}
 use Rattle.rule_laws.proofs.Vpns.{own_passes, own_tunnel, one_vrf, number_small}
-use Rattle.world_defs.specs.World.{World, scenario_of}
+use Rattle.network_defs.specs.World.{World, scenario_of}
 use Rattle.once_laws.proofs.Behind.{Known}
 use Rattle.once_laws.proofs.Choices.{own_among}
 use Rattle.once_laws.proofs.Edges.{net}

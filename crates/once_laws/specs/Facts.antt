@@ -11,7 +11,7 @@ use Rattle.edge_defs.specs.Edge.{EdgeData}
 use Rattle.edge_defs.specs.Flows.{flows_at}
 use Rattle.edge_defs.specs.Place.{EdgePlace}
 use Rattle.edge_defs.specs.Tunnels.{leaves}
-use Rattle.world_defs.specs.Nodes.{NodeState, Edge, CoreNode, Nodes, is_edge, place_of}
+use Rattle.network_defs.specs.Nodes.{NodeState, Edge, CoreNode, Nodes, is_edge, place_of}
 
 -- An edge is a leaf of the trees that it wants; its flows are those that were asked for at some clock; the peers whose sessions are up
 -- are other edges.

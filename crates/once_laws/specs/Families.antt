@@ -16,7 +16,7 @@ use Rattle.scenario_defs.specs.declared.scenario.Scenario.{Scenario}
 use Rattle.selective_defs.specs.Selective.{Among}
 use Rattle.pim_defs.specs.Expiry.{counts}
 use Rattle.mvpn_model.specs.Past.{Past, standing}
-use Rattle.world_defs.specs.World.{World, scenario_of, clock_of}
+use Rattle.network_defs.specs.World.{World, scenario_of, clock_of}
 
 -- The site has a prefix of the source's family that covers the source, and no site of the VPN has a longer one that does.
 pub record IsSiteOfLongest (scenario : Scenario) (vrf : VrfId) (source : Addr) (site : SiteId) : Type 0 where

@@ -4,11 +4,11 @@ use Rattle.scenario_defs.specs.Rules.{Rises}
 use Rattle.scenario_defs.specs.declared.event.Script.{Script}
 use Rattle.scenario_defs.specs.declared.event.Timed.{Timed}
 use Rattle.scenario_defs.specs.declared.report.ReportLine.TheVariants as lines
-use Rattle.world_defs.specs.Costs.{Cores}
-use Rattle.world_defs.specs.Counts.{state_line}
-use Rattle.world_defs.specs.Run.{Traced}
-use Rattle.world_defs.specs.World.{World}
-use Rattle.world_laws.specs.SoundRun.{SoundRun}
+use Rattle.network_defs.specs.Costs.{Cores}
+use Rattle.network_defs.specs.Counts.{state_line}
+use Rattle.network_defs.specs.Run.{Traced}
+use Rattle.network_defs.specs.World.{World}
+use Rattle.network_laws.specs.SoundRun.{SoundRun}
 
 -- A sound run, the lines of whose events rise, and behind which `state` tells of zeros alone.
 pub record CalmRun (cores : Cores) (script : Script) (events : List Timed) (trace : List Traced) (world : World) : Type 0 where

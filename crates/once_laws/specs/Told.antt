@@ -12,8 +12,8 @@ use Rattle.pim_defs.specs.declared.expiry.Expiry.{Expiry}
 use Rattle.scenario_defs.specs.Vpn.{edge_of}
 use Rattle.scenario_defs.specs.declared.event.JoinEntry.{JoinEntry}
 use Rattle.scenario_defs.specs.declared.event.JoinEntry.TheVariants as entries
-use Rattle.world_defs.specs.Refusals.{control_of}
-use Rattle.world_defs.specs.World.{World, scenario_of, clock_of}
+use Rattle.network_defs.specs.Refusals.{control_of}
+use Rattle.network_defs.specs.World.{World, scenario_of, clock_of}
 
 -- when an edge's entry of an interface ends
 abbrev pub kept_at_edge : World → NodeId → IfaceId → JoinEntry → Option Expiry

@@ -11,8 +11,8 @@ use Rattle.label_defs.proofs.KeyLemmas.{node_equal}
 use Rattle.mvpn_model.specs.Sessions.{sessions}
 use Rattle.mvpn_model.specs.declared.session.Session.{Session}
 use Rattle.scenario_defs.specs.Kinds.{same_kind}
-use Rattle.world_defs.specs.Acts.{RaiseFirst, RaiseSecond, Notice}
-use Rattle.world_defs.specs.Events.{is_session_of}
+use Rattle.network_defs.specs.Acts.{RaiseFirst, RaiseSecond, Notice}
+use Rattle.network_defs.specs.Events.{is_session_of}
 use Rattle.mvpn_model.specs.Unready.{SessionsStand, is_that, raised}
 use Rattle.mvpn_model.proofs.SessionLemmas.{IsIn, other_order, one_kind}
 use Rattle.ready_laws.proofs.Ends.{new_end}

@@ -14,18 +14,18 @@ use Rattle.scenario_defs.specs.declared.event.Timed.{Timed}
 use Rattle.scenario_defs.specs.declared.scenario.Scenario.{Scenario}
 use Rattle.label_defs.specs.declared.end.End.{End}
 use Rattle.std.specs.FinMap as maps
-use Rattle.world_defs.specs.Nodes.{part_of}
+use Rattle.network_defs.specs.Nodes.{part_of}
 use Rattle.ready_laws.proofs.Ends.{up_end}
 use Rattle.mvpn_model.specs.Past.{Past}
 use Rattle.mvpn_model.specs.Report.{refused_lines}
 use Rattle.mvpn_model.specs.Sessions.{edges, bgp_session, bgp_sessions, ldp_session, sessions}
 use Rattle.mvpn_model.specs.declared.session.Session.{Session}
 use Rattle.scenario_defs.specs.Kinds.{same_kind}
-use Rattle.world_defs.specs.Costs.{Cores}
-use Rattle.world_defs.specs.Counts.{is_joined, are_held, is_ready, unready}
-use Rattle.world_defs.specs.Run.{Traced, Run, report_of}
+use Rattle.network_defs.specs.Costs.{Cores}
+use Rattle.network_defs.specs.Counts.{is_joined, are_held, is_ready, unready}
+use Rattle.network_defs.specs.Run.{Traced, Run, report_of}
 use Rattle.mvpn_model.specs.Unready.{SessionsStand, none_joined, sessions_stand, is_held, is_ready_in, unready_behind}
-use Rattle.world_defs.specs.World.{World, start}
+use Rattle.network_defs.specs.World.{World, start}
 use Rattle.ready_laws.proofs.Nodes.{end_of, fresh_end}
 use Rattle.ready_laws.proofs.TimersAlike.{HasNodes}
 use Rattle.mvpn_model.proofs.SessionLemmas.{IsIn, count_alike}

@@ -10,12 +10,12 @@ use Rattle.scenario_defs.specs.declared.scenario.Scenario.{Scenario}
 use Rattle.mvpn_model.specs.declared.readiness.UpEnd.{UpEnd}
 use Rattle.mvpn_model.specs.Sessions.{sessions}
 use Rattle.mvpn_model.specs.declared.session.Session.{Session}
-use Rattle.world_defs.specs.Acts.{Act, Notice}
-use Rattle.world_defs.specs.Counts.{is_joined, is_up}
-use Rattle.world_defs.specs.Events.{Outcome, Done, row, each, raise_acts, is_session_of, raises, notices}
-use Rattle.world_defs.specs.Events as by_acts
+use Rattle.network_defs.specs.Acts.{Act, Notice}
+use Rattle.network_defs.specs.Counts.{is_joined, is_up}
+use Rattle.network_defs.specs.Events.{Outcome, Done, row, each, raise_acts, is_session_of, raises, notices}
+use Rattle.network_defs.specs.Events as by_acts
 use Rattle.mvpn_model.specs.Unready.{SessionsStand, is_that, raised, healed}
-use Rattle.world_defs.specs.World.{World}
+use Rattle.network_defs.specs.World.{World}
 use Rattle.ready_laws.proofs.ActsStand.{WorldStands}
 use Rattle.ready_laws.proofs.Outcomes.{Comes, then_comes, comes_as, acts_stand, row_comes}
 use Rattle.mvpn_model.proofs.SessionLemmas.{IsIn, other_way}

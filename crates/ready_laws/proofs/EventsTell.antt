@@ -19,13 +19,13 @@ use Rattle.scenario_defs.specs.Kinds.{same_kind}
 use Rattle.session_defs.specs.declared.direction.Direction.{Direction}
 use Rattle.edge_defs.specs.Steps as steps
 use Rattle.edge_defs.specs.Steps.{own_label_call}
-use Rattle.world_defs.specs.Acts.{Act, Tick, Timers, Move, Lose, Notice, Restart, At, Enter, Land, Drop, Tell, Reroute}
-use Rattle.world_defs.specs.Counts.{directions, link_ways, all_nodes}
-use Rattle.world_defs.specs.Events.{Done, row, each, times, turn, settled, landings, drain_round, drained, sent, cost_acts, at_edge, with_message, done}
+use Rattle.network_defs.specs.Acts.{Act, Tick, Timers, Move, Lose, Notice, Restart, At, Enter, Land, Drop, Tell, Reroute}
+use Rattle.network_defs.specs.Counts.{directions, link_ways, all_nodes}
+use Rattle.network_defs.specs.Events.{Done, row, each, times, turn, settled, landings, drain_round, drained, sent, cost_acts, at_edge, with_message, done}
 use Rattle.mvpn_model.specs.Packets.{source_in, group_in}
-use Rattle.world_defs.specs.Refusals.{edge_of_vrf}
+use Rattle.network_defs.specs.Refusals.{edge_of_vrf}
 use Rattle.mvpn_model.specs.Unready.{SessionsStand, is_that, timed, behind}
-use Rattle.world_defs.specs.World.{World, scenario_of}
+use Rattle.network_defs.specs.World.{World, scenario_of}
 use Rattle.ready_laws.proofs.Nodes.{KeepsEnds}
 use Rattle.ready_laws.proofs.ActsStand.{WorldStands, act_stand}
 use Rattle.ready_laws.proofs.Outcomes.{Comes, then_comes, row_comes, still_row, still_map, still_rows, still_copies, each_keeps, times_keeps}

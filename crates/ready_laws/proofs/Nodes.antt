@@ -19,8 +19,8 @@ use Rattle.edge_defs.specs.Edge.{EdgeData}
 use Rattle.edge_defs.specs.Steps as steps
 use Rattle.edge_defs.specs.Steps.{EdgeStepped, edge_step, own_label_call, changed_leaves, one_call, control_step, label_row, part_after}
 use Rattle.edge_defs.specs.Tunnels.{leaves}
-use Rattle.world_defs.specs.Nodes.{NodeState, Edge, CoreNode, Nodes, is_edge, fresh_node, with_node, following, place_of, label_place_of, part_of}
-use Rattle.world_defs.specs.System.{edge_stepped, core_called, node_called, call_of}
+use Rattle.network_defs.specs.Nodes.{NodeState, Edge, CoreNode, Nodes, is_edge, fresh_node, with_node, following, place_of, label_place_of, part_of}
+use Rattle.network_defs.specs.System.{edge_stepped, core_called, node_called, call_of}
 use Rattle.mvpn_model.specs.Unready.{SessionsStand}
 use Rattle.ready_laws.proofs.Ends.{up_end, up_in, Holds, holds_then, end_by, end_with, EndsBehind, step_end, leaves_are, row_end}
 

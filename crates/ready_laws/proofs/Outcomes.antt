@@ -7,10 +7,10 @@ use Rattle.std.proofs.lemmas.List.Concat.{flat_map-append}
 use Rattle.mv_base.specs.declared.ids.NodeId.{NodeId}
 use Rattle.scenario_defs.specs.declared.report.ReportLine.{ReportLine}
 use Rattle.scenario_defs.specs.declared.scenario.Scenario.{Scenario}
-use Rattle.world_defs.specs.Acts.{Act, Acted, act}
-use Rattle.world_defs.specs.Events.{Happened, Outcome, Done, Halted, and_then, one_act, row, each, times}
+use Rattle.network_defs.specs.Acts.{Act, Acted, act}
+use Rattle.network_defs.specs.Events.{Happened, Outcome, Done, Halted, and_then, one_act, row, each, times}
 use Rattle.mvpn_model.specs.Unready.{SessionsStand}
-use Rattle.world_defs.specs.World.{World}
+use Rattle.network_defs.specs.World.{World}
 use Rattle.ready_laws.proofs.ActsStand.{refused_in, none_refused, Gives, WorldStands, act_stand, act_gives}
 
 -- the lines of what happened

@@ -13,11 +13,11 @@ use Rattle.scenario_defs.specs.declared.report.ReportLine.TheVariants as lines
 use Rattle.scenario_defs.specs.declared.scenario.Scenario.{Scenario}
 use Rattle.mvpn_model.specs.Past.{is_accepted}
 use Rattle.mvpn_model.specs.Report.{lines_of, refused_line, refused_lines}
-use Rattle.world_defs.specs.Events.{Happened, Done, done}
-use Rattle.world_defs.specs.Refusals.{refusal}
-use Rattle.world_defs.specs.Run.{Traced, outcome, traced, report_of, Runs}
+use Rattle.network_defs.specs.Events.{Happened, Done, done}
+use Rattle.network_defs.specs.Refusals.{refusal}
+use Rattle.network_defs.specs.Run.{Traced, outcome, traced, report_of, Runs}
 use Rattle.mvpn_model.specs.Unready.{SessionsStand, behind}
-use Rattle.world_defs.specs.World.{World}
+use Rattle.network_defs.specs.World.{World}
 use Rattle.ready_laws.proofs.ActsStand.{refused_in}
 use Rattle.ready_laws.proofs.Outcomes.{Comes, lines_in}
 use Rattle.ready_laws.proofs.TimersAlike.{HasNodes}

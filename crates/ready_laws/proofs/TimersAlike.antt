@@ -11,8 +11,8 @@ use Rattle.mvpn_model.specs.declared.readiness.UpEnd.{UpEnd}
 use Rattle.mvpn_model.specs.Unready.{hold_run}
 use Rattle.mvpn_model.specs.Sessions.{sessions}
 use Rattle.mvpn_model.specs.declared.session.Session.{Session}
-use Rattle.world_defs.specs.Acts.{Act, Timers}
-use Rattle.world_defs.specs.Counts.{node_ids}
+use Rattle.network_defs.specs.Acts.{Act, Timers}
+use Rattle.network_defs.specs.Counts.{node_ids}
 use Rattle.mvpn_model.specs.Unready.{SessionsStand, timed}
 use Rattle.ready_laws.proofs.Ends.{end_run}
 use Rattle.ready_laws.proofs.ActsStand.{act_stand}

@@ -4,11 +4,11 @@ ghost use Rattle.scenario_defs.specs.Rules.{Rules, Rises};
 ghost use Rattle.scenario_defs.specs.declared.event.Script.{Script};
 ghost use Rattle.scenario_defs.specs.declared.event.Timed.{Timed};
 ghost use Rattle.mvpn_model.specs.Report.{refused_lines};
-ghost use Rattle.world_defs.specs.Costs.{Cores};
-ghost use Rattle.world_defs.specs.Counts.{unready};
-ghost use Rattle.world_defs.specs.Run.{Traced, Run, report_of};
+ghost use Rattle.network_defs.specs.Costs.{Cores};
+ghost use Rattle.network_defs.specs.Counts.{unready};
+ghost use Rattle.network_defs.specs.Run.{Traced, Run, report_of};
 ghost use Rattle.mvpn_model.specs.Unready.{unready_behind};
-ghost use Rattle.world_defs.specs.World.{World};
+ghost use Rattle.network_defs.specs.World.{World};
 
 /// How many sessions are not ready behind a run is what the events of the script say, and which of them were refused. By its rules
 /// the links of a scenario join nodes of it, and `settle` runs the timers of no others.

@@ -29,22 +29,22 @@ use Rattle.edge_defs.specs.Place.{OwnVrf, EdgePlace}
 use Rattle.edge_defs.specs.Steps as steps
 use Rattle.edge_defs.specs.Tunnels.{transmit_tunnel, is_joined_in}
 use Rattle.edge_defs.specs.Upstream.{upstream_for}
-use Rattle.world_defs.specs.Acts.{Act, Tick, Timers, Move, Lose, Notice, RaiseFirst, RaiseSecond, Restart, At, Enter, Land, Drop, Tell, SetCost, Reroute, with_network, is_of_session, is_at, leads_to, is_from_peer, with_branches, datagram_at, enters_at, entering, fate_at, landed, without_copy, landing, act}
-use Rattle.world_defs.specs.Counts.{direction}
-use Rattle.world_defs.specs.Nodes.{NodeState, Edge, CoreNode, Nodes, place_of, part_of, fresh_node}
-use Rattle.world_defs.specs.Nodes as nodes
-use Rattle.world_defs.specs.System.{NodeCall, Own, Elapse, Reset, Price, Follow, system, unchanged}
-use Rattle.world_defs.specs.World.{World, Datagram, LinkCopy, scenario_of, clock_of}
-use Rattle.world_defs.proofs.Kept.{Gives, branches_keep, branches_datagrams}
-use Rattle.world_laws.specs.Sound.{Sound}
-use Rattle.world_laws.specs.Honest.{IsCost, IsSoundCall}
-use Rattle.world_laws.proofs.NodeCalls.{own_is_good}
-use Rattle.world_laws.proofs.RunActs.{SoundAct}
+use Rattle.network_defs.specs.Acts.{Act, Tick, Timers, Move, Lose, Notice, RaiseFirst, RaiseSecond, Restart, At, Enter, Land, Drop, Tell, SetCost, Reroute, with_network, is_of_session, is_at, leads_to, is_from_peer, with_branches, datagram_at, enters_at, entering, fate_at, landed, without_copy, landing, act}
+use Rattle.network_defs.specs.Counts.{direction}
+use Rattle.network_defs.specs.Nodes.{NodeState, Edge, CoreNode, Nodes, place_of, part_of, fresh_node}
+use Rattle.network_defs.specs.Nodes as nodes
+use Rattle.network_defs.specs.System.{NodeCall, Own, Elapse, Reset, Price, Follow, system, unchanged}
+use Rattle.network_defs.specs.World.{World, Datagram, LinkCopy, scenario_of, clock_of}
+use Rattle.network_defs.proofs.Kept.{Gives, branches_keep, branches_datagrams}
+use Rattle.network_laws.specs.Sound.{Sound}
+use Rattle.network_laws.specs.Honest.{IsCost, IsSoundCall}
+use Rattle.network_laws.proofs.NodeCalls.{own_is_good}
+use Rattle.network_laws.proofs.RunActs.{SoundAct}
 use Rattle.rule_laws.specs.Labels.{Copies, vpn_of, origin}
 use Rattle.rule_laws.proofs.Calls.{Good, AllKept, IsFitCall, own_good}
 use Rattle.rule_laws.proofs.Copies.{branches_by, fate_is, put_kept, drop_kept, land_kept}
 use Rattle.rule_laws.proofs.Numbers.{HasRoom}
-use Rattle.world_defs.specs.Refusals.{control_of}
+use Rattle.network_defs.specs.Refusals.{control_of}
 use Rattle.rule_laws.proofs.Octets.{OctetsGood, BehindGood, earlier_good, called_good, move_good}
 use Rattle.std.specs.FinMap as maps
 use Rattle.edge_laws.specs.Acts as edge_acts

@@ -43,10 +43,10 @@ use Rattle.edge_defs.specs.Keys.{Value}
 use Rattle.edge_defs.specs.Originated.{target_comms}
 use Rattle.edge_defs.specs.Place.{EdgePlace, OwnVrf, addr_of, own_vrfs, lsp, tunnel_number}
 use Rattle.edge_defs.specs.Upstream.{upstream_for}
-use Rattle.world_defs.specs.LabelRule.{IsTunnelOf, IsTunnelFor}
-use Rattle.world_defs.specs.Nodes.{place_of}
-use Rattle.world_defs.specs.World.{World, Datagram, scenario_of}
-use Rattle.world_laws.proofs.Lists.{each_flat, each_filter, each_weaker}
+use Rattle.network_defs.specs.LabelRule.{IsTunnelOf, IsTunnelFor}
+use Rattle.network_defs.specs.Nodes.{place_of}
+use Rattle.network_defs.specs.World.{World, Datagram, scenario_of}
+use Rattle.network_laws.proofs.Lists.{each_flat, each_filter, each_weaker}
 use Rattle.route_targets.specs.declared.communities.Target.{Target}
 use Rattle.rule_laws.specs.Labels.{is_own_tunnel}
 use Rattle.rule_laws.specs.Honest.{HonestValue}

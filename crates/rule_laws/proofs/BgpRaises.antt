@@ -25,15 +25,15 @@ use Rattle.edge_laws.specs.Acts.{is_up, stepped, with_joined}
 use Rattle.edge_laws.specs.Network.{EdgeNetwork, behind}
 use Rattle.edge_laws.specs.Rule.{Rule}
 use Rattle.rule_laws.proofs.Honest.{EdgeRule, act_both}
-use Rattle.world_defs.specs.Acts.{is_of_session}
+use Rattle.network_defs.specs.Acts.{is_of_session}
 use Rattle.label_defs.specs.Between.{is_between}
-use Rattle.world_defs.specs.Counts.{direction}
-use Rattle.world_defs.specs.Nodes.{NodeState, Edge, CoreNode, Nodes, is_edge, place_of, part_of}
-use Rattle.world_defs.specs.Refusals.{control_of}
-use Rattle.world_defs.specs.System.{node_called}
-use Rattle.world_defs.specs.World.{Datagram}
-use Rattle.world_laws.specs.Sound.{Sound}
-use Rattle.world_laws.proofs.NodeCalls.{IsGoodCall}
+use Rattle.network_defs.specs.Counts.{direction}
+use Rattle.network_defs.specs.Nodes.{NodeState, Edge, CoreNode, Nodes, is_edge, place_of, part_of}
+use Rattle.network_defs.specs.Refusals.{control_of}
+use Rattle.network_defs.specs.System.{node_called}
+use Rattle.network_defs.specs.World.{Datagram}
+use Rattle.network_laws.specs.Sound.{Sound}
+use Rattle.network_laws.proofs.NodeCalls.{IsGoodCall}
 use Rattle.rule_laws.specs.Edges.{InTransit, as_message, Carries, edge_network}
 use Rattle.rule_laws.specs.Labels.{Copies, label_network}
 use Rattle.rule_laws.proofs.Calls.{Base, AllKept, Good, call_parts, call_good, up_by}

@@ -27,13 +27,13 @@ use Rattle.session_defs.specs.declared.direction.Direction.{Direction}
 use Rattle.edge_defs.specs.Place.{label_place}
 use Rattle.edge_defs.specs.Steps as steps
 use Rattle.edge_defs.specs.Steps.{own_label_call}
-use Rattle.world_defs.specs.Counts.{direction}
-use Rattle.world_defs.specs.Nodes.{NodeState, Edge, CoreNode, Nodes, is_edge, place_of, part_of, core_at}
-use Rattle.world_defs.specs.Refusals.{control_of}
-use Rattle.world_defs.specs.System.{node_called, call_of}
-use Rattle.world_defs.specs.World.{Datagram}
-use Rattle.world_laws.specs.Sound.{SoundScenario, SoundNode, Sound}
-use Rattle.world_laws.proofs.NodeCalls.{IsGoodCall}
+use Rattle.network_defs.specs.Counts.{direction}
+use Rattle.network_defs.specs.Nodes.{NodeState, Edge, CoreNode, Nodes, is_edge, place_of, part_of, core_at}
+use Rattle.network_defs.specs.Refusals.{control_of}
+use Rattle.network_defs.specs.System.{node_called, call_of}
+use Rattle.network_defs.specs.World.{Datagram}
+use Rattle.network_laws.specs.Sound.{SoundScenario, SoundNode, Sound}
+use Rattle.network_laws.proofs.NodeCalls.{IsGoodCall}
 use Rattle.rule_laws.specs.Labels.{Copies, labels_in, label_network}
 use Rattle.rule_laws.proofs.Numbers.{NumbersOk, HasRoom, step_numbers}
 use Rattle.rule_laws.proofs.Leaves.{leaves_are_trees}

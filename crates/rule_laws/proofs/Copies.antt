@@ -19,9 +19,9 @@ use Rattle.session_defs.specs.Refined.{seen}
 use Rattle.session_defs.specs.declared.direction.Direction.{Direction}
 use Rattle.mv_base.specs.declared.ids.IfaceId.{IfaceId}
 use Rattle.edge_defs.specs.Datagrams.{Fate, discarded, tree_of, outs_of}
-use Rattle.world_defs.specs.Acts.{copy_on, with_branches, fate_at, without_copy}
-use Rattle.world_defs.specs.Nodes.{NodeState, Edge, CoreNode, place_of, part_of}
-use Rattle.world_defs.specs.World.{World, Datagram, LinkCopy, clock_of, scenario_of, with_copies}
+use Rattle.network_defs.specs.Acts.{copy_on, with_branches, fate_at, without_copy}
+use Rattle.network_defs.specs.Nodes.{NodeState, Edge, CoreNode, place_of, part_of}
+use Rattle.network_defs.specs.World.{World, Datagram, LinkCopy, clock_of, scenario_of, with_copies}
 use Rattle.rule_laws.specs.Labels.{Copies, packet_copy, label_network, vpn_of, origin}
 use Rattle.rule_laws.proofs.Calls.{AllKept}
 use Rattle.rule_laws.proofs.Rows.{act_gives}

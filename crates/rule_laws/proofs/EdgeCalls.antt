@@ -21,9 +21,9 @@ use Rattle.edge_laws.specs.Acts.{is_up, stepped}
 use Rattle.edge_laws.specs.Network.{EdgeNetwork, behind}
 use Rattle.rule_laws.proofs.Honest.{EdgeRule, act_both}
 use Rattle.rule_laws.proofs.Numbers.{HasRoom}
-use Rattle.world_defs.specs.Counts.{direction}
-use Rattle.world_defs.specs.Nodes.{NodeState, Edge, CoreNode, Nodes, is_edge, place_of}
-use Rattle.world_defs.specs.Refusals.{control_of}
+use Rattle.network_defs.specs.Counts.{direction}
+use Rattle.network_defs.specs.Nodes.{NodeState, Edge, CoreNode, Nodes, is_edge, place_of}
+use Rattle.network_defs.specs.Refusals.{control_of}
 use Rattle.rule_laws.specs.Edges.{InTransit, as_message, Carries, edge_network}
 use Rattle.rule_laws.proofs.EdgePuts.{over_bgp, bgp_here, bgp_elsewhere}
 use Rattle.rule_laws.proofs.Rows.{IsEdgeNode, CalledRow, control_behind, bgp_behind, turned}

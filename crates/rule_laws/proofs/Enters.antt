@@ -5,10 +5,10 @@ use Rattle.scenario_defs.specs.Rules.{Rules}
 use Rattle.scenario_defs.specs.declared.scenario.Scenario.{Scenario}
 use Rattle.selective_defs.specs.Selective.{transmitted}
 use Rattle.edge_defs.specs.Tunnels.{selections_of, number_by}
-use Rattle.world_defs.specs.Nodes.{NodeState}
-use Rattle.world_defs.specs.Refusals.{control_of}
-use Rattle.world_defs.specs.World.{Datagram, scenario_of, numbered}
-use Rattle.world_defs.proofs.Numbered.{numbered_at}
+use Rattle.network_defs.specs.Nodes.{NodeState}
+use Rattle.network_defs.specs.Refusals.{control_of}
+use Rattle.network_defs.specs.World.{Datagram, scenario_of, numbered}
+use Rattle.network_defs.proofs.Numbered.{numbered_at}
 use Rattle.rule_laws.specs.Labels.{vpn_of_datagram}
 use Rattle.rule_laws.proofs.Events.{Enters}
 use Rattle.rule_laws.proofs.Numbers.{NumbersOk}

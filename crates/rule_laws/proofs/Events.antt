@@ -37,29 +37,29 @@ use Rattle.scenario_defs.specs.Kinds.{same_kind}
 use Rattle.session_defs.specs.declared.direction.Direction.{Direction}
 use Rattle.edge_defs.specs.Datagrams.{entering_fate}
 use Rattle.edge_defs.specs.Steps as steps
-use Rattle.world_defs.specs.Acts.{Act, Tick, Timers, Move, Lose, Notice, Restart, At, Enter, Land, Drop, Tell, SetCost, Reroute, Acted, datagram_at, enters_at, entering, act}
-use Rattle.world_defs.specs.Counts.{all_nodes, directions, link_ways, is_up as is_end}
-use Rattle.world_defs.specs.Events.{Happened, Done, row, each, times, raise_acts, is_session_of, raises, turn, healed, settled, landings, drain_round, sent, at_edge, with_message, done, cost_acts}
-use Rattle.world_defs.specs.Nodes.{NodeState, Edge, CoreNode, place_of}
+use Rattle.network_defs.specs.Acts.{Act, Tick, Timers, Move, Lose, Notice, Restart, At, Enter, Land, Drop, Tell, SetCost, Reroute, Acted, datagram_at, enters_at, entering, act}
+use Rattle.network_defs.specs.Counts.{all_nodes, directions, link_ways, is_up as is_end}
+use Rattle.network_defs.specs.Events.{Happened, Done, row, each, times, raise_acts, is_session_of, raises, turn, healed, settled, landings, drain_round, sent, at_edge, with_message, done, cost_acts}
+use Rattle.network_defs.specs.Nodes.{NodeState, Edge, CoreNode, place_of}
 use Rattle.mvpn_model.specs.Packets.{source_in, group_in}
-use Rattle.world_defs.specs.Refusals.{control_at, edge_of_vrf, refused_if, is_session_joined, is_selected, are_sessions_full, selection_limit, selections_at, refusal}
-use Rattle.world_defs.specs.Run.{Traced, outcome, Runs}
-use Rattle.world_defs.specs.World.{World, Datagram, scenario_of, clock_of}
-use Rattle.world_defs.proofs.Kept.{Gives, Comes, then_comes, row_keeps, each_keeps, times_keeps, both_give, comes_as, branches_datagrams}
-use Rattle.world_laws.specs.Sound.{SoundScenario}
-use Rattle.world_laws.specs.Honest.{IsSoundCall, IsSoundEvent, IsCost}
-use Rattle.world_laws.proofs.Lists.{each_append, each_of, each_map, each_flat, each_weaker}
-use Rattle.world_laws.proofs.RunActs.{SoundAct}
-use Rattle.world_laws.proofs.RunNodes.{IsNode, IsFoundNode, nodes_within, edge_within, vrf_within}
-use Rattle.world_laws.proofs.RunMessages.{IsSoundGiven, join_is_sound, prune_is_sound, read_is_sound}
-use Rattle.world_laws.proofs.RunEvents.{two_ends}
+use Rattle.network_defs.specs.Refusals.{control_at, edge_of_vrf, refused_if, is_session_joined, is_selected, are_sessions_full, selection_limit, selections_at, refusal}
+use Rattle.network_defs.specs.Run.{Traced, outcome, Runs}
+use Rattle.network_defs.specs.World.{World, Datagram, scenario_of, clock_of}
+use Rattle.network_defs.proofs.Kept.{Gives, Comes, then_comes, row_keeps, each_keeps, times_keeps, both_give, comes_as, branches_datagrams}
+use Rattle.network_laws.specs.Sound.{SoundScenario}
+use Rattle.network_laws.specs.Honest.{IsSoundCall, IsSoundEvent, IsCost}
+use Rattle.network_laws.proofs.Lists.{each_append, each_of, each_map, each_flat, each_weaker}
+use Rattle.network_laws.proofs.RunActs.{SoundAct}
+use Rattle.network_laws.proofs.RunNodes.{IsNode, IsFoundNode, nodes_within, edge_within, vrf_within}
+use Rattle.network_laws.proofs.RunMessages.{IsSoundGiven, join_is_sound, prune_is_sound, read_is_sound}
+use Rattle.network_laws.proofs.RunEvents.{two_ends}
 use Rattle.label_laws.specs.Rule.{Kept}
 use Rattle.session_defs.specs.Refined.{seen}
 use Rattle.rule_laws.specs.Labels.{label_network}
 use Rattle.rule_laws.proofs.Acts.{InStep, IsFit, IsFitEnter, act_in_step}
 use Rattle.std.proofs.lemmas.Option.{slice_get_within}
 use Rattle.scenario_defs.specs.declared.scenario.Node.{Node}
-use Rattle.world_defs.specs.Nodes.{is_edge}
+use Rattle.network_defs.specs.Nodes.{is_edge}
 use Rattle.mvpn_model.specs.Sessions.{edges_from}
 use Rattle.rule_laws.proofs.Raised.{bgp_up_is, IsPair, one_then, pair_raised, healed_in_step}
 use Rattle.rule_laws.proofs.Raises.{between}

@@ -33,10 +33,10 @@ use Rattle.session_defs.specs.Message.{SessionMessage, Label, IsPut}
 use Rattle.session_defs.specs.Refined.{Carried, IsLine, seen}
 use Rattle.session_defs.specs.declared.direction.Direction.{Direction}
 use Rattle.edge_defs.specs.Place.{addr_of, lsp}
-use Rattle.world_defs.specs.Acts.{datagram_at}
-use Rattle.world_defs.specs.Counts.{direction}
-use Rattle.world_defs.specs.LabelRule.{IsTunnelFor, CopyCase, is_mapped, is_leaving, is_resting, is_down, is_unheld, IsWithdrawnTo, LabelRule}
-use Rattle.world_defs.specs.World.{World, Datagram, LinkCopy, scenario_of, clock_of}
+use Rattle.network_defs.specs.Acts.{datagram_at}
+use Rattle.network_defs.specs.Counts.{direction}
+use Rattle.network_defs.specs.LabelRule.{IsTunnelFor, CopyCase, is_mapped, is_leaving, is_resting, is_down, is_unheld, IsWithdrawnTo, LabelRule}
+use Rattle.network_defs.specs.World.{World, Datagram, LinkCopy, scenario_of, clock_of}
 use Rattle.rule_laws.specs.Labels.{labels_in, packet_copy, label_network, vpn_number, fec_number, is_own_tunnel, vpn_of, vpn_of_datagram, origin}
 use Rattle.rule_laws.proofs.Acts.{InStep}
 use Rattle.rule_laws.proofs.Puts.{labels_both}

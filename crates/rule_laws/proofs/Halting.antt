@@ -6,10 +6,10 @@ use Rattle.mv_base.specs.declared.ids.NodeId.{NodeId}
 use Rattle.scenario_defs.specs.declared.event.Script.{Script}
 use Rattle.scenario_defs.specs.declared.event.Timed.{Timed}
 use Rattle.mvpn_model.specs.Report.{Entry}
-use Rattle.world_defs.specs.Costs.{Cores}
-use Rattle.world_laws.specs.Honest.{IsSoundEvent}
-use Rattle.world_laws.specs.SoundRun.{SoundRun}
-use Rattle.world_laws.proofs.Lists.{each_front}
+use Rattle.network_defs.specs.Costs.{Cores}
+use Rattle.network_laws.specs.Honest.{IsSoundEvent}
+use Rattle.network_laws.specs.SoundRun.{SoundRun}
+use Rattle.network_laws.proofs.Lists.{each_front}
 use Rattle.rule_laws.specs.SoundHalt.{SoundHalt}
 use Rattle.rule_laws.proofs.Plain.{IsQuiet, halts_quiet}
 

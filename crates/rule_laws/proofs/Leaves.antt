@@ -29,10 +29,10 @@ use Rattle.edge_defs.specs.Keys.{Value}
 use Rattle.label_defs.specs.Node.{is_p2mp}
 use Rattle.edge_defs.specs.Place.{EdgePlace, OwnVrf, addr_of, own_vrfs, is_lsp_opaque, is_tree}
 use Rattle.edge_defs.specs.Tunnels.{learned_route, learned_routes, inclusive_tunnels, flow_tunnels, flows_of, tunnels_of, leaves}
-use Rattle.world_laws.specs.Sound.{IsSoundFec, SoundControl}
-use Rattle.world_laws.proofs.LabelLeaves.{leaves_are_sound}
-use Rattle.world_laws.proofs.Lists.{each_append, each_of, each_map, each_flat, each_filter, each_found}
-use Rattle.world_laws.proofs.Maps.{each_member}
+use Rattle.network_laws.specs.Sound.{IsSoundFec, SoundControl}
+use Rattle.network_laws.proofs.LabelLeaves.{leaves_are_sound}
+use Rattle.network_laws.proofs.Lists.{each_append, each_of, each_map, each_flat, each_filter, each_found}
+use Rattle.network_laws.proofs.Maps.{each_member}
 use Rattle.mvpn_model.proofs.ListLemmas.{any-from_at}
 
 -- a FEC that has a spelling is one of a tree

@@ -14,8 +14,8 @@ use Rattle.edge_defs.specs.Place.{EdgePlace}
 use Rattle.selective_defs.specs.Selective.{free_number}
 use Rattle.edge_defs.specs.Steps as steps
 use Rattle.edge_defs.specs.Steps.{is_used, selection_run, selections_run, taken_change, effect, is_vrf_step, refreshed, control_step}
-use Rattle.world_laws.proofs.Lists.{each_map}
-use Rattle.world_laws.proofs.Maps.{Each, all_entries, made_meets, put_meets, cut_meets}
+use Rattle.network_laws.proofs.Lists.{each_map}
+use Rattle.network_laws.proofs.Maps.{Each, all_entries, made_meets, put_meets, cut_meets}
 
 -- a number of 20 bits
 abbrev pub IsSmall : VrfPattern → Selected → Type 0

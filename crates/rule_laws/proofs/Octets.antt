@@ -17,14 +17,14 @@ use Rattle.session_defs.specs.declared.direction.Direction.{Direction}
 use Rattle.session_defs.proofs.Deliveries.{IsSeen, with_news, news_are}
 use Rattle.session_defs.proofs.Lines.{all_both}
 use Rattle.session_defs.proofs.Moves.{moved_seen}
-use Rattle.world_defs.specs.Counts.{direction}
-use Rattle.world_defs.specs.Nodes.{Nodes}
-use Rattle.world_defs.specs.System.{NodeCall, system}
-use Rattle.world_defs.specs.World.{Datagram}
-use Rattle.world_laws.specs.Sound.{Sound}
-use Rattle.world_laws.specs.Honest.{IsSoundNodeCall, sound_system}
-use Rattle.world_laws.proofs.Nodes.{honest_nodes}
-use Rattle.world_laws.proofs.RunActs.{taken_alike}
+use Rattle.network_defs.specs.Counts.{direction}
+use Rattle.network_defs.specs.Nodes.{Nodes}
+use Rattle.network_defs.specs.System.{NodeCall, system}
+use Rattle.network_defs.specs.World.{Datagram}
+use Rattle.network_laws.specs.Sound.{Sound}
+use Rattle.network_laws.specs.Honest.{IsSoundNodeCall, sound_system}
+use Rattle.network_laws.proofs.Nodes.{honest_nodes}
+use Rattle.network_laws.proofs.RunActs.{taken_alike}
 use Rattle.rule_laws.specs.Labels.{Copies}
 use Rattle.rule_laws.proofs.Calls.{Good}
 use Rattle.rule_laws.proofs.Deliveries.{delivered_good}

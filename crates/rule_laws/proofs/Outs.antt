@@ -28,12 +28,12 @@ use Rattle.edge_defs.specs.Flows.{asking_ifaces}
 use Rattle.edge_defs.specs.Place.{EdgePlace, OwnVrf}
 use Rattle.edge_defs.specs.Tunnels.{transmit_tunnel, is_joined_in}
 use Rattle.edge_defs.specs.Upstream.{upstream_for}
-use Rattle.world_defs.specs.Acts.{Enter, Land, Acted, hop_line, fated, datagram_at, enters_at, entering, fate_at, with_ttl, landed, without_copy, landing, act}
-use Rattle.world_defs.specs.LabelRule.{IsTunnelFor}
-use Rattle.world_defs.specs.Nodes.{NodeState, Edge, CoreNode, place_of, part_of}
-use Rattle.world_defs.specs.Refusals.{control_of}
-use Rattle.world_defs.specs.World.{World, Datagram, LinkCopy, scenario_of, clock_of, numbered}
-use Rattle.world_laws.proofs.Lists.{each_append, each_map, each_of, each_weaker}
+use Rattle.network_defs.specs.Acts.{Enter, Land, Acted, hop_line, fated, datagram_at, enters_at, entering, fate_at, with_ttl, landed, without_copy, landing, act}
+use Rattle.network_defs.specs.LabelRule.{IsTunnelFor}
+use Rattle.network_defs.specs.Nodes.{NodeState, Edge, CoreNode, place_of, part_of}
+use Rattle.network_defs.specs.Refusals.{control_of}
+use Rattle.network_defs.specs.World.{World, Datagram, LinkCopy, scenario_of, clock_of, numbered}
+use Rattle.network_laws.proofs.Lists.{each_append, each_map, each_of, each_weaker}
 use Rattle.rule_laws.specs.Labels.{packet_copy, label_network, origin}
 use Rattle.rule_laws.specs.Outs.{IsAdmittedLine}
 use Rattle.rule_laws.proofs.Acts.{InStep}

@@ -28,15 +28,15 @@ use Rattle.session_defs.specs.Octets.{OctetNetwork, octet_run}
 use Rattle.session_defs.specs.System.{Behind, Put, octets_over}
 use Rattle.session_defs.specs.declared.direction.Direction.{Direction}
 use Rattle.edge_defs.specs.Steps as steps
-use Rattle.world_defs.specs.Acts.{Act, Tick, Timers, Move, Lose, Notice, RaiseFirst, RaiseSecond, Restart, At, Enter, Land, Drop, Tell, Acted, with_network, at_node, put_line, put_lines, with_aged, is_of_session, is_from_peer, is_at, leads_to, act, SetCost, Reroute}
-use Rattle.world_defs.specs.Counts.{direction, directions, all_nodes, link_ways, is_joined, is_up as is_end}
-use Rattle.world_defs.specs.Events.{Happened, Outcome, Done, Halted, and_then, one_act, row, each, times, raise_acts, is_session_of, raises, notices, healed, turn, settled, landings, drain_round, sent, at_edge, with_message, done, cost_acts}
-use Rattle.world_defs.specs.Nodes.{Nodes}
-use Rattle.world_defs.specs.Refusals.{edge_of_vrf, refusal}
-use Rattle.world_defs.specs.Run.{outcome}
-use Rattle.world_defs.specs.System.{Own, Elapse, Reset, system, Price, Follow}
-use Rattle.world_defs.specs.World.{World, scenario_of}
-use Rattle.world_laws.proofs.Lists.{each_append, each_flat, each_of, each_map, each_weaker}
+use Rattle.network_defs.specs.Acts.{Act, Tick, Timers, Move, Lose, Notice, RaiseFirst, RaiseSecond, Restart, At, Enter, Land, Drop, Tell, Acted, with_network, at_node, put_line, put_lines, with_aged, is_of_session, is_from_peer, is_at, leads_to, act, SetCost, Reroute}
+use Rattle.network_defs.specs.Counts.{direction, directions, all_nodes, link_ways, is_joined, is_up as is_end}
+use Rattle.network_defs.specs.Events.{Happened, Outcome, Done, Halted, and_then, one_act, row, each, times, raise_acts, is_session_of, raises, notices, healed, turn, settled, landings, drain_round, sent, at_edge, with_message, done, cost_acts}
+use Rattle.network_defs.specs.Nodes.{Nodes}
+use Rattle.network_defs.specs.Refusals.{edge_of_vrf, refusal}
+use Rattle.network_defs.specs.Run.{outcome}
+use Rattle.network_defs.specs.System.{Own, Elapse, Reset, system, Price, Follow}
+use Rattle.network_defs.specs.World.{World, scenario_of}
+use Rattle.network_laws.proofs.Lists.{each_append, each_flat, each_of, each_map, each_weaker}
 use Rattle.rule_laws.proofs.Outs.{Says}
 
 -- no copy lands, and no datagram enters

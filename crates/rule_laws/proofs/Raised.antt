@@ -28,17 +28,17 @@ use Rattle.ready_laws.proofs.ActsStand.{WorldStands, act_stand}
 use Rattle.ready_laws.proofs.Ends.{end_with, up_end}
 use Rattle.ready_laws.proofs.Nodes.{end_of}
 use Rattle.mvpn_model.specs.declared.readiness.UpEnd.{UpEnd}
-use Rattle.world_defs.specs.Acts.{Act, Notice, RaiseFirst, RaiseSecond, Acted, with_network, is_of_session, act}
-use Rattle.world_defs.specs.Counts.{direction, is_joined, is_bgp_up, is_up as is_end}
-use Rattle.world_defs.specs.Events.{Done, one_act, row, raise_acts, notices, healed}
-use Rattle.world_defs.specs.Nodes.{Nodes, part_of}
-use Rattle.world_defs.specs.System.{Own, system}
-use Rattle.world_defs.specs.World.{World, clock_of}
-use Rattle.world_defs.proofs.Kept.{Gives, Comes, then_comes, one_comes}
-use Rattle.world_laws.specs.Sound.{Sound}
-use Rattle.world_laws.proofs.NodeCalls.{own_is_good}
-use Rattle.world_laws.proofs.Nodes.{honest_nodes}
-use Rattle.world_laws.proofs.RunNodes.{IsNode}
+use Rattle.network_defs.specs.Acts.{Act, Notice, RaiseFirst, RaiseSecond, Acted, with_network, is_of_session, act}
+use Rattle.network_defs.specs.Counts.{direction, is_joined, is_bgp_up, is_up as is_end}
+use Rattle.network_defs.specs.Events.{Done, one_act, row, raise_acts, notices, healed}
+use Rattle.network_defs.specs.Nodes.{Nodes, part_of}
+use Rattle.network_defs.specs.System.{Own, system}
+use Rattle.network_defs.specs.World.{World, clock_of}
+use Rattle.network_defs.proofs.Kept.{Gives, Comes, then_comes, one_comes}
+use Rattle.network_laws.specs.Sound.{Sound}
+use Rattle.network_laws.proofs.NodeCalls.{own_is_good}
+use Rattle.network_laws.proofs.Nodes.{honest_nodes}
+use Rattle.network_laws.proofs.RunNodes.{IsNode}
 use Rattle.rule_laws.proofs.Acts.{InStep, network_in_step, act_in_step}
 use Rattle.rule_laws.proofs.Octets.{called_good}
 use Rattle.label_defs.specs.Keys.{node_cmp}
@@ -47,10 +47,10 @@ use Rattle.label_defs.proofs.SetLemmas.{cut_here}
 use Rattle.edge_defs.specs.Edge.{Taken, Control}
 use Rattle.edge_laws.specs.Acts as edge_acts
 use Rattle.session_defs.specs.System.{with_messages}
-use Rattle.world_defs.specs.Nodes.{NodeState, Edge, CoreNode, is_edge}
-use Rattle.world_defs.specs.Refusals.{control_of}
-use Rattle.world_defs.specs.System.{node_called}
-use Rattle.world_defs.specs.Acts.{is_from_peer}
+use Rattle.network_defs.specs.Nodes.{NodeState, Edge, CoreNode, is_edge}
+use Rattle.network_defs.specs.Refusals.{control_of}
+use Rattle.network_defs.specs.System.{node_called}
+use Rattle.network_defs.specs.Acts.{is_from_peer}
 use Rattle.rule_laws.proofs.Calls.{Good, trees_behind}
 use Rattle.rule_laws.proofs.Rows.{control_behind, called_row}
 use Rattle.rule_laws.proofs.BgpRaises.{bgp_raised_good}

@@ -26,15 +26,15 @@ use Rattle.session_defs.specs.declared.direction.Direction as sessions
 use Rattle.edge_defs.specs.Place.{label_place}
 use Rattle.edge_defs.specs.Steps as steps
 use Rattle.edge_defs.specs.Steps.{LabelStep, part_after}
-use Rattle.world_defs.specs.Acts.{is_of_session}
+use Rattle.network_defs.specs.Acts.{is_of_session}
 use Rattle.label_defs.specs.Between.{is_between}
-use Rattle.world_defs.specs.Counts.{direction}
-use Rattle.world_defs.specs.Nodes as nodes
-use Rattle.world_defs.specs.Nodes.{CoreNode, Nodes, is_edge, place_of, part_of, core_at}
-use Rattle.world_defs.specs.System.{node_called}
-use Rattle.world_defs.specs.World.{Datagram}
-use Rattle.world_laws.specs.Sound.{Sound}
-use Rattle.world_laws.proofs.NodeCalls.{IsGoodCall}
+use Rattle.network_defs.specs.Counts.{direction}
+use Rattle.network_defs.specs.Nodes as nodes
+use Rattle.network_defs.specs.Nodes.{CoreNode, Nodes, is_edge, place_of, part_of, core_at}
+use Rattle.network_defs.specs.System.{node_called}
+use Rattle.network_defs.specs.World.{Datagram}
+use Rattle.network_laws.specs.Sound.{Sound}
+use Rattle.network_laws.proofs.NodeCalls.{IsGoodCall}
 use Rattle.rule_laws.specs.Labels.{Copies, labels_in, label_network}
 use Rattle.edge_laws.specs.Network.{EdgeNetwork}
 use Rattle.rule_laws.proofs.Honest.{EdgeRule}
@@ -42,7 +42,7 @@ use Rattle.rule_laws.specs.Edges.{edge_network}
 use Rattle.rule_laws.proofs.EdgeCalls.{EdgesKept, EdgesNext, edges_kept, rule_behind, fit_rule}
 use Rattle.rule_laws.proofs.Rows.{IsEdgeNode}
 use Rattle.rule_laws.proofs.Numbers.{NumbersOk}
-use Rattle.world_defs.specs.Refusals.{control_of}
+use Rattle.network_defs.specs.Refusals.{control_of}
 use Rattle.rule_laws.proofs.Puts.{row_puts}
 use Rattle.rule_laws.proofs.Rows.{act_gives, part_cond, sum, row_of, FirstKept, wants_kept, CalledRow, called_row, called_is, UpWhereJoined}
 use Rattle.rule_laws.proofs.Calls.{Base, Good, kind_at, numbers_at, behind_numbers, trees_behind, call_good, stays_up, joined_up}

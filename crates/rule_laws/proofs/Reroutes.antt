@@ -19,12 +19,12 @@ use Rattle.core_walks.specs.Core.{Core}
 use Rattle.edge_defs.specs.Steps as steps
 use Rattle.edge_laws.specs.Acts as edge_acts
 use Rattle.edge_laws.specs.Network.{EdgeNetwork}
-use Rattle.world_defs.specs.Nodes.{Nodes, following, core_at, part_of}
-use Rattle.world_defs.specs.System.{node_called, unchanged}
-use Rattle.world_defs.specs.World.{Datagram}
-use Rattle.world_laws.specs.Sound.{Sound}
-use Rattle.world_laws.proofs.NodeCalls.{rerouted_is_good}
-use Rattle.world_laws.proofs.Nodes.{followed}
+use Rattle.network_defs.specs.Nodes.{Nodes, following, core_at, part_of}
+use Rattle.network_defs.specs.System.{node_called, unchanged}
+use Rattle.network_defs.specs.World.{Datagram}
+use Rattle.network_laws.specs.Sound.{Sound}
+use Rattle.network_laws.proofs.NodeCalls.{rerouted_is_good}
+use Rattle.network_laws.proofs.Nodes.{followed}
 use Rattle.rule_laws.specs.Edges.{edge_network}
 use Rattle.rule_laws.specs.Labels.{Copies, label_network}
 use Rattle.rule_laws.proofs.Calls.{Base, Good, call_good, joined_up}

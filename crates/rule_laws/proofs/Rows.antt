@@ -37,13 +37,13 @@ use Rattle.edge_defs.specs.Place.{EdgePlace, addr_of, is_tree, label_place}
 use Rattle.edge_defs.specs.Steps as steps
 use Rattle.edge_defs.specs.Steps.{LabelStep, EdgeStepped, control_step, own_label_call, changed_leaves, one_call, label_row, part_after, edge_step}
 use Rattle.edge_defs.specs.Tunnels.{leaves}
-use Rattle.world_defs.specs.Counts.{direction}
-use Rattle.world_defs.specs.Nodes.{NodeState, Edge, CoreNode, Nodes, with_node, place_of, part_of, core_at}
+use Rattle.network_defs.specs.Counts.{direction}
+use Rattle.network_defs.specs.Nodes.{NodeState, Edge, CoreNode, Nodes, with_node, place_of, part_of, core_at}
 use Rattle.node_defs.specs.Puts.{bgp_puts, label_puts}
-use Rattle.world_defs.specs.System.{node_called, core_called, edge_stepped}
-use Rattle.world_defs.specs.Refusals.{control_of}
-use Rattle.world_defs.specs.World.{Datagram}
-use Rattle.world_laws.proofs.Lists.{each_map}
+use Rattle.network_defs.specs.System.{node_called, core_called, edge_stepped}
+use Rattle.network_defs.specs.Refusals.{control_of}
+use Rattle.network_defs.specs.World.{Datagram}
+use Rattle.network_laws.proofs.Lists.{each_map}
 use Rattle.rule_laws.specs.Labels.{Copies, labels_in, label_network}
 use Rattle.rule_laws.proofs.EdgePuts.{over_bgp, row_none}
 use Rattle.rule_laws.proofs.Puts.{over_both, labels_both, over_ldp, over_ldp_both, bgp_puts_no_labels, row_puts, RowIsUp, row_here, row_elsewhere}

@@ -27,26 +27,26 @@ use Rattle.session_defs.specs.Octets.{OctetNetwork, octet_run}
 use Rattle.session_defs.specs.System.{Behind}
 use Rattle.session_defs.specs.declared.direction.Direction.{Direction}
 use Rattle.edge_defs.specs.Steps as steps
-use Rattle.world_defs.specs.Acts.{Act, Tick, Timers, Move, Lose, Notice, RaiseFirst, RaiseSecond, Restart, At, Enter, Land, Drop, Tell, Acted, with_network, at_node, with_aged, is_of_session, is_from_peer, is_at, leads_to, act, datagram_at, landed, landing, without_copy, fate_at, with_ttl, SetCost, Reroute}
-use Rattle.world_defs.specs.Counts.{direction, directions, all_nodes, link_ways, is_joined}
-use Rattle.world_defs.specs.Events.{Happened, Outcome, Done, Halted, and_then, one_act, row, each, times, raise_acts, raises, notices, healed, turn, settled, landings, drain_round, sent, at_edge, with_message, done, cost_acts}
-use Rattle.world_defs.specs.Nodes.{Nodes}
+use Rattle.network_defs.specs.Acts.{Act, Tick, Timers, Move, Lose, Notice, RaiseFirst, RaiseSecond, Restart, At, Enter, Land, Drop, Tell, Acted, with_network, at_node, with_aged, is_of_session, is_from_peer, is_at, leads_to, act, datagram_at, landed, landing, without_copy, fate_at, with_ttl, SetCost, Reroute}
+use Rattle.network_defs.specs.Counts.{direction, directions, all_nodes, link_ways, is_joined}
+use Rattle.network_defs.specs.Events.{Happened, Outcome, Done, Halted, and_then, one_act, row, each, times, raise_acts, raises, notices, healed, turn, settled, landings, drain_round, sent, at_edge, with_message, done, cost_acts}
+use Rattle.network_defs.specs.Nodes.{Nodes}
 use Rattle.mvpn_model.specs.Packets.{source_in, group_in}
-use Rattle.world_defs.specs.Refusals.{edge_of_vrf, refusal}
-use Rattle.world_defs.specs.Run.{Traced, traced, outcome, Runs}
-use Rattle.world_defs.specs.System.{Own, Elapse, Reset, system, Price, Follow}
-use Rattle.world_defs.specs.World.{World, Datagram, LinkCopy, scenario_of, numbered}
-use Rattle.world_defs.proofs.Kept.{Gives, Comes, then_comes, row_keeps, each_keeps, times_keeps, comes_as, branches_datagrams}
-use Rattle.world_defs.proofs.Numbered.{numbered_more}
+use Rattle.network_defs.specs.Refusals.{edge_of_vrf, refusal}
+use Rattle.network_defs.specs.Run.{Traced, traced, outcome, Runs}
+use Rattle.network_defs.specs.System.{Own, Elapse, Reset, system, Price, Follow}
+use Rattle.network_defs.specs.World.{World, Datagram, LinkCopy, scenario_of, numbered}
+use Rattle.network_defs.proofs.Kept.{Gives, Comes, then_comes, row_keeps, each_keeps, times_keeps, comes_as, branches_datagrams}
+use Rattle.network_defs.proofs.Numbered.{numbered_more}
 use Rattle.label_laws.specs.Rule as labels
 use Rattle.session_defs.specs.Refined.{seen}
 use Rattle.rule_laws.specs.Labels.{label_network}
 use Rattle.rule_laws.proofs.Acts.{act_in_step}
 use Rattle.rule_laws.proofs.Enters.{enters, last_is}
 use Rattle.rule_laws.proofs.Events.{IsWay, ways_apart, enter_datagrams, attached_from, turned_in_step}
-use Rattle.world_laws.proofs.Lists.{each_append, each_flat, each_of, each_map, each_weaker}
-use Rattle.world_laws.proofs.RunEvents.{two_ends}
-use Rattle.world_laws.specs.Honest.{IsSoundEvent}
+use Rattle.network_laws.proofs.Lists.{each_append, each_flat, each_of, each_map, each_weaker}
+use Rattle.network_laws.proofs.RunEvents.{two_ends}
+use Rattle.network_laws.specs.Honest.{IsSoundEvent}
 use Rattle.rule_laws.specs.Outs.{IsAdmittedLine}
 use Rattle.rule_laws.proofs.Acts.{InStep}
 use Rattle.rule_laws.proofs.Outs.{Says, land_says, enter_says}

@@ -9,15 +9,15 @@ use Rattle.label_laws.specs.Rule.{Kept}
 use Rattle.label_laws.proofs.Full.{start_kept}
 use Rattle.mldp_fec.specs.declared.fec.Fec.{Fec}
 use Rattle.mv_base.specs.declared.ids.NodeId.{NodeId}
-use Rattle.world_defs.specs.Costs.{Cores}
+use Rattle.network_defs.specs.Costs.{Cores}
 use Rattle.edge_defs.specs.Place.{is_tree, upstream}
-use Rattle.world_defs.specs.LabelRule.{LabelRule}
-use Rattle.world_defs.specs.Run.{Traced, Runs}
+use Rattle.network_defs.specs.LabelRule.{LabelRule}
+use Rattle.network_defs.specs.Run.{Traced, Runs}
 use Rattle.session_defs.specs.Refined.{seen}
-use Rattle.world_defs.specs.World.{World, Datagram, start}
-use Rattle.world_laws.specs.Honest.{IsSoundEvent}
-use Rattle.world_laws.specs.Sound.{SoundScenario}
-use Rattle.world_laws.proofs.NodeCalls.{start_sound}
+use Rattle.network_defs.specs.World.{World, Datagram, start}
+use Rattle.network_laws.specs.Honest.{IsSoundEvent}
+use Rattle.network_laws.specs.Sound.{SoundScenario}
+use Rattle.network_laws.proofs.NodeCalls.{start_sound}
 use Rattle.rule_laws.specs.Labels.{vpn_of, origin, label_network}
 use Rattle.rule_laws.proofs.Acts.{InStep}
 use Rattle.rule_laws.proofs.Enters.{enters}

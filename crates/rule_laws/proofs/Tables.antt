@@ -31,9 +31,9 @@ use Rattle.session_defs.specs.declared.direction.Direction.{Direction}
 use Rattle.edge_defs.specs.Keys.{Value}
 use Rattle.edge_laws.specs.Acts.{message_of}
 use Rattle.edge_laws.proofs.Tables.{tables_lead, tables_reached}
-use Rattle.world_defs.specs.Counts.{direction}
-use Rattle.world_defs.specs.LabelRule.{part_at}
-use Rattle.world_defs.specs.World.{World}
+use Rattle.network_defs.specs.Counts.{direction}
+use Rattle.network_defs.specs.LabelRule.{part_at}
+use Rattle.network_defs.specs.World.{World}
 use Rattle.rule_laws.specs.Edges.{as_message, edge_network}
 use Rattle.rule_laws.specs.Labels.{labels_in}
 use Rattle.rule_laws.specs.Tables.{RoutesInStep, is_that, branch_behind, is_mapped_to, is_withdraw, is_release, LabelsInStep}

@@ -16,9 +16,9 @@ use Rattle.session_defs.specs.System.{MessageNetwork}
 use Rattle.edge_defs.specs.Place.{addr_of, lsp, is_tree, upstream}
 use Rattle.label_laws.specs.Network.{PacketCopy, LabelNetwork}
 use Rattle.label_laws.specs.Network as labels
-use Rattle.world_defs.specs.Counts.{direction}
-use Rattle.world_defs.specs.Nodes.{Nodes, part_of, core_at}
-use Rattle.world_defs.specs.World.{Datagram, LinkCopy, numbered}
+use Rattle.network_defs.specs.Counts.{direction}
+use Rattle.network_defs.specs.Nodes.{Nodes, part_of, core_at}
+use Rattle.network_defs.specs.World.{Datagram, LinkCopy, numbered}
 
 -- ---- VPNs as numbers
 

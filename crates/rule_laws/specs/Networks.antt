@@ -5,7 +5,7 @@ use Rattle.session_defs.specs.Message.{SessionMessage}
 use Rattle.session_defs.specs.Refined.{AreLines, seen}
 use Rattle.session_defs.specs.declared.direction.Direction.{Direction}
 use Rattle.edge_laws.specs.Rule.{Rule}
-use Rattle.world_defs.specs.World.{World}
+use Rattle.network_defs.specs.World.{World}
 use Rattle.rule_laws.specs.Edges.{InTransit, Carries, edge_network}
 use Rattle.rule_laws.specs.Labels.{label_network}
 

@@ -5,7 +5,7 @@ use Rattle.mvpn_model.specs.Safe.{IsAdmitted}
 use Rattle.scenario_defs.specs.declared.report.ReportLine.{ReportLine}
 use Rattle.scenario_defs.specs.declared.report.ReportLine.TheVariants as lines
 use Rattle.scenario_defs.specs.declared.scenario.Scenario.{Scenario}
-use Rattle.world_defs.specs.World.{Datagram, numbered}
+use Rattle.network_defs.specs.World.{Datagram, numbered}
 
 pub record IsAdmittedOut (scenario : Scenario) (datagrams : List Datagram) (number : ℕ) (iface : IfaceId) (octets : List ℕ) : Type 0 where
   pub datagram : Datagram

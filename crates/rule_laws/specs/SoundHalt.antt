@@ -5,10 +5,10 @@ use Rattle.mv_base.specs.declared.ids.NodeId.{NodeId}
 use Rattle.scenario_defs.specs.declared.event.Script.{Script}
 use Rattle.scenario_defs.specs.declared.event.Timed.{Timed}
 use Rattle.mvpn_model.specs.Report.{Entry}
-use Rattle.world_defs.specs.Costs.{Cores}
-use Rattle.world_defs.specs.Run.{Halts}
-use Rattle.world_laws.specs.Honest.{IsSoundEvent}
-use Rattle.world_laws.specs.Sound.{SoundScenario}
+use Rattle.network_defs.specs.Costs.{Cores}
+use Rattle.network_defs.specs.Run.{Halts}
+use Rattle.network_laws.specs.Honest.{IsSoundEvent}
+use Rattle.network_laws.specs.Sound.{SoundScenario}
 
 -- The first events run, by the cores of the script's scenario, and one lacks a label; the scenario meets its rules, and the events are of
 -- sound values.

@@ -22,11 +22,11 @@ use Rattle.edge_defs.specs.Held.{held_for}
 use Rattle.edge_defs.specs.Keys.{Value}
 use Rattle.edge_laws.specs.Acts.{message_of}
 use Rattle.edge_laws.specs.Rule.{taken_values}
-use Rattle.world_defs.specs.Counts.{direction}
-use Rattle.world_defs.specs.LabelRule.{part_at}
-use Rattle.world_defs.specs.Nodes.{place_of}
-use Rattle.world_defs.specs.Refusals.{control_of}
-use Rattle.world_defs.specs.World.{World}
+use Rattle.network_defs.specs.Counts.{direction}
+use Rattle.network_defs.specs.LabelRule.{part_at}
+use Rattle.network_defs.specs.Nodes.{place_of}
+use Rattle.network_defs.specs.Refusals.{control_of}
+use Rattle.network_defs.specs.World.{World}
 
 -- the octets on their way: what the receiver's stream holds back, followed by what is in transit
 abbrev pub on_way : World → Kind → NodeId → NodeId → List ℕ

@@ -5,11 +5,11 @@ use Rattle.scenario_defs.specs.declared.event.Script.{Script}
 use Rattle.scenario_defs.specs.declared.event.Timed.{Timed}
 use Rattle.scenario_defs.specs.declared.report.ReportLine.TheVariants as lines
 use Rattle.mvpn_model.specs.Report.{Entry}
-use Rattle.world_defs.specs.Costs.{Cores, AreCoresOf}
-use Rattle.world_defs.specs.Events.{Happened, Outcome, Done, Halted}
-use Rattle.world_defs.specs.Run.{Traced, traced, report_of, outcome, Runs, Run, Halts}
-use Rattle.world_defs.specs.World.{World, start}
-use Rattle.world_defs.proofs.OneRun.{one_run}
+use Rattle.network_defs.specs.Costs.{Cores, AreCoresOf}
+use Rattle.network_defs.specs.Events.{Happened, Outcome, Done, Halted}
+use Rattle.network_defs.specs.Run.{Traced, traced, report_of, outcome, Runs, Run, Halts}
+use Rattle.network_defs.specs.World.{World, start}
+use Rattle.network_defs.proofs.OneRun.{one_run}
 use Rattle.delivery_laws.proofs.Splits.{Split, runs_split}
 use Rattle.run_laws.specs.Runs.{of_events, RunsOrHalts, AllRun, OneHalts, RunsInTwo, ReportBegins}
 

@@ -22,14 +22,14 @@ use Rattle.scenario_defs.specs.declared.event.Kind.TheVariants as kinds
 use Rattle.scenario_defs.specs.declared.event.Script.{Script}
 use Rattle.scenario_defs.specs.declared.event.Timed.{Timed}
 use Rattle.scenario_defs.specs.declared.scenario.Scenario.{Scenario}
-use Rattle.world_defs.specs.Costs.{Cores, AreCoresOf}
-use Rattle.world_defs.specs.Run.{Traced, Run}
-use Rattle.world_defs.specs.World.{World}
-use Rattle.world_laws.specs.Honest.{IsSoundEvent}
-use Rattle.world_laws.specs.Sound.{IsCustomer, IsGroupAddr, IsFlow, AreAlike, SoundEntry, SoundPattern}
-use Rattle.world_laws.specs.SoundRun.{SoundRun}
+use Rattle.network_defs.specs.Costs.{Cores, AreCoresOf}
+use Rattle.network_defs.specs.Run.{Traced, Run}
+use Rattle.network_defs.specs.World.{World}
+use Rattle.network_laws.specs.Honest.{IsSoundEvent}
+use Rattle.network_laws.specs.Sound.{IsCustomer, IsGroupAddr, IsFlow, AreAlike, SoundEntry, SoundPattern}
+use Rattle.network_laws.specs.SoundRun.{SoundRun}
 use Rattle.bgp_update.specs.Written.{afi_of}
-use Rattle.world_laws.proofs.Lists.{each_front}
+use Rattle.network_laws.proofs.Lists.{each_front}
 use Rattle.delivery_laws.proofs.Splits.{cut_in_two}
 use Rattle.run_laws.specs.Octets.{entry_octets, word_octets, EventHasOctets, ScriptHasOctets}
 

@@ -4,9 +4,9 @@ use Rattle.mv_base.specs.declared.ids.NodeId.{NodeId}
 use Rattle.scenario_defs.specs.declared.event.Script.{Script}
 use Rattle.scenario_defs.specs.declared.event.Timed.{Timed}
 use Rattle.mvpn_model.specs.Report.{Entry}
-use Rattle.world_defs.specs.Costs.{Cores}
-use Rattle.world_defs.specs.Run.{Traced, Runs, Run, Halts, report_of}
-use Rattle.world_defs.specs.World.{World}
+use Rattle.network_defs.specs.Costs.{Cores}
+use Rattle.network_defs.specs.Run.{Traced, Runs, Run, Halts, report_of}
+use Rattle.network_defs.specs.World.{World}
 
 -- the script's scenario with these events
 abbrev pub of_events : Script → List Timed → Script

@@ -5,4 +5,3 @@ pub mod Prefixes
 pub mod Rules
 pub mod Text
 pub mod Kinds
-pub mod Built

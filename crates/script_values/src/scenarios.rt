@@ -2,7 +2,7 @@
 ghost use Rattle.std.specs.Prelude.{All};
 ghost use Rattle.mv_base.specs.Address.{addr_octets};
 ghost use Rattle.mv_base.specs.Octets.{IsOctets};
-ghost use Rattle.world_laws.specs.Sound.{HasOctets};
+ghost use Rattle.network_laws.specs.Sound.{HasOctets};
 
 use mv_base::{Addr, Prefix};
 use route_order::are_octets;

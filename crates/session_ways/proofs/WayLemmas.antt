@@ -3,7 +3,7 @@ use Rattle.std.proofs.Common.{◌≡◌, ℕ, ◌+◌, zero, suc, Bool, true, fa
 use Rattle.std.proofs.lemmas.List.{map-append}
 use Rattle.mv_base.specs.declared.ids.NodeId.{NodeId}
 use Rattle.session_defs.specs.declared.direction.Direction.{Direction}
-use Rattle.world_defs.specs.Counts.{node_ids}
+use Rattle.network_defs.specs.Counts.{node_ids}
 use Rattle.session_ways.specs.Ways.{is_from, ways_from}
 
 abbrev node_of : ℕ → NodeId

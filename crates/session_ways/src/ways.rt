@@ -1,6 +1,6 @@
 //! The directions of sessions, and those that lead away from each node.
 ghost use Rattle.std.specs.Prelude.{◌≡◌, ◌≤◌, ◌^◌, ◌++◌, map, flat_map, IfOk, OnOk};
-ghost use Rattle.world_defs.specs.Counts.{direction, directions_of, node_ids};
+ghost use Rattle.network_defs.specs.Counts.{direction, directions_of, node_ids};
 ghost use Rattle.session_ways.specs.Ways.{ways_from};
 
 use mv_base::{NoMemory, NodeId, Seq};

@@ -9,18 +9,18 @@ use Rattle.scenario_defs.specs.declared.report.ReportLine.TheVariants as lines
 use Rattle.scenario_defs.specs.declared.scenario.Scenario.{Scenario}
 use Rattle.session_defs.specs.Octets.{OctetNetwork}
 use Rattle.scenario_defs.specs.declared.event.Script.{Script}
-use Rattle.world_defs.specs.Costs.{Cores, AreCoresOf}
-use Rattle.world_laws.specs.SoundRun.{SoundRun}
-use Rattle.world_laws.proofs.Costs.{costs_of}
-use Rattle.world_laws.proofs.KnownCosts.{run_known}
-use Rattle.world_laws.proofs.RunEvents.{run_stays}
-use Rattle.world_defs.specs.Acts.{Land, act}
-use Rattle.world_defs.specs.Counts.{link_ways, all_copies, datagrams_with_copy, octets_in_transit, due_timers, unready, state_line}
-use Rattle.world_defs.specs.Events.{Happened, Done, landings, drain_round}
-use Rattle.world_defs.specs.Nodes.{Nodes}
-use Rattle.world_defs.specs.Run.{Traced, traced, IsSettled, IsDrained, outcome, Runs}
-use Rattle.world_defs.specs.World.{World, scenario_of, start}
-use Rattle.world_defs.proofs.Kept.{Gives, Comes, row_keeps, times_keeps, land_keeps}
+use Rattle.network_defs.specs.Costs.{Cores, AreCoresOf}
+use Rattle.network_laws.specs.SoundRun.{SoundRun}
+use Rattle.network_laws.proofs.Costs.{costs_of}
+use Rattle.network_laws.proofs.KnownCosts.{run_known}
+use Rattle.network_laws.proofs.RunEvents.{run_stays}
+use Rattle.network_defs.specs.Acts.{Land, act}
+use Rattle.network_defs.specs.Counts.{link_ways, all_copies, datagrams_with_copy, octets_in_transit, due_timers, unready, state_line}
+use Rattle.network_defs.specs.Events.{Happened, Done, landings, drain_round}
+use Rattle.network_defs.specs.Nodes.{Nodes}
+use Rattle.network_defs.specs.Run.{Traced, traced, IsSettled, IsDrained, outcome, Runs}
+use Rattle.network_defs.specs.World.{World, scenario_of, start}
+use Rattle.network_defs.proofs.Kept.{Gives, Comes, row_keeps, times_keeps, land_keeps}
 use Rattle.rule_laws.proofs.Start.{run_in_step}
 use Rattle.settle_laws.proofs.Drained.{drain_drains}
 use Rattle.settle_laws.proofs.Settled.{Present, settle_settles}

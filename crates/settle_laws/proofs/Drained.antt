@@ -10,13 +10,13 @@ use Rattle.scenario_defs.specs.declared.scenario.Scenario.{Scenario}
 use Rattle.selective_defs.specs.Selective.{Among}
 use Rattle.session_defs.specs.Octets.{OctetNetwork}
 use Rattle.calm_laws.proofs.Lists.{any_from}
-use Rattle.world_defs.specs.Acts.{Act, Land, copy_on, with_branches, datagram_at, fate_at, landed, without_copy, landing, act}
-use Rattle.world_defs.specs.Counts.{link_ways}
-use Rattle.world_defs.specs.Events.{Happened, Done, one_act, row, times, landings, drain_round, drained}
-use Rattle.world_defs.specs.Nodes.{Nodes}
-use Rattle.world_defs.specs.Run.{IsDrained, outcome}
-use Rattle.world_defs.specs.World.{World, Datagram, LinkCopy, scenario_of, with_copies}
-use Rattle.world_defs.proofs.Kept.{Gives, Comes, then_comes, land_keeps, one_comes, both_give, comes_as}
+use Rattle.network_defs.specs.Acts.{Act, Land, copy_on, with_branches, datagram_at, fate_at, landed, without_copy, landing, act}
+use Rattle.network_defs.specs.Counts.{link_ways}
+use Rattle.network_defs.specs.Events.{Happened, Done, one_act, row, times, landings, drain_round, drained}
+use Rattle.network_defs.specs.Nodes.{Nodes}
+use Rattle.network_defs.specs.Run.{IsDrained, outcome}
+use Rattle.network_defs.specs.World.{World, Datagram, LinkCopy, scenario_of, with_copies}
+use Rattle.network_defs.proofs.Kept.{Gives, Comes, then_comes, land_keeps, one_comes, both_give, comes_as}
 use Rattle.settle_laws.proofs.Ttl.{IsAlive, AreAlive, on_branches}
 
 -- ---- the copies of one way

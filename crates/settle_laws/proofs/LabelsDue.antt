@@ -23,7 +23,7 @@ use Rattle.label_defs.proofs.TurnLemmas.{Turn}
 use Rattle.selective_defs.specs.Selective.{Among}
 use Rattle.calm_laws.proofs.Lists.{map_among}
 use Rattle.calm_laws.proofs.Maps.{entry_get}
-use Rattle.world_laws.proofs.Lists.{each_set, each_at}
+use Rattle.network_laws.proofs.Lists.{each_set, each_at}
 
 -- ---- sums that are 0
 

@@ -24,14 +24,14 @@ use Rattle.session_defs.proofs.Deliveries.{IsSeen}
 use Rattle.session_defs.proofs.Fronts.{stream_of}
 use Rattle.session_defs.proofs.Lines.{are_spelled}
 use Rattle.session_defs.proofs.Moves.{Moved, moved_seen}
-use Rattle.world_defs.specs.Nodes.{Nodes}
-use Rattle.world_defs.specs.System.{system}
-use Rattle.world_defs.specs.World.{Datagram}
-use Rattle.world_laws.specs.Sound.{Sound}
-use Rattle.world_laws.specs.Honest.{sound_system}
-use Rattle.world_laws.proofs.Nodes.{honest_nodes}
-use Rattle.world_laws.proofs.RunActs.{taken_alike}
-use Rattle.world_laws.proofs.Lists.{each_front}
+use Rattle.network_defs.specs.Nodes.{Nodes}
+use Rattle.network_defs.specs.System.{system}
+use Rattle.network_defs.specs.World.{Datagram}
+use Rattle.network_laws.specs.Sound.{Sound}
+use Rattle.network_laws.specs.Honest.{sound_system}
+use Rattle.network_laws.proofs.Nodes.{honest_nodes}
+use Rattle.network_laws.proofs.RunActs.{taken_alike}
+use Rattle.network_laws.proofs.Lists.{each_front}
 use Rattle.rule_laws.specs.Labels.{Copies}
 use Rattle.rule_laws.proofs.Calls.{left}
 use Rattle.rule_laws.proofs.Octets.{units_carried}

@@ -13,13 +13,13 @@ use Rattle.mvpn_model.specs.Unready.{SessionsStand, is_that}
 use Rattle.mvpn_model.specs.declared.readiness.UpEnd.{UpEnd}
 use Rattle.edge_defs.specs.Steps as steps
 use Rattle.edge_defs.specs.Steps.{own_label_call}
-use Rattle.world_defs.specs.Acts.{Act, Tick, Timers, Move, Lose, Notice, RaiseFirst, RaiseSecond, Restart, At, Enter, Land, Drop, Tell, SetCost, Reroute, Acted, act}
-use Rattle.world_defs.specs.Costs.{Cores}
-use Rattle.world_defs.specs.Counts.{direction}
-use Rattle.world_defs.specs.Nodes.{part_of}
-use Rattle.world_defs.specs.Run.{Traced, Runs}
-use Rattle.world_defs.specs.World.{World, scenario_of, clock_of, start}
-use Rattle.world_defs.proofs.Kept.{Gives}
+use Rattle.network_defs.specs.Acts.{Act, Tick, Timers, Move, Lose, Notice, RaiseFirst, RaiseSecond, Restart, At, Enter, Land, Drop, Tell, SetCost, Reroute, Acted, act}
+use Rattle.network_defs.specs.Costs.{Cores}
+use Rattle.network_defs.specs.Counts.{direction}
+use Rattle.network_defs.specs.Nodes.{part_of}
+use Rattle.network_defs.specs.Run.{Traced, Runs}
+use Rattle.network_defs.specs.World.{World, scenario_of, clock_of, start}
+use Rattle.network_defs.proofs.Kept.{Gives}
 use Rattle.ready_laws.proofs.ActsStand as stand
 use Rattle.ready_laws.proofs.ActsStand.{WorldStands, act_stand, act_gives}
 use Rattle.ready_laws.proofs.Ends.{up_end, end_with}

@@ -17,19 +17,19 @@ use Rattle.mvpn_model.specs.Unready.{SessionsStand, behind, is_held}
 use Rattle.mvpn_model.specs.declared.session.Session.{Session}
 use Rattle.mvpn_model.proofs.SessionLemmas.{IsIn}
 use Rattle.selective_defs.specs.Selective.{Among}
-use Rattle.world_defs.specs.Acts.{Tell}
-use Rattle.world_defs.specs.Costs.{Cores}
-use Rattle.world_defs.specs.Counts.{is_joined, are_held, is_ready, unready, state_line}
-use Rattle.world_defs.specs.Events.{Happened, Done, done}
-use Rattle.world_defs.specs.Nodes.{part_of}
-use Rattle.world_defs.specs.Run.{Traced, IsSettled, IsDrained, traced, outcome, Runs}
-use Rattle.world_defs.specs.World.{World, scenario_of, start}
-use Rattle.world_laws.specs.Honest.{IsSoundEvent}
-use Rattle.world_laws.specs.Sound.{SoundScenario}
-use Rattle.world_laws.specs.SoundRun.{SoundRun}
-use Rattle.world_laws.proofs.Lists.{each_append, each_front}
-use Rattle.world_laws.proofs.RunNodes as nodes
-use Rattle.world_laws.proofs.RunNodes.{sessions_within}
+use Rattle.network_defs.specs.Acts.{Tell}
+use Rattle.network_defs.specs.Costs.{Cores}
+use Rattle.network_defs.specs.Counts.{is_joined, are_held, is_ready, unready, state_line}
+use Rattle.network_defs.specs.Events.{Happened, Done, done}
+use Rattle.network_defs.specs.Nodes.{part_of}
+use Rattle.network_defs.specs.Run.{Traced, IsSettled, IsDrained, traced, outcome, Runs}
+use Rattle.network_defs.specs.World.{World, scenario_of, start}
+use Rattle.network_laws.specs.Honest.{IsSoundEvent}
+use Rattle.network_laws.specs.Sound.{SoundScenario}
+use Rattle.network_laws.specs.SoundRun.{SoundRun}
+use Rattle.network_laws.proofs.Lists.{each_append, each_front}
+use Rattle.network_laws.proofs.RunNodes as nodes
+use Rattle.network_laws.proofs.RunNodes.{sessions_within}
 use Rattle.ready_laws.proofs.Ends.{up_end}
 use Rattle.ready_laws.proofs.EventsStand.{Tells}
 use Rattle.ready_laws.proofs.EventsTell.{event_tells}

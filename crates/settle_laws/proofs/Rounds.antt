@@ -16,15 +16,15 @@ use Rattle.session_defs.specs.Refined.{IsLine}
 use Rattle.session_defs.specs.System.{Behind}
 use Rattle.session_defs.specs.declared.direction.Direction.{Direction}
 use Rattle.session_defs.proofs.Lines.{own_direction, direction_is}
-use Rattle.world_laws.proofs.Costs.{Costs}
+use Rattle.network_laws.proofs.Costs.{Costs}
 use Rattle.calm_laws.proofs.Lists.{any_from}
-use Rattle.world_defs.specs.Acts.{Act, Move, Acted, with_network, act}
-use Rattle.world_defs.specs.Events.{Outcome, Done, Halted, one_act, row, each, times, turn}
-use Rattle.world_defs.specs.Nodes.{Nodes}
-use Rattle.world_defs.specs.System.{system}
-use Rattle.world_defs.specs.World.{World}
-use Rattle.world_defs.proofs.Kept.{Gives, Comes, then_comes, comes_as}
-use Rattle.world_laws.proofs.Lists.{each_weaker}
+use Rattle.network_defs.specs.Acts.{Act, Move, Acted, with_network, act}
+use Rattle.network_defs.specs.Events.{Outcome, Done, Halted, one_act, row, each, times, turn}
+use Rattle.network_defs.specs.Nodes.{Nodes}
+use Rattle.network_defs.specs.System.{system}
+use Rattle.network_defs.specs.World.{World}
+use Rattle.network_defs.proofs.Kept.{Gives, Comes, then_comes, comes_as}
+use Rattle.network_laws.proofs.Lists.{each_weaker}
 use Rattle.settle_laws.proofs.Turns.{Low, lower}
 use Rattle.settle_laws.proofs.Streams.{SteadyBehind, WorldSteady, run_steady}
 use Rattle.settle_laws.proofs.Moves.{OnNet, nothing_pending, Round, move_round, Empties, move_empties}

@@ -20,23 +20,23 @@ use Rattle.session_defs.proofs.Lines.{own_direction}
 use Rattle.mv_base.specs.declared.core_link.Link.{Link}
 use Rattle.edge_defs.specs.Place.{node_with, upstream}
 use Rattle.core_walks.specs.Core.{Core, IsCoreOf}
-use Rattle.world_defs.specs.Costs.{AreRepriced, AreCoresOf}
-use Rattle.world_laws.proofs.Costs.{Costs, costs_of}
+use Rattle.network_defs.specs.Costs.{AreRepriced, AreCoresOf}
+use Rattle.network_laws.proofs.Costs.{Costs, costs_of}
 use Rattle.label_defs.proofs.SettleLemmas.{bind_some}
 use Rattle.std.proofs.lemmas.Option.{none-some}
 use Rattle.edge_defs.specs.Steps as steps
 use Rattle.calm_laws.proofs.Lists.{any_from}
-use Rattle.world_defs.specs.Acts.{Timers, with_network, act}
-use Rattle.world_defs.specs.Counts.{directions_of, directions, node_due, node_ids, all_nodes}
-use Rattle.world_defs.specs.Events.{Happened, Outcome, Done, and_then, one_act, row, each, times, turn}
-use Rattle.world_defs.specs.Nodes.{NodeState, Edge, CoreNode, Nodes, place_of, label_place_of}
-use Rattle.world_defs.specs.Run.{IsSettled, outcome}
-use Rattle.world_defs.specs.System.{node_called}
-use Rattle.world_defs.specs.World.{World, scenario_of}
-use Rattle.world_defs.proofs.Kept.{Gives, Comes, then_comes, one_comes, both_give, comes_as}
-use Rattle.world_laws.specs.Sound.{SoundScenario}
-use Rattle.world_laws.proofs.Lists.{each_of, each_flat, each_weaker}
-use Rattle.world_laws.proofs.RunNodes.{IsNode, HasNodes, sessions_within, nodes_within}
+use Rattle.network_defs.specs.Acts.{Timers, with_network, act}
+use Rattle.network_defs.specs.Counts.{directions_of, directions, node_due, node_ids, all_nodes}
+use Rattle.network_defs.specs.Events.{Happened, Outcome, Done, and_then, one_act, row, each, times, turn}
+use Rattle.network_defs.specs.Nodes.{NodeState, Edge, CoreNode, Nodes, place_of, label_place_of}
+use Rattle.network_defs.specs.Run.{IsSettled, outcome}
+use Rattle.network_defs.specs.System.{node_called}
+use Rattle.network_defs.specs.World.{World, scenario_of}
+use Rattle.network_defs.proofs.Kept.{Gives, Comes, then_comes, one_comes, both_give, comes_as}
+use Rattle.network_laws.specs.Sound.{SoundScenario}
+use Rattle.network_laws.proofs.Lists.{each_of, each_flat, each_weaker}
+use Rattle.network_laws.proofs.RunNodes.{IsNode, HasNodes, sessions_within, nodes_within}
 use Rattle.rule_laws.proofs.Acts.{InStep, act_in_step}
 use Rattle.rule_laws.proofs.Enters.{enters}
 use Rattle.rule_laws.proofs.Events.{turned_in_step}

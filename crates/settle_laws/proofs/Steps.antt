@@ -47,11 +47,11 @@ use Rattle.edge_defs.specs.Steps as steps
 use Rattle.edge_defs.specs.Steps.{LabelStep, EdgeStepped, control_step, own_label_call, changed_leaves, one_call, label_row, part_after, edge_step}
 use Rattle.edge_defs.specs.Tunnels.{leaves}
 use Rattle.calm_laws.proofs.Lists.{any_from}
-use Rattle.world_defs.specs.Nodes.{NodeState, Edge, CoreNode, Nodes, with_node, place_of, label_place_of, part_of}
+use Rattle.network_defs.specs.Nodes.{NodeState, Edge, CoreNode, Nodes, with_node, place_of, label_place_of, part_of}
 use Rattle.node_defs.specs.Puts.{bgp_put, bgp_puts, label_put, label_puts as puts_of}
-use Rattle.world_defs.specs.System.{edge_stepped, core_called, node_called, call_of}
-use Rattle.world_defs.proofs.Nothing.{flat_none}
-use Rattle.world_laws.proofs.Lists.{each_append, each_of, each_map, each_flat, each_weaker}
+use Rattle.network_defs.specs.System.{edge_stepped, core_called, node_called, call_of}
+use Rattle.network_defs.proofs.Nothing.{flat_none}
+use Rattle.network_laws.proofs.Lists.{each_append, each_of, each_map, each_flat, each_weaker}
 use Rattle.rule_laws.proofs.Rows.{row_of}
 use Rattle.settle_laws.specs.Ranks.{IsJoin, IsFresh, joins_only, rank}
 use Rattle.settle_laws.proofs.Fresh.{label_quiet, joins_quiet}

@@ -18,16 +18,16 @@ use Rattle.session_defs.specs.System.{Stepped, Behind, with_earlier}
 use Rattle.session_defs.specs.declared.direction.Direction.{Direction}
 use Rattle.session_defs.proofs.Fronts.{stream_of}
 use Rattle.session_defs.proofs.Lines.{direction_is}
-use Rattle.world_defs.specs.Costs.{Cores}
+use Rattle.network_defs.specs.Costs.{Cores}
 use Rattle.edge_defs.specs.Steps as steps
-use Rattle.world_defs.specs.Acts.{Act, Tick, Timers, Move, Lose, Notice, RaiseFirst, RaiseSecond, Restart, At, Enter, Land, Drop, Tell, SetCost, Reroute, Acted, with_network, is_of_session, is_at, leads_to, is_from_peer, with_aged, act}
-use Rattle.world_defs.specs.Counts.{direction}
-use Rattle.world_defs.specs.Nodes.{Nodes}
-use Rattle.world_defs.specs.Run.{Traced, Runs}
-use Rattle.world_defs.specs.System.{NodeCall, Own, Elapse, Reset, Price, Follow, system}
-use Rattle.world_defs.specs.World.{World, start}
-use Rattle.world_defs.proofs.Kept.{Gives, enter_keeps, land_keeps}
-use Rattle.world_laws.proofs.Costs.{Costs, HasCosts, NetHas, IsSteady, IsSteadyOctetAct, run_net, act_costs}
+use Rattle.network_defs.specs.Acts.{Act, Tick, Timers, Move, Lose, Notice, RaiseFirst, RaiseSecond, Restart, At, Enter, Land, Drop, Tell, SetCost, Reroute, Acted, with_network, is_of_session, is_at, leads_to, is_from_peer, with_aged, act}
+use Rattle.network_defs.specs.Counts.{direction}
+use Rattle.network_defs.specs.Nodes.{Nodes}
+use Rattle.network_defs.specs.Run.{Traced, Runs}
+use Rattle.network_defs.specs.System.{NodeCall, Own, Elapse, Reset, Price, Follow, system}
+use Rattle.network_defs.specs.World.{World, start}
+use Rattle.network_defs.proofs.Kept.{Gives, enter_keeps, land_keeps}
+use Rattle.network_laws.proofs.Costs.{Costs, HasCosts, NetHas, IsSteady, IsSteadyOctetAct, run_net, act_costs}
 use Rattle.settle_laws.proofs.Everywhere.{runs_holds}
 
 -- ---- what is held back

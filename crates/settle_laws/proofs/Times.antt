@@ -19,19 +19,19 @@ use Rattle.session_defs.specs.System.{Behind}
 use Rattle.session_defs.specs.declared.direction.Direction.{Direction}
 use Rattle.edge_defs.specs.Datagrams.{entering_fate}
 use Rattle.edge_defs.specs.Steps as steps
-use Rattle.world_defs.specs.Acts.{Act, Tick, Timers, Move, Lose, Notice, RaiseFirst, RaiseSecond, Restart, At, Enter, Land, Drop, Tell, SetCost, Reroute, Acted, with_network, is_of_session, is_at, leads_to, is_from_peer, copy_on, with_branches, datagram_at, enters_at, entering, fate_at, landed, without_copy, landing, with_aged, act}
-use Rattle.world_defs.specs.Costs.{Cores}
-use Rattle.world_defs.specs.Counts.{direction, directions, link_ways, all_nodes}
-use Rattle.world_defs.specs.Events.{Happened, Done, one_act, row, each, times, turn, settled}
-use Rattle.world_defs.specs.Nodes.{NodeState, Edge, CoreNode, Nodes, place_of}
-use Rattle.world_defs.specs.Run.{Traced, IsDrained, outcome, Runs}
-use Rattle.world_defs.specs.System.{Own, Elapse, Reset, Price, Follow, system}
-use Rattle.world_defs.specs.World.{World, Datagram, LinkCopy, scenario_of, clock_of, with_copies, start}
-use Rattle.world_defs.proofs.Kept.{Gives, Comes, both_give, then_comes, one_comes, row_keeps, each_keeps, times_keeps}
+use Rattle.network_defs.specs.Acts.{Act, Tick, Timers, Move, Lose, Notice, RaiseFirst, RaiseSecond, Restart, At, Enter, Land, Drop, Tell, SetCost, Reroute, Acted, with_network, is_of_session, is_at, leads_to, is_from_peer, copy_on, with_branches, datagram_at, enters_at, entering, fate_at, landed, without_copy, landing, with_aged, act}
+use Rattle.network_defs.specs.Costs.{Cores}
+use Rattle.network_defs.specs.Counts.{direction, directions, link_ways, all_nodes}
+use Rattle.network_defs.specs.Events.{Happened, Done, one_act, row, each, times, turn, settled}
+use Rattle.network_defs.specs.Nodes.{NodeState, Edge, CoreNode, Nodes, place_of}
+use Rattle.network_defs.specs.Run.{Traced, IsDrained, outcome, Runs}
+use Rattle.network_defs.specs.System.{Own, Elapse, Reset, Price, Follow, system}
+use Rattle.network_defs.specs.World.{World, Datagram, LinkCopy, scenario_of, clock_of, with_copies, start}
+use Rattle.network_defs.proofs.Kept.{Gives, Comes, both_give, then_comes, one_comes, row_keeps, each_keeps, times_keeps}
 use Rattle.ready_laws.proofs.ActsStand as stand
 use Rattle.ready_laws.proofs.ActsStand.{WorldStands, act_stand, act_gives}
 use Rattle.ready_laws.proofs.Nodes.{end_of}
-use Rattle.world_laws.proofs.Lists.{each_append, each_filter, each_of, each_weaker}
+use Rattle.network_laws.proofs.Lists.{each_append, each_filter, each_of, each_weaker}
 use Rattle.settle_laws.proofs.Everywhere.{runs_holds}
 use Rattle.settle_laws.proofs.Ttl.{on_branches}
 

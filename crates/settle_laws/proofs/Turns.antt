@@ -13,15 +13,15 @@ use Rattle.session_defs.specs.Refined.{IsCarried, Keeps, deliveries}
 use Rattle.session_defs.specs.System.{Put, Stepped, System, MessageNetwork, Behind, messages_over, with_messages, with_earlier, delivered, message_act, message_run, Deliver}
 use Rattle.session_defs.specs.declared.direction.Direction.{Direction}
 use Rattle.session_defs.proofs.Lines.{all_both, own_direction, direction_is}
-use Rattle.world_defs.specs.Counts.{direction}
-use Rattle.world_defs.specs.Nodes.{NodeState, Nodes, label_place_of}
-use Rattle.world_defs.specs.World.{Datagram}
-use Rattle.world_laws.specs.Sound.{Sound}
-use Rattle.world_laws.specs.Honest.{sound_system, SoundCall}
-use Rattle.world_laws.proofs.LabelTaken.{carried_is_sound}
-use Rattle.world_laws.proofs.Lists.{each_weaker}
-use Rattle.world_laws.proofs.NodeCalls.{taking_is_good}
-use Rattle.world_laws.proofs.Nodes.{honest_nodes}
+use Rattle.network_defs.specs.Counts.{direction}
+use Rattle.network_defs.specs.Nodes.{NodeState, Nodes, label_place_of}
+use Rattle.network_defs.specs.World.{Datagram}
+use Rattle.network_laws.specs.Sound.{Sound}
+use Rattle.network_laws.specs.Honest.{sound_system, SoundCall}
+use Rattle.network_laws.proofs.LabelTaken.{carried_is_sound}
+use Rattle.network_laws.proofs.Lists.{each_weaker}
+use Rattle.network_laws.proofs.NodeCalls.{taking_is_good}
+use Rattle.network_laws.proofs.Nodes.{honest_nodes}
 use Rattle.rule_laws.specs.Labels.{Copies}
 use Rattle.rule_laws.proofs.Calls.{Good, left, take_good}
 use Rattle.rule_laws.proofs.Deliveries.{of_kind, earlier_some, step_some, waits}

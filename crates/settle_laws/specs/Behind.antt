@@ -3,9 +3,9 @@ use Rattle.std.specs.Prelude.{◌≡◌, ℕ, List, ◌++◌}
 use Rattle.scenario_defs.specs.declared.event.Event.TheVariants as events
 use Rattle.scenario_defs.specs.declared.event.Script.{Script}
 use Rattle.scenario_defs.specs.declared.event.Timed.{Timed}
-use Rattle.world_defs.specs.Costs.{Cores}
-use Rattle.world_defs.specs.Run.{Traced, Run}
-use Rattle.world_defs.specs.World.{World}
+use Rattle.network_defs.specs.Costs.{Cores}
+use Rattle.network_defs.specs.Run.{Traced, Run}
+use Rattle.network_defs.specs.World.{World}
 
 -- `heal`, `settle`, `drain`, `tick` and `state` on that line of a script
 abbrev pub heal_at : ℕ → Timed

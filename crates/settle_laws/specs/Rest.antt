@@ -1,9 +1,9 @@
 -- A network at rest, and the events that bring it there.
 use Rattle.std.specs.Prelude.{◌≡◌, ℕ, List, [], ◌∷◌}
 use Rattle.scenario_defs.specs.declared.event.Timed.{Timed}
-use Rattle.world_defs.specs.Counts.{unready}
-use Rattle.world_defs.specs.Run.{IsSettled, IsDrained}
-use Rattle.world_defs.specs.World.{World}
+use Rattle.network_defs.specs.Counts.{unready}
+use Rattle.network_defs.specs.Run.{IsSettled, IsDrained}
+use Rattle.network_defs.specs.World.{World}
 use Rattle.settle_laws.specs.Behind.{heal_at, settle_at, tick_at}
 
 -- `heal`, `settle`, a `tick` of so many, and `settle` again, on these lines of a script

@@ -16,10 +16,10 @@ use Rattle.session_defs.specs.System.{Behind, Stepped}
 use Rattle.session_defs.specs.declared.direction.Direction.{Direction}
 use Rattle.edge_defs.specs.Steps as steps
 use Rattle.edge_defs.specs.Steps.{Call, Rerouted, own_label_call}
-use Rattle.world_defs.specs.Counts.{direction}
-use Rattle.world_defs.specs.Nodes as nodes
-use Rattle.world_defs.specs.Nodes.{Nodes, NodeState, following}
-use Rattle.world_defs.specs.System.{Own, Follow, core_called, node_called, system, unchanged}
+use Rattle.network_defs.specs.Counts.{direction}
+use Rattle.network_defs.specs.Nodes as nodes
+use Rattle.network_defs.specs.Nodes.{Nodes, NodeState, following}
+use Rattle.network_defs.specs.System.{Own, Follow, core_called, node_called, system, unchanged}
 use Rattle.wire_laws.specs.AnyNodes.{AnyNode, Edge, CoreNode, HasSessions, IsElsewhere, IsNodeAt, IsNodeBefore, core_after, node_after, node_fault, node_taking, rest_of, spent_of, with_known}
 use Rattle.wire_laws.specs.CoreNodes.{CoreState, IsCoreAt, IsCoreBefore}
 use Rattle.wire_laws.specs.Edges.{begins}

@@ -26,9 +26,9 @@ use Rattle.node_defs.specs.EdgeState.{EdgeState, all_taken, call_of, called, edg
 use Rattle.node_laws.proofs.EdgeLemmas.{edge_after, edge_called}
 use Rattle.node_laws.proofs.OctetLemmas.{peer_total, waiting_less}
 use Rattle.node_laws.proofs.TakenLemmas.{message_called, spent_takes}
-use Rattle.world_defs.specs.Counts.{direction}
-use Rattle.world_defs.specs.Nodes.{Nodes, NodeState, Edge, place_of, with_node}
-use Rattle.world_defs.specs.System.{node_called, system}
+use Rattle.network_defs.specs.Counts.{direction}
+use Rattle.network_defs.specs.Nodes.{Nodes, NodeState, Edge, place_of, with_node}
+use Rattle.network_defs.specs.System.{node_called, system}
 use Rattle.wire_laws.specs.Edges.{IsEdgeAt, IsEdgeBefore, IsWay, session_with}
 use Rattle.wire_laws.proofs.Puts.{append_assoc, edge_from, puts_wait, tie}
 

@@ -33,10 +33,10 @@ use Rattle.node_defs.specs.Puts.{label_put, label_puts}
 use Rattle.node_laws.specs.Places.{node_place}
 use Rattle.node_laws.proofs.OctetLemmas.{peer_total}
 use Rattle.node_laws.proofs.PlaceLemmas.{one_addr, one_place}
-use Rattle.world_defs.specs.Counts.{direction}
-use Rattle.world_defs.specs.Nodes.{Nodes, CoreNode, core_at, label_place_of, with_node}
-use Rattle.world_defs.specs.System as world_steps
-use Rattle.world_defs.specs.System.{NodeCall, Own, node_called, system, unchanged}
+use Rattle.network_defs.specs.Counts.{direction}
+use Rattle.network_defs.specs.Nodes.{Nodes, CoreNode, core_at, label_place_of, with_node}
+use Rattle.network_defs.specs.System as world_steps
+use Rattle.network_defs.specs.System.{NodeCall, Own, node_called, system, unchanged}
 use Rattle.wire_laws.specs.CoreNodes.{CoreState, IsCoreAt, IsCoreBefore, core_all_taken, core_called, core_called_unless, core_took, core_took_unless, ldp_with, streams_behind}
 use Rattle.wire_laws.specs.Edges.{IsWay}
 use Rattle.wire_laws.proofs.Calls.{earlier_none, earlier_some, one_way, over_both, some_either, stream_or, with_none, with_some}

@@ -30,9 +30,9 @@ use Rattle.edge_defs.specs.Steps.{Call, EdgeStepped, LabelStep, Noticed, Raised,
 use Rattle.edge_defs.specs.Tunnels.{leaves}
 use Rattle.node_defs.specs.EdgeState.{call_of, edge_puts}
 use Rattle.node_defs.specs.Puts.{label_puts}
-use Rattle.world_defs.specs.Counts.{direction, is_bgp_up, is_end_up}
-use Rattle.world_defs.specs.Nodes.{Nodes, NodeState, Edge, CoreNode, following, part_of, place_of, label_place_of, with_node}
-use Rattle.world_defs.specs.System.{Follow, Own, core_called, edge_stepped, node_called, system}
+use Rattle.network_defs.specs.Counts.{direction, is_bgp_up, is_end_up}
+use Rattle.network_defs.specs.Nodes.{Nodes, NodeState, Edge, CoreNode, following, part_of, place_of, label_place_of, with_node}
+use Rattle.network_defs.specs.System.{Follow, Own, core_called, edge_stepped, node_called, system}
 use Rattle.ready_laws.proofs.Ends.{Holds, end_run, end_with, holds_then, new_end, up_end}
 use Rattle.ready_laws.proofs.Nodes.{call_stand, end_of, holds_as}
 use Rattle.ready_laws.proofs.Octets.{Leads, Stands, call_stands, follow_stands, leads_then, move_stands}

@@ -18,8 +18,8 @@ use Rattle.edge_defs.specs.Place.{addr_of}
 use Rattle.edge_defs.specs.Steps.{Call, edge_step, own_label_call}
 use Rattle.node_defs.specs.EdgeState.{call_of, edge_puts}
 use Rattle.node_defs.specs.Puts.{label_puts}
-use Rattle.world_defs.specs.Nodes.{Nodes, NodeState, Edge, CoreNode, label_place_of, place_of, with_node}
-use Rattle.world_defs.specs.System.{core_called, node_called, system, unchanged}
+use Rattle.network_defs.specs.Nodes.{Nodes, NodeState, Edge, CoreNode, label_place_of, place_of, with_node}
+use Rattle.network_defs.specs.System.{core_called, node_called, system, unchanged}
 use Rattle.wire_laws.specs.AnyNodes.{IsElsewhere}
 use Rattle.wire_laws.proofs.Calls.{earlier_some, over_both, with_some}
 use Rattle.wire_laws.proofs.Puts.{AreFrom, append_assoc, edge_from, messages_from}

@@ -28,7 +28,7 @@ use Rattle.mvpn_model.specs.Sessions.{edges}
 use Rattle.node_defs.specs.EdgeState.{edge_puts, session_of, waiting_at, with_puts}
 use Rattle.node_defs.specs.Puts.{bgp_put, bgp_puts, label_put, label_puts}
 use Rattle.node_laws.proofs.OctetLemmas.{then_equal, waiting_then}
-use Rattle.world_defs.specs.Counts.{direction}
+use Rattle.network_defs.specs.Counts.{direction}
 use Rattle.wire_laws.specs.Edges.{session_with}
 
 -- ---- who puts

@@ -20,8 +20,8 @@ use Rattle.mvpn_model.specs.Sessions.{bgp_session, bgp_sessions, edges, ldp_sess
 use Rattle.mvpn_model.specs.Unready.{is_that}
 use Rattle.mvpn_model.specs.declared.session.Session.{Session}
 use Rattle.mvpn_model.proofs.SessionLemmas.{one_kind, other_order, own_session}
-use Rattle.world_defs.specs.Counts.{direction, directions, directions_of}
-use Rattle.world_defs.specs.Events.{is_session_of}
+use Rattle.network_defs.specs.Counts.{direction, directions, directions_of}
+use Rattle.network_defs.specs.Events.{is_session_of}
 use Rattle.wire_laws.specs.Edges.{IsWay}
 use Rattle.wire_laws.specs.Ways.{IsFound}
 use Rattle.wire_laws.proofs.AmongLemmas.{Once, among_back, among_contained, among_either, among_front, among_map, contained, mapped, not_before, one_found}

@@ -13,7 +13,7 @@ use Rattle.session_defs.specs.declared.direction.Direction.{Direction}
 use Rattle.edge_defs.specs.Steps.{Call, own_label_call}
 use Rattle.node_defs.specs.EdgeState.{EdgeState, called, took}
 use Rattle.node_laws.specs.Places.{node_place}
-use Rattle.world_defs.specs.Nodes.{Nodes, core_at, following, place_of}
+use Rattle.network_defs.specs.Nodes.{Nodes, core_at, following, place_of}
 use Rattle.wire_laws.specs.CoreNodes.{CoreState, IsCoreAt, IsCoreBefore, core_called, core_took, ldp_with}
 use Rattle.wire_laws.specs.Edges.{IsEdgeAt, IsEdgeBefore, session_with}
 

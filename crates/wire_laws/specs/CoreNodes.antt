@@ -12,8 +12,8 @@ use Rattle.session_defs.specs.Message.{SessionFault, SessionMessage, Bgp, Label,
 use Rattle.session_defs.specs.Octets.{OctetNetwork, Stream}
 use Rattle.session_defs.specs.PeerSession.{PeerSession, fault_at, peer_cmp, stream_at}
 use Rattle.session_defs.specs.System.{Put, octets_over}
-use Rattle.world_defs.specs.Counts.{direction}
-use Rattle.world_defs.specs.Nodes.{Nodes, CoreNode}
+use Rattle.network_defs.specs.Counts.{direction}
+use Rattle.network_defs.specs.Nodes.{Nodes, CoreNode}
 use Rattle.edge_defs.specs.Steps as steps
 use Rattle.wire_laws.specs.Edges.{IsWay, begins, session_with}
 

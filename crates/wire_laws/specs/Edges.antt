@@ -12,8 +12,8 @@ use Rattle.session_defs.specs.System.{Put, octets_over}
 use Rattle.session_defs.specs.declared.direction.Direction.{Direction}
 use Rattle.edge_defs.specs.Steps.{Call, Raised, Noticed}
 use Rattle.node_defs.specs.EdgeState.{EdgeState, waiting_at}
-use Rattle.world_defs.specs.Counts.{direction, directions}
-use Rattle.world_defs.specs.Nodes.{Nodes, Edge}
+use Rattle.network_defs.specs.Counts.{direction, directions}
+use Rattle.network_defs.specs.Nodes.{Nodes, Edge}
 
 -- the session of a node with a peer
 abbrev pub session_with : Kind → NodeId → PeerSession

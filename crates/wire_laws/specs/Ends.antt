@@ -8,7 +8,7 @@ use Rattle.label_defs.specs.LabelData as labels
 use Rattle.session_defs.specs.Octets.{OctetNetwork}
 use Rattle.edge_defs.specs.Edge.{EdgeData}
 use Rattle.edge_defs.specs.Steps.{Call, Raised}
-use Rattle.world_defs.specs.Nodes.{Nodes, NodeState, Edge, part_of}
+use Rattle.network_defs.specs.Nodes.{Nodes, NodeState, Edge, part_of}
 use Rattle.wire_laws.specs.Edges.{begins}
 
 -- whether an end comes up by the call

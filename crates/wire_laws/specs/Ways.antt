@@ -6,7 +6,7 @@ use Rattle.scenario_defs.specs.declared.event.Kind.{Kind}
 use Rattle.scenario_defs.specs.declared.scenario.Scenario.{Scenario}
 use Rattle.mvpn_model.specs.Sessions.{sessions}
 use Rattle.mvpn_model.specs.declared.session.Session.{Session}
-use Rattle.world_defs.specs.Events.{is_session_of}
+use Rattle.network_defs.specs.Events.{is_session_of}
 
 -- The session is the one that a raise of the two nodes finds, whichever of them is named first.
 pub record IsFound (scenario : Scenario) (kind : Kind) (a b : NodeId) : Type 0 where

@@ -6,9 +6,9 @@ ghost use Rattle.session_defs.specs.Octets.{Call, Move, OctetNetwork, octet_act}
 ghost use Rattle.session_defs.specs.System.{Behind};
 ghost use Rattle.session_defs.specs.declared.direction.Direction.{Direction};
 ghost use Rattle.edge_defs.specs.Steps.{Call as NodeStep, Timers};
-ghost use Rattle.world_defs.specs.Counts.{is_end_up};
-ghost use Rattle.world_defs.specs.Nodes.{Nodes};
-ghost use Rattle.world_defs.specs.System.{NodeCall, Own, Follow, system};
+ghost use Rattle.network_defs.specs.Counts.{is_end_up};
+ghost use Rattle.network_defs.specs.Nodes.{Nodes};
+ghost use Rattle.network_defs.specs.System.{NodeCall, Own, Follow, system};
 ghost use Rattle.wire_laws.specs.Ends.{HasCall, end_behind, hold_behind, hold_timed, is_hold_run};
 
 /// The end of a node's session comes up by a raise of that node and goes down by a notice of it; no other call, no octets that are taken

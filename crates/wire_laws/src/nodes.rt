@@ -6,9 +6,9 @@ ghost use Rattle.scenario_defs.specs.declared.event.Kind.{Kind};
 ghost use Rattle.session_defs.specs.Octets.{Call, Move, OctetNetwork, octet_act};
 ghost use Rattle.session_defs.specs.System.{Behind};
 ghost use Rattle.edge_defs.specs.Steps.{Call as NodeStep, Rerouted};
-ghost use Rattle.world_defs.specs.Counts.{direction};
-ghost use Rattle.world_defs.specs.Nodes.{Nodes, following};
-ghost use Rattle.world_defs.specs.System.{NodeCall, Own, Follow, system};
+ghost use Rattle.network_defs.specs.Counts.{direction};
+ghost use Rattle.network_defs.specs.Nodes.{Nodes, following};
+ghost use Rattle.network_defs.specs.System.{NodeCall, Own, Follow, system};
 ghost use Rattle.wire_laws.specs.AnyNodes.{AnyNode, HasSessions, IsElsewhere, IsNodeAt, IsNodeBefore, node_after, node_fault, node_taking, rest_of, spent_of, with_known};
 
 /// A call of a node is the act of the network: what waits for its sessions behind it is what the act puts over them (RFC 4271 section 9.2,

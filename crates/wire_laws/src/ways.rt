@@ -8,7 +8,7 @@ ghost use Rattle.scenario_defs.specs.declared.event.Kind.TheVariants as kinds;
 ghost use Rattle.scenario_defs.specs.declared.scenario.Scenario.{Scenario};
 ghost use Rattle.session_defs.specs.declared.direction.Direction.{Direction};
 ghost use Rattle.edge_home.specs.Home.{home_of, peers_of};
-ghost use Rattle.world_defs.specs.Counts.{direction, directions};
+ghost use Rattle.network_defs.specs.Counts.{direction, directions};
 ghost use Rattle.wire_laws.specs.Edges.{IsWay};
 ghost use Rattle.wire_laws.specs.Ways.{IsFound};
 

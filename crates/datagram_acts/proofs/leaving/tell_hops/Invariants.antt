@@ -1,5 +1,5 @@
 use Rattle.std.proofs.Common.{◌≡◌, ◌++◌, map, take}
-use Rattle.world_defs.specs.Acts.{hop_line}
+use Rattle.network_defs.specs.Acts.{hop_line}
 use Rattle.datagram_acts.proofs.leaving.tell_hops.Given as goal
 
 abbrev pub invariant-loop-branch : goal.invariant-loop-branch

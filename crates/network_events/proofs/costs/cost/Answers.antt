@@ -1,8 +1,8 @@
 use Rattle.std.proofs.Common.{refl, sym, subst, Option, Result}
 use Rattle.scenario_defs.specs.declared.event.Event.TheVariants as events
 use Rattle.scenario_defs.specs.declared.report.Refusal.{Refusal}
-use Rattle.world_defs.specs.Events.{cost_acts, row}
-use Rattle.world_defs.specs.World.{scenario_of}
+use Rattle.network_defs.specs.Events.{cost_acts, row}
+use Rattle.network_defs.specs.World.{scenario_of}
 use Rattle.network_events.specs.Meeting.{IsReady, IsResting, Meets}
 use Rattle.network_events.specs.declared.halt.Halt.{Halt}
 use Rattle.network_events.proofs.EventLemmas.{meets_by}

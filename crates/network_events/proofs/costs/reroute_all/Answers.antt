@@ -1,7 +1,7 @@
 use Rattle.std.proofs.Common.{◌≡◌, refl, subst, arith, [], map, Ok}
-use Rattle.world_defs.specs.Acts as acts
-use Rattle.world_defs.specs.Counts.{node_ids}
-use Rattle.world_defs.specs.Events.{row}
+use Rattle.network_defs.specs.Acts as acts
+use Rattle.network_defs.specs.Counts.{node_ids}
+use Rattle.network_defs.specs.Events.{row}
 use Rattle.network_events.specs.Doing.{Does}
 use Rattle.network_events.specs.Parts.{IsRepriced}
 use Rattle.network_events.proofs.CostLemmas.{reroutes_all, reroutes_more, reroutes_stop, some_within, with_first}

@@ -1,6 +1,6 @@
 use Rattle.std.proofs.Common.{sym, subst, [], ◌∷◌, Result}
-use Rattle.world_defs.specs.Acts as acts
-use Rattle.world_defs.specs.Events.{row}
+use Rattle.network_defs.specs.Acts as acts
+use Rattle.network_defs.specs.Events.{row}
 use Rattle.control_plane.specs.Acted.{IsWithin, with_current}
 use Rattle.network_acts.specs.Instant.{OfPlane}
 use Rattle.network_events.specs.Doing.{Does}

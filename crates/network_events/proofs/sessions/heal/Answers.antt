@@ -2,8 +2,8 @@ use Rattle.std.proofs.Common.{refl, sym, subst, Option, Result}
 use Rattle.scenario_defs.specs.declared.event.Event.TheVariants as events
 use Rattle.scenario_defs.specs.declared.report.Refusal.{Refusal}
 use Rattle.mvpn_model.specs.Sessions.{sessions}
-use Rattle.world_defs.specs.Events.{each, healed}
-use Rattle.world_defs.specs.World.{scenario_of}
+use Rattle.network_defs.specs.Events.{each, healed}
+use Rattle.network_defs.specs.World.{scenario_of}
 use Rattle.network_events.specs.Meeting.{IsReady, IsResting, Meets}
 use Rattle.network_events.specs.declared.halt.Halt.{Halt}
 use Rattle.network_events.proofs.EventLemmas.{meets_by}

@@ -1,6 +1,6 @@
 use Rattle.std.proofs.Common.{◌∙◌, sym, Ok}
 use Rattle.scenario_defs.specs.declared.event.Event.TheVariants as events
-use Rattle.world_defs.specs.Acts as acts
+use Rattle.network_defs.specs.Acts as acts
 use Rattle.control_plane.specs.Acted.{same_moment}
 use Rattle.network_events.specs.Meeting.{IsReady}
 use Rattle.network_events.proofs.EventLemmas.{lose_taken}

@@ -1,9 +1,9 @@
 use Rattle.std.proofs.Common.{◌≡◌, ◌∙◌, refl, sym, ap, subst, false, [], ◌∷◌, Option, Result}
 use Rattle.scenario_defs.specs.declared.event.Event.TheVariants as events
 use Rattle.scenario_defs.specs.declared.report.Refusal.{Refusal}
-use Rattle.world_defs.specs.Acts as acts
-use Rattle.world_defs.specs.Counts.{direction}
-use Rattle.world_defs.specs.Events.{row}
+use Rattle.network_defs.specs.Acts as acts
+use Rattle.network_defs.specs.Counts.{direction}
+use Rattle.network_defs.specs.Events.{row}
 use Rattle.control_plane.specs.Acted.{IsWithin, same_moment}
 use Rattle.control_plane.specs.Sessions.{IsLost}
 use Rattle.network_acts.specs.Instant.{Instant, IsWorld, OfPlane}

@@ -1,6 +1,6 @@
 use Rattle.std.proofs.Common.{sym, ap, subst, cond, [], ◌∷◌, Bool, Result}
-use Rattle.world_defs.specs.Acts as acts
-use Rattle.world_defs.specs.Events.{row}
+use Rattle.network_defs.specs.Acts as acts
+use Rattle.network_defs.specs.Events.{row}
 use Rattle.control_plane.specs.Acted.{same_moment}
 use Rattle.control_plane.specs.Sessions.{IsLost}
 use Rattle.network_acts.specs.Instant.{OfPlane}

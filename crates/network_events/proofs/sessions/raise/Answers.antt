@@ -3,8 +3,8 @@ use Rattle.scenario_defs.specs.declared.event.Event.TheVariants as events
 use Rattle.scenario_defs.specs.declared.report.Refusal.{Refusal}
 use Rattle.scenario_defs.specs.declared.report.Refusal.TheVariants as refusals
 use Rattle.mvpn_model.specs.Sessions.{sessions}
-use Rattle.world_defs.specs.Events.{raises, row}
-use Rattle.world_defs.specs.World.{scenario_of}
+use Rattle.network_defs.specs.Events.{raises, row}
+use Rattle.network_defs.specs.World.{scenario_of}
 use Rattle.control_plane.specs.Acted.{IsWithin}
 use Rattle.network_acts.specs.Instant.{Instant, IsWorld, OfPlane}
 use Rattle.network_events.specs.Meeting.{IsReady, Meets}

@@ -1,6 +1,6 @@
 use Rattle.std.proofs.Common.{◌∙◌, sym, subst, [], ◌∷◌, Result}
-use Rattle.world_defs.specs.Acts as acts
-use Rattle.world_defs.specs.Events.{raise_acts, row}
+use Rattle.network_defs.specs.Acts as acts
+use Rattle.network_defs.specs.Events.{raise_acts, row}
 use Rattle.control_plane.specs.Acted.{same_moment}
 use Rattle.control_plane.specs.Sessions.{IsDown, with_rising}
 use Rattle.network_acts.specs.Instant.{OfPlane}

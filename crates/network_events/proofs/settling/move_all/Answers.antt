@@ -1,5 +1,5 @@
 use Rattle.std.proofs.Common.{sym, subst, Result}
-use Rattle.world_defs.specs.Events.{turn}
+use Rattle.network_defs.specs.Events.{turn}
 use Rattle.control_plane.specs.Acted.{same_moment}
 use Rattle.network_events.specs.Doing.{Does}
 use Rattle.network_events.specs.Meeting.{IsResting}

@@ -1,7 +1,7 @@
 use Rattle.std.proofs.Common.{refl, subst, arith, List, [], take, Ok}
 use Rattle.std.proofs.lemmas.List.{take_all}
 use Rattle.session_defs.specs.declared.direction.Direction.{Direction}
-use Rattle.world_defs.specs.Events.{each, turn}
+use Rattle.network_defs.specs.Events.{each, turn}
 use Rattle.control_plane.specs.Acted.{same_moment}
 use Rattle.network_events.specs.Doing.{Does}
 use Rattle.network_events.specs.Meeting.{IsResting}

@@ -1,5 +1,5 @@
 use Rattle.std.proofs.Common.{take, Ok}
-use Rattle.world_defs.specs.Events.{each, turn}
+use Rattle.network_defs.specs.Events.{each, turn}
 use Rattle.control_plane.specs.Acted.{same_moment}
 use Rattle.network_events.specs.Doing.{Does}
 use Rattle.network_events.specs.Meeting.{IsResting}

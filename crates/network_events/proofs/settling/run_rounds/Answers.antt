@@ -1,6 +1,6 @@
 use Rattle.std.proofs.Common.{◌∙◌, refl, sym, ap}
-use Rattle.world_defs.specs.Counts.{directions}
-use Rattle.world_defs.specs.Events.{each, times, turn}
+use Rattle.network_defs.specs.Counts.{directions}
+use Rattle.network_defs.specs.Events.{each, times, turn}
 use Rattle.network_events.specs.Meeting.{IsResting}
 use Rattle.network_events.proofs.KeptLemmas.{each_even, same_scenario, still_some, times_even, turn_even}
 use Rattle.network_events.proofs.LoopLemmas.{round_more, round_stops, rounds_end}

@@ -1,5 +1,5 @@
 use Rattle.std.proofs.Common.{Ok}
-use Rattle.world_defs.specs.Events.{each, times, turn}
+use Rattle.network_defs.specs.Events.{each, times, turn}
 use Rattle.control_plane.specs.Acted.{same_moment}
 use Rattle.network_events.specs.Doing.{Does}
 use Rattle.network_events.specs.Meeting.{IsResting}

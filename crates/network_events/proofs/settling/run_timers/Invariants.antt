@@ -1,7 +1,7 @@
 use Rattle.std.proofs.Common.{map, Ok}
-use Rattle.world_defs.specs.Acts as acts
-use Rattle.world_defs.specs.Counts.{node_ids}
-use Rattle.world_defs.specs.Events.{row}
+use Rattle.network_defs.specs.Acts as acts
+use Rattle.network_defs.specs.Counts.{node_ids}
+use Rattle.network_defs.specs.Events.{row}
 use Rattle.control_plane.specs.Acted.{same_moment}
 use Rattle.network_events.specs.Doing.{Does}
 use Rattle.network_events.specs.Meeting.{IsResting}

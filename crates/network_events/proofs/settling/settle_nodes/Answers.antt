@@ -1,8 +1,8 @@
 use Rattle.std.proofs.Common.{◌∙◌, sym, ap, length, map}
 use Rattle.scenario_defs.specs.declared.scenario.Scenario.{Scenario}
-use Rattle.world_defs.specs.Acts as acts
-use Rattle.world_defs.specs.Counts.{directions, node_ids}
-use Rattle.world_defs.specs.Events.{row}
+use Rattle.network_defs.specs.Acts as acts
+use Rattle.network_defs.specs.Counts.{directions, node_ids}
+use Rattle.network_defs.specs.Events.{row}
 use Rattle.network_events.proofs.KeptLemmas.{row_even, same_scenario, still_some}
 use Rattle.network_events.proofs.SettleLemmas.{rounds_follow}
 use Rattle.network_events.proofs.settling.settle_nodes.Goals as goal

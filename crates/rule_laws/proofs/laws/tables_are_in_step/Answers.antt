@@ -1,7 +1,7 @@
 use Rattle.std.proofs.Common.{◌≡◌, true, false, sym, ap, ◌∙◌}
 use Rattle.mv_base.specs.declared.ids.NodeId.{NodeId}
 use Rattle.scenario_defs.specs.declared.event.Kind.TheVariants as kinds
-use Rattle.world_defs.specs.Counts.{direction}
+use Rattle.network_defs.specs.Counts.{direction}
 use Rattle.rule_laws.proofs.Start.{run_in_step}
 use Rattle.rule_laws.proofs.Tables.{routes_in_step, labels_in_step}
 use Rattle.rule_laws.proofs.laws.tables_are_in_step.Goals as goal

@@ -1,5 +1,5 @@
 use Rattle.std.proofs.Common.{◌≡◌, flat_map, take}
-use Rattle.world_defs.specs.Counts.{directions_of}
+use Rattle.network_defs.specs.Counts.{directions_of}
 use Rattle.session_ways.proofs.ways.directions_of.Given as goal
 
 abbrev pub invariant-loop-session : goal.invariant-loop-session

@@ -1,5 +1,5 @@
 use Rattle.std.proofs.Common.{◌≡◌, map}
-use Rattle.world_defs.specs.Counts.{node_ids}
+use Rattle.network_defs.specs.Counts.{node_ids}
 use Rattle.session_ways.specs.Ways.{ways_from}
 use Rattle.session_ways.proofs.ways.ways_of.Given as goal
 

@@ -1,5 +1,5 @@
 use Rattle.settle_laws.specs.Behind.{drain_at}
-use Rattle.world_defs.specs.World.{start}
+use Rattle.network_defs.specs.World.{start}
 use Rattle.settle_laws.proofs.Behind.{run_drains, drain_keeps, through}
 use Rattle.settle_laws.proofs.laws.drain_drains.Goals as goal
 

@@ -1,9 +1,9 @@
 use Rattle.std.proofs.Common.{◌∷◌}
 use Rattle.settle_laws.specs.Behind.{settle_at}
-use Rattle.world_defs.specs.World.{start}
-use Rattle.world_laws.specs.Honest.{IsSoundEvent}
-use Rattle.world_laws.specs.SoundRun.{SoundRun}
-use Rattle.world_laws.proofs.Lists.{each_front}
+use Rattle.network_defs.specs.World.{start}
+use Rattle.network_laws.specs.Honest.{IsSoundEvent}
+use Rattle.network_laws.specs.SoundRun.{SoundRun}
+use Rattle.network_laws.proofs.Lists.{each_front}
 use Rattle.settle_laws.proofs.Behind.{run_settles, through}
 use Rattle.settle_laws.proofs.laws.settle_settles.Goals as goal
 

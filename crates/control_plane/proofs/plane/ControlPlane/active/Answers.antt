@@ -1,6 +1,6 @@
 use Rattle.std.proofs.Common.{refl, sym, ap, subst, ℕ, OnOk, slice_set}
 use Rattle.edge_defs.specs.Steps.{Active}
-use Rattle.world_defs.specs.Refusals.{control_of}
+use Rattle.network_defs.specs.Refusals.{control_of}
 use Rattle.network_nodes.specs.NodeView.{data_in}
 use Rattle.control_plane.specs.Acted.{IsCurrent, IsSome, IsSomeMidway}
 use Rattle.control_plane.specs.Customers.{CustomerActs, IsIfaceEdge, SettlesCustomer, is_note_full, lacks_note_room}

@@ -1,7 +1,7 @@
 use Rattle.std.specs.FinMap as maps
 use Rattle.std.proofs.Common.{◌∙◌, ap, sym}
-use Rattle.world_defs.specs.Nodes.{NodeState}
-use Rattle.world_defs.specs.Refusals.{control_of}
+use Rattle.network_defs.specs.Nodes.{NodeState}
+use Rattle.network_defs.specs.Refusals.{control_of}
 use Rattle.control_plane.proofs.CustomerLemmas.{own_vrf}
 use Rattle.control_plane.proofs.plane.ControlPlane.is_selected.Goals as goal
 

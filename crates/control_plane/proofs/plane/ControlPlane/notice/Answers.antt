@@ -1,8 +1,8 @@
 use Rattle.std.proofs.Common.{sym, subst, [], ◌∷◌}
 use Rattle.session_defs.specs.Octets.{Call, Forget}
 use Rattle.edge_defs.specs.Steps.{Noticed}
-use Rattle.world_defs.specs.Acts.{is_from_peer}
-use Rattle.world_defs.specs.System.{Own}
+use Rattle.network_defs.specs.Acts.{is_from_peer}
+use Rattle.network_defs.specs.System.{Own}
 use Rattle.control_plane.specs.Acted.{IsSome, same_moment}
 use Rattle.control_plane.specs.Sessions.{IsLost}
 use Rattle.control_plane.proofs.BeginLemmas.{turn_done, turn_midway}

@@ -1,7 +1,7 @@
 use Rattle.std.proofs.Common.{sym, subst, [], ◌∷◌}
 use Rattle.session_defs.specs.Octets.{Call}
 use Rattle.edge_defs.specs.Steps.{Raised}
-use Rattle.world_defs.specs.System.{Own}
+use Rattle.network_defs.specs.System.{Own}
 use Rattle.control_plane.specs.Acted.{IsSome}
 use Rattle.control_plane.specs.Sessions.{IsHalfUp, none_rising}
 use Rattle.control_plane.proofs.BeginLemmas.{turn_done, turn_midway}

@@ -1,6 +1,6 @@
 use Rattle.std.proofs.Common.{sym, subst, ℕ, OnOk, slice_set, [], ◌∷◌}
 use Rattle.session_defs.specs.Octets.{Call}
-use Rattle.world_defs.specs.System.{Follow}
+use Rattle.network_defs.specs.System.{Follow}
 use Rattle.control_plane.specs.Acted.{Acts, IsWithin, IsSome, IsSomeMidway, Settles, no_lines, with_current}
 use Rattle.control_plane.specs.PlaneView.{PlaneView}
 use Rattle.control_plane.proofs.FollowLemmas.{follow_acts, follow_some}

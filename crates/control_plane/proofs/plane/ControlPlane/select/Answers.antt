@@ -2,7 +2,7 @@ use Rattle.std.proofs.Common.{◌∙◌, refl, sym, ap, subst, ℕ, OnOk, slice_
 use Rattle.std.specs.FinMap as maps
 use Rattle.edge_defs.specs.Edge.{Control}
 use Rattle.edge_defs.specs.Steps.{Select}
-use Rattle.world_defs.specs.Refusals.{control_of}
+use Rattle.network_defs.specs.Refusals.{control_of}
 use Rattle.network_nodes.specs.NodeView.{data_in}
 use Rattle.control_plane.specs.Acted.{IsCurrent, IsSome, IsSomeMidway}
 use Rattle.control_plane.specs.Customers.{CustomerActs, IsUnselected, SettlesCustomer, is_selection_full, lacks_selection_room}

@@ -2,8 +2,8 @@ use Rattle.std.proofs.Common.{◌≡◌, refl, sym, subst, true, ℕ, OnOk, slic
 use Rattle.pim_joinprune.specs.Reading.{decoded}
 use Rattle.pim_joinprune.specs.declared.message.JoinPrune.{JoinPrune}
 use Rattle.edge_defs.specs.Steps.{Pim}
-use Rattle.world_defs.specs.Refusals.{control_of}
-use Rattle.world_laws.specs.Honest.{SoundMessage}
+use Rattle.network_defs.specs.Refusals.{control_of}
+use Rattle.network_laws.specs.Honest.{SoundMessage}
 use Rattle.edge_core.specs.Pim.{is_ours}
 use Rattle.network_nodes.specs.NodeView.{data_in}
 use Rattle.control_plane.specs.Acted.{IsCurrent, IsSome, IsSomeMidway}

@@ -1,7 +1,7 @@
 use Rattle.std.proofs.Common.{refl, sym, subst, ℕ, OnOk, slice_set, [], ◌∷◌}
 use Rattle.session_defs.specs.Octets.{Call}
 use Rattle.edge_defs.specs.Steps.{Timers}
-use Rattle.world_defs.specs.System.{Own}
+use Rattle.network_defs.specs.System.{Own}
 use Rattle.control_plane.specs.Acted.{Acts, IsCurrent, IsSome, IsSomeMidway, Settles, no_lines, same_moment}
 use Rattle.control_plane.specs.PlaneView.{PlaneView}
 use Rattle.control_plane.proofs.OwnLemmas.{count_here, node_here, own_acts, own_some}

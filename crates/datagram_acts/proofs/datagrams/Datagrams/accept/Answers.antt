@@ -1,5 +1,5 @@
 use Rattle.std.proofs.Common.{ℕ, ◌+◌, sym, ap, subst}
-use Rattle.world_defs.specs.World.{Datagram}
+use Rattle.network_defs.specs.World.{Datagram}
 use Rattle.datagram_acts.specs.DatagramsView.{DatagramsView}
 use Rattle.datagram_acts.specs.Stored.{Handles, IsIdle, with_datagram}
 use Rattle.datagram_acts.proofs.Stores.{accepted_handles}

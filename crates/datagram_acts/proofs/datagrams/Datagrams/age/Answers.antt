@@ -1,7 +1,7 @@
 use Rattle.std.proofs.Common.{◌≡◌, ℕ, filter, sym, subst}
 use Rattle.mv_base.specs.declared.ids.NodeId.{NodeId}
 use Rattle.link_copies.specs.CopiesData.{is_recent, kept_at}
-use Rattle.world_defs.specs.World.{scenario_of}
+use Rattle.network_defs.specs.World.{scenario_of}
 use Rattle.datagram_acts.specs.Stored.{IsIdle}
 use Rattle.datagram_acts.proofs.Stores.{aged_idle}
 use Rattle.datagram_acts.proofs.datagrams.Datagrams.age.Goals as goal

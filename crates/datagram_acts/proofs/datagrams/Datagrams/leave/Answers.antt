@@ -2,7 +2,7 @@ use Rattle.std.proofs.Common.{◌≡◌, ℕ, ◌++◌, List, map, sym, subst, �
 use Rattle.std.proofs.lemmas.Result.{on_ok_weaker}
 use Rattle.mv_base.specs.declared.ids.NodeId.{NodeId}
 use Rattle.label_defs.specs.declared.branch.Branch.{Branch}
-use Rattle.world_defs.specs.World.{clock_of}
+use Rattle.network_defs.specs.World.{clock_of}
 use Rattle.link_copies.specs.CopiesData.{hop_of, kept_at, sent}
 use Rattle.datagram_acts.specs.Stored.{Handles}
 use Rattle.datagram_acts.proofs.Stores.{left_handles}

@@ -1,6 +1,6 @@
 use Rattle.std.proofs.Common.{refl, [], ◌∷◌}
 use Rattle.session_defs.specs.Octets as octets
-use Rattle.world_defs.specs.Acts as acts
+use Rattle.network_defs.specs.Acts as acts
 use Rattle.network_acts.specs.Instant.{standing_of}
 use Rattle.network_acts.proofs.PlaneActs.{passes}
 use Rattle.network_acts.proofs.network.Network.lose.Goals as goal

@@ -1,6 +1,6 @@
 use Rattle.std.proofs.Common.{refl, [], ◌∷◌}
 use Rattle.session_defs.specs.Octets as octets
-use Rattle.world_defs.specs.Acts as acts
+use Rattle.network_defs.specs.Acts as acts
 use Rattle.control_plane.specs.Acted.{same_moment}
 use Rattle.control_plane.specs.Moving.{IsMovable, taken_line}
 use Rattle.network_acts.proofs.PlaneActs.{acts_as, some_plane}

@@ -1,7 +1,7 @@
 use Rattle.std.proofs.Common.{refl, [], ◌∷◌}
 use Rattle.session_defs.specs.Octets as octets
-use Rattle.world_defs.specs.Acts as acts
-use Rattle.world_defs.specs.System.{Follow}
+use Rattle.network_defs.specs.Acts as acts
+use Rattle.network_defs.specs.System.{Follow}
 use Rattle.control_plane.specs.Acted.{IsWithin, no_lines, with_current}
 use Rattle.network_acts.proofs.PlaneActs.{acts_as, some_plane}
 use Rattle.network_acts.proofs.network.Network.reroute.Goals as goal

@@ -1,8 +1,8 @@
 use Rattle.std.proofs.Common.{refl, [], ◌∷◌}
 use Rattle.std.proofs.lemmas.Result.{on_ok_weaker}
 use Rattle.session_defs.specs.Octets as octets
-use Rattle.world_defs.specs.Acts as acts
-use Rattle.world_defs.specs.System.{Price}
+use Rattle.network_defs.specs.Acts as acts
+use Rattle.network_defs.specs.System.{Price}
 use Rattle.control_plane.specs.Passing.{all_late}
 use Rattle.network_acts.specs.Instant.{Any, standing_of}
 use Rattle.network_acts.proofs.PlaneActs.{passes_as}

@@ -1,8 +1,8 @@
 use Rattle.std.proofs.Common.{refl, [], ◌∷◌}
 use Rattle.session_defs.specs.Octets as octets
 use Rattle.edge_defs.specs.Steps as steps
-use Rattle.world_defs.specs.Acts as acts
-use Rattle.world_defs.specs.System.{Own}
+use Rattle.network_defs.specs.Acts as acts
+use Rattle.network_defs.specs.System.{Own}
 use Rattle.control_plane.specs.Acted.{no_lines, same_moment}
 use Rattle.control_plane.specs.Customers.{IsVrfEdge}
 use Rattle.network_acts.proofs.PlaneActs.{acts_as, some_plane}

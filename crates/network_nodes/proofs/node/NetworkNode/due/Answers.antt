@@ -1,7 +1,7 @@
 use Rattle.std.proofs.Common.{◌≡◌, min, sym, subst, None}
 use Rattle.mv_base.specs.declared.ids.NodeId.{NodeId}
-use Rattle.world_defs.specs.Counts.{node_due}
-use Rattle.world_defs.specs.Nodes.{Nodes}
+use Rattle.network_defs.specs.Counts.{node_due}
+use Rattle.network_defs.specs.Nodes.{Nodes}
 use Rattle.network_nodes.specs.NodeView.{IsPlacedAt, data_in, spent_in}
 use Rattle.network_nodes.specs.declared.node.NetworkNode.{NetworkNode}
 use Rattle.network_nodes.proofs.NodeLemmas.{core_due, edge_due, few, most}

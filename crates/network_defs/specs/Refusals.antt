@@ -1,0 +1,123 @@
+-- Why an event is refused, if it is: by the first of its conditions that holds. A refused event changes nothing.
+use Rattle.std.specs.Prelude.{ℕ, ◌==◌, ◌&&◌, ◌||◌, Bool, true, false, not, nat_le, nat_lt, length, slice_get, Option}
+use Rattle.std.specs.Prelude.{None, Some, if◌then◌else◌}
+use Rattle.std.specs.Option.{option_or}
+use Rattle.std.specs.FinMap as maps
+use Rattle.std.specs.FinSet as sets
+use Rattle.mv_base.specs.declared.ids.NodeId.{NodeId}
+use Rattle.mv_base.specs.declared.ids.VrfId.{VrfId}
+use Rattle.mv_base.specs.declared.pattern.Pattern.{Pattern}
+use Rattle.pim_defs.specs.Entries.{applied, are_too_many}
+use Rattle.scenario_defs.specs.Vpn.{edge_of}
+use Rattle.scenario_defs.specs.declared.event.Event.{Event}
+use Rattle.scenario_defs.specs.declared.event.Event.TheVariants as events
+use Rattle.scenario_defs.specs.declared.event.Kind.{Kind}
+use Rattle.scenario_defs.specs.declared.report.Refusal.{Refusal}
+use Rattle.scenario_defs.specs.declared.report.Refusal.TheVariants as refusals
+use Rattle.scenario_defs.specs.declared.scenario.Scenario.{Scenario}
+use Rattle.mvpn_model.specs.Messages.{message_of}
+use Rattle.mvpn_model.specs.declared.message.Given.{Given}
+use Rattle.mvpn_model.specs.Refused.{is_ours, octets_refusal}
+use Rattle.edge_defs.specs.Edge.{Note, Control, no_control}
+use Rattle.network_defs.specs.Counts.{direction, is_up, octets_in_transit, all_copies}
+use Rattle.network_defs.specs.Nodes.{NodeState, Edge, CoreNode}
+use Rattle.mvpn_model.specs.Packets.{packet_fault}
+use Rattle.network_defs.specs.World.{World, scenario_of, clock_of}
+
+abbrev pub refused_if : Bool → Refusal → Option Refusal
+refused_if false reason = None
+refused_if true reason = Some reason
+
+-- ---- limits
+
+abbrev pub octet_limit : ℕ
+octet_limit = 268435456
+
+abbrev pub copy_limit : ℕ
+copy_limit = 65536
+
+abbrev pub note_limit : ℕ
+note_limit = 256
+
+abbrev pub selection_limit : ℕ
+selection_limit = 256
+
+-- whether so many octets are in transit that no customer event is taken
+abbrev pub are_sessions_full : World → Bool
+are_sessions_full world = nat_le octet_limit (octets_in_transit world)
+
+abbrev pub are_links_full : World → Bool
+are_links_full world = nat_le copy_limit (length (all_copies world))
+
+-- ---- what an edge keeps
+
+abbrev pub control_of : NodeState → Control
+control_of (Edge edge) = edge.control
+control_of (CoreNode part) = no_control
+
+-- what the edge keeps, if there is one, and the edge of a VRF
+abbrev pub control_at : World → Option NodeId → Control
+control_at world None = no_control
+control_at world (Some n) = control_of (world.network.state.node n)
+
+abbrev pub edge_of_vrf : Scenario → VrfId → Option NodeId
+edge_of_vrf scenario vrf = elim (slice_get scenario.vrfs vrf.0) [ None ↦ None | Some found ↦ Some found.edge ]
+
+-- ---- refusals
+
+-- a message is for another neighbour, or there is no room for it
+abbrev pub message_refusal : World → Option Given → Option Refusal
+message_refusal world None = None
+message_refusal world (Some given) =
+    if not (is_ours (scenario_of world) given) then Some refusals.Ours else
+    if are_sessions_full world then Some refusals.Full else
+    refused_if
+    (are_too_many (applied (control_at world (edge_of (scenario_of world) given.iface)).entries given.iface given.message (clock_of world)))
+    refusals.Full
+
+-- a note is made anew, and there is no room for it
+abbrev pub note_refusal : World → Note → Option Refusal
+note_refusal world note =
+    let notes = (control_at world (edge_of (scenario_of world) note.iface)).notes in
+    refused_if (are_sessions_full world || (not (sets.contains notes note) && nat_le note_limit (sets.len notes))) refusals.Full
+
+-- whether the VRF has selected the pattern, and how many selections its edge has
+abbrev pub is_selected : World → VrfId → Pattern → Bool
+is_selected world vrf pattern =
+    maps.contains_key (control_at world (edge_of_vrf (scenario_of world) vrf)).selections (record { vrf = vrf; pattern = pattern })
+
+abbrev pub selections_at : World → VrfId → ℕ
+selections_at world vrf = maps.len (control_at world (edge_of_vrf (scenario_of world) vrf)).selections
+
+abbrev pub no_octets : World → Kind → NodeId → NodeId → Bool
+no_octets world kind from to = length (world.network.transit (direction kind from to)) == 0
+
+abbrev pub is_session_joined : World → Kind → NodeId → NodeId → Bool
+is_session_joined world kind a b = world.network.joined (direction kind a b)
+
+-- fewer copies than that are on the link
+abbrev pub lacks_copy : World → NodeId → NodeId → ℕ → Bool
+lacks_copy world from to place = nat_lt (length (world.copies from to)) place
+
+abbrev pub refusal : World → Event → Option Refusal
+refusal world (events.Move kind from to count) =
+    refused_if (no_octets world kind from to || not (is_session_joined world kind from to)) refusals.Empty
+refusal world (events.Lose kind a b) = refused_if (not (is_session_joined world kind a b)) refusals.State
+refusal world (events.Notice kind a b) = refused_if (is_session_joined world kind a b || not (is_up world kind a b)) refusals.State
+refusal world (events.Raise kind a b) = refused_if (is_up world kind a b || is_up world kind b a) refusals.State
+refusal world (events.Join iface entry) = message_refusal world (message_of (scenario_of world) (events.Join iface entry))
+refusal world (events.Prune iface entry) = message_refusal world (message_of (scenario_of world) (events.Prune iface entry))
+refusal world (events.Pim iface octets) =
+    option_or (octets_refusal octets) (message_refusal world (message_of (scenario_of world) (events.Pim iface octets)))
+refusal world (events.Active iface source group) = note_refusal world (record { iface = iface; source = source; group = group })
+refusal world (events.Idle iface source group) = refused_if (are_sessions_full world) refusals.Full
+refusal world (events.Send site source group payload) = refused_if (are_links_full world) refusals.Full
+refusal world (events.Packet site octets) = option_or (packet_fault octets) (refused_if (are_links_full world) refusals.Full)
+refusal world (events.Select vrf pattern) =
+    option_or (refused_if (is_selected world vrf pattern) refusals.State)
+    (refused_if (are_sessions_full world || nat_le selection_limit (selections_at world vrf)) refusals.Full)
+refusal world (events.Unselect vrf pattern) =
+    option_or (refused_if (not (is_selected world vrf pattern)) refusals.State) (refused_if (are_sessions_full world) refusals.Full)
+refusal world (events.Hop from to place) = refused_if (lacks_copy world from to place) refusals.Place
+refusal world (events.DropCopy from to place) = refused_if (lacks_copy world from to place) refusals.Place
+refusal world other = None

@@ -1,5 +1,0 @@
-use Rattle.world_laws.proofs.RunEvents.{run_stays}
-use Rattle.world_laws.proofs.laws.runs_stay_sound.Goals as goal
-
-pub returns : goal.returns
-returns c cores script events trace new lines sound run = run_stays script.scenario cores events trace new lines sound run

@@ -1,5 +1,0 @@
-use Rattle.world_laws.proofs.NodeCalls.{start_sound}
-use Rattle.world_laws.proofs.laws.start_is_sound.Goals as goal
-
-pub returns : goal.returns
-returns c = start_sound

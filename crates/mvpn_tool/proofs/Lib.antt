@@ -5,3 +5,5 @@ pub mod OutcomeLemmas
 pub mod EndLemmas
 pub mod DecodeLemmas
 pub mod RunsLemmas
+pub mod CountLemmas
+pub mod SweepLemmas

@@ -12,6 +12,7 @@ use Rattle.scenario_defs.specs.declared.event.Timed.{Timed}
 use Rattle.scenario_defs.specs.declared.report.ReportLine.TheVariants as lines
 use Rattle.scenario_defs.specs.declared.scenario.Scenario.{Scenario}
 use Rattle.mvpn_model.specs.Report.{Entry}
+use Rattle.network_defs.specs.Costs.{AreCoresOf, Cores}
 use Rattle.network_defs.specs.Events.{Happened, Outcome, Done, Halted}
 use Rattle.network_defs.specs.Run.{Halts, Run, Traced, outcome, report_of, traced}
 use Rattle.network_defs.specs.World.{World, start}
@@ -35,6 +36,28 @@ length_first : {X : Type 0} (xs : List X) (place : ℕ) (x : X) → slice_get xs
 length_first [] place x e = absurd cc
 length_first (y ∷ xs) zero x e = refl
 length_first (y ∷ xs) (suc place) x e = ap suc (length_first xs place x e)
+
+-- the report of a run that halts in the event of that number and line: what happened before, the acts that were done, and the line that says so
+abbrev pub halted_report : List Traced → ℕ → ℕ → List Happened → NodeId → List Entry
+halted_report trace count line acts node = report_of (trace ++ traced count acts) ++ record { event = count; lines = lines.Halt line node ∷ [] } ∷ []
+
+-- Where the event at that place lacks a label, the run halts there.
+pub halts_at : (cores : Cores) (script : Script) (count : ℕ) (trace : List Traced) (state : World) (timed : Timed) (acts : List Happened) (node : NodeId) → AreCoresOf script.scenario cores →
+    Run cores script (take count script.events) trace state → slice_get script.events count ≡ Some timed → outcome state timed ≡ Halted acts node →
+    Halts cores script (halted_report trace count timed.line acts node) node
+halts_at cores script count trace state timed acts node of_scenario run at lacks = record {
+  of_scenario = of_scenario;
+  before = take count script.events;
+  timed = timed;
+  after = drop (suc count) script.events;
+  events = cut_at script.events count timed at;
+  trace = trace;
+  world = state;
+  run = run;
+  acts = acts;
+  lacks = lacks;
+  whole = ap (λ (n : ℕ). report_of (trace ++ traced n acts) ++ record { event = n; lines = lines.Halt timed.line node ∷ [] } ∷ []) (sym (length_first script.events count timed at));
+}
 
 module _ (known : KnownRuns) (detail : Detail) (script : Script) (rules : ScriptRules script) (octets : ScriptHasOctets script) where
   abbrev text : List Entry → List ℕ
@@ -97,25 +120,13 @@ module _ (known : KnownRuns) (detail : Detail) (script : Script) (rules : Script
 
     -- ---- where the event lacks a label
 
-    abbrev halted_report : List Happened → NodeId → List Entry
-    halted_report acts node = report_of (r.trace ++ traced count acts) ++ record { event = count; lines = lines.Halt timed.line node ∷ [] } ∷ []
+    abbrev own_report : List Happened → NodeId → List Entry
+    own_report acts node = halted_report r.trace count timed.line acts node
 
-    halts_here : (acts : List Happened) (node : NodeId) → outcome r.state timed ≡ Halted acts node → Halts r.cores script (halted_report acts node) node
-    halts_here acts node lacks = record {
-      of_scenario = r.behind.of_scenario;
-      before = take count script.events;
-      timed = timed;
-      after = drop (suc count) script.events;
-      events = cut_at script.events count timed at;
-      trace = r.trace;
-      world = r.state;
-      run = r.behind.run;
-      acts = acts;
-      lacks = lacks;
-      whole = ap (λ (n : ℕ). report_of (r.trace ++ traced n acts) ++ record { event = n; lines = lines.Halt timed.line node ∷ [] } ∷ []) (sym (length_first script.events count timed at));
-    }
+    halts_here : (acts : List Happened) (node : NodeId) → outcome r.state timed ≡ Halted acts node → Halts r.cores script (own_report acts node) node
+    halts_here acts node lacks = halts_at r.cores script count r.trace r.state timed acts node r.behind.of_scenario r.behind.run at lacks
 
-    halted_text : (acts : List Happened) (node : NodeId) → outcome r.state timed ≡ Halted acts node → text (halted_report acts node) ≡ text (report_of r.trace) ++ event_text detail scenario timed view place_of
+    halted_text : (acts : List Happened) (node : NodeId) → outcome r.state timed ≡ Halted acts node → text (own_report acts node) ≡ text (report_of r.trace) ++ event_text detail scenario timed view place_of
     halted_text acts node lacks =
         text_halted known.text detail script.scenario r.trace count acts (lines.Halt timed.line node)
         ∙ ap (λ (l : List ℕ). text (report_of r.trace) ++ l) (ap text_by (sym lacks) ∙ sym own_text)
@@ -123,9 +134,9 @@ module _ (known : KnownRuns) (detail : Detail) (script : Script) (rules : Script
     replayed-halted : Lacks detail scenario timed view place_of mid new → ReplaysUpToHalt detail script old new
     replayed-halted l = record {
       cores = r.cores;
-      report = halted_report l.acts l.node;
+      report = own_report l.acts l.node;
       node = l.node;
-      halted = known.halted r.cores script (halted_report l.acts l.node) l.node rules octets (halts_here l.acts l.node l.is);
+      halted = known.halted r.cores script (own_report l.acts l.node) l.node rules octets (halts_here l.acts l.node l.is);
       text = subst (Appended old new) (sym (halted_text l.acts l.node l.is)) (appended-append old mid new (text (report_of r.trace)) (event_text detail scenario timed view place_of) r.text l.text);
     }
 
@@ -156,8 +167,8 @@ module _ (known : KnownRuns) (detail : Detail) (script : Script) (rules : Script
             text = subst (AppendedPart old new) (sym all) (part_of_front old new (text (report_of r.trace) ++ event_text detail scenario timed view place_of) (text on.more) both_parts);
           }
       part_by (Halted acts node) is = record {
-        report = halted_report acts node;
-        is_report = UpToHalt r.cores node (known.halted r.cores script (halted_report acts node) node rules octets (halts_here acts node is));
+        report = own_report acts node;
+        is_report = UpToHalt r.cores node (known.halted r.cores script (own_report acts node) node rules octets (halts_here acts node is));
         text = subst (AppendedPart old new) (sym (halted_text acts node is)) both_parts;
       }
 

@@ -17,7 +17,7 @@ use Rattle.mvpn_tool.specs.declared.command.Detail.{Detail}
 use Rattle.mvpn_tool.specs.Outcome.{EndsHalted, EndsWell, IsRead}
 use Rattle.mvpn_tool.specs.declared.command.Command.{Command}
 use Rattle.mvpn_tool.specs.declared.command.Command.TheVariants as commands
-use Rattle.mvpn_tool.specs.Runs.{Ending, MakeRun, ReplayRun, Runs, UsageRun}
+use Rattle.mvpn_tool.specs.Runs.{Ending, MakeRun, ReplayRun, Runs, SweepRun, UsageRun}
 use Rattle.mvpn_tool.specs.Report.{AllRun, OneHalts}
 
 pub usage_runs : (e : Ending) (named : Option Command) → None ≡ named → UsageRun e → Runs named e
@@ -26,6 +26,11 @@ usage_runs e named h ends = subst (λ (x : Option Command). Runs x e) h ends
 pub make_runs : (e : Ending) (named : Option Command) (own : Command) (number : ℕ) → own ≡ commands.Make number → Some own ≡ named →
     MakeRun number e → Runs named e
 make_runs e named own number is h ends =
+    subst (λ (x : Option Command). Runs x e) (sym (ap (λ (x : Command). Some x) is) ∙ h) ends
+
+pub sweep_runs : (e : Ending) (named : Option Command) (own : Command) (number : ℕ) → own ≡ commands.Sweep number → Some own ≡ named →
+    SweepRun number e → Runs named e
+sweep_runs e named own number is h ends =
     subst (λ (x : Option Command). Runs x e) (sym (ap (λ (x : Command). Some x) is) ∙ h) ends
 
 -- ---- a script runs or halts, never both

@@ -33,7 +33,7 @@ pub lines_text-append : (detail : Detail) (scenario : Scenario) (first more : Li
 lines_text-append detail scenario first more =
     ap (flat_map (line_text scenario)) (filter-append (is_told detail) first more) ∙ flat_map-append (line_text scenario) (filter (is_told detail) first) (filter (is_told detail) more)
 
-lines_of-append : (first more : List Entry) → lines_of (first ++ more) ≡ lines_of first ++ lines_of more
+pub lines_of-append : (first more : List Entry) → lines_of (first ++ more) ≡ lines_of first ++ lines_of more
 lines_of-append first more = flat_map-append (λ (entry : Entry). entry.lines) first more
 
 abbrev entry_of : Traced → Entry
@@ -43,7 +43,7 @@ abbrev step_at : ℕ → Happened → Traced
 step_at number happened = record { event = number; happened = happened }
 
 -- the lines of the acts of an event
-lines_at : (number : ℕ) (acts : List Happened) → lines_of (report_of (traced number acts)) ≡ lines_in acts
+pub lines_at : (number : ℕ) (acts : List Happened) → lines_of (report_of (traced number acts)) ≡ lines_in acts
 lines_at number acts = flat_map-map (λ (entry : Entry). entry.lines) entry_of (traced number acts) ∙ flat_map-map (λ (step : Traced). step.happened.lines) (step_at number) acts
 
 pub report_of-append : (first more : List Traced) → report_of (first ++ more) ≡ report_of first ++ report_of more

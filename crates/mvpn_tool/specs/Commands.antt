@@ -27,14 +27,15 @@ made_number_of word = number_of word >>? λ number. only_if (nat_le 1 number && 
 abbrev pub detail_of : List ℕ → Option Detail
 detail_of word = if pointwise nat_eq word (codes "--wire") then Some details.Wire else None
 
--- the command of two words: `replay` and its detail, `decode` and a format, or `make` and a number
+-- the command of two words: `replay` and its detail, `decode` and a format, or `make` or `sweep` and a number
 abbrev pub command_with : List ℕ → List ℕ → Option Command
 command_with a b =
     if pointwise nat_eq a (codes "replay") then option_map (λ detail. commands.Replay detail) (detail_of b) else
     if pointwise nat_eq a (codes "decode") then option_map (λ format. commands.Decode format) (format_of b) else
-    if pointwise nat_eq a (codes "make") then option_map (λ number. commands.Make number) (made_number_of b) else None
+    if pointwise nat_eq a (codes "make") then option_map (λ number. commands.Make number) (made_number_of b) else
+    if pointwise nat_eq a (codes "sweep") then option_map (λ number. commands.Sweep number) (made_number_of b) else None
 
--- the command that the words name: `replay` with or without `--wire`, `decode` and a format, or `make` and a number
+-- the command that the words name: `replay` with or without `--wire`, `decode` and a format, or `make` or `sweep` and a number
 abbrev pub command_of : List (List ℕ) → Option Command
 command_of [] = None
 command_of (a ∷ []) = if pointwise nat_eq a (codes "replay") then Some (commands.Replay details.Plain) else None

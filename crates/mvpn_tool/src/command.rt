@@ -14,7 +14,7 @@ pub enum Detail {
     Wire,
 }
 
-/// A command that is built.
+/// A command.
 #[derive(Clone, Copy, PartialEq, Eq)]
 pub enum Command {
     /// `replay`, with or without `--wire`
@@ -23,6 +23,8 @@ pub enum Command {
     Decode(Format),
     /// `make` and the number of a network, 1 to 1,000,000
     Make(u32),
+    /// `sweep` and the number of a network, 1 to 1,000,000
+    Sweep(u32),
 }
 
 /// The detail that a word behind `replay` asks for.
@@ -71,6 +73,7 @@ fn command_with(word: &str, kind: &str) -> Option<Command>
         "replay" => detail_of(kind).map(Command::Replay),
         "decode" => format_of(kind).map(Command::Decode),
         "make" => made_number_of(kind).map(Command::Make),
+        "sweep" => made_number_of(kind).map(Command::Sweep),
         _ => None,
     }
 }

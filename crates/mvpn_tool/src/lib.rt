@@ -3,6 +3,7 @@
 
 mod command;
 mod copying;
+mod counts;
 mod decode;
 mod input;
 mod laws;
@@ -10,6 +11,7 @@ mod make;
 mod replay;
 mod report;
 mod stop;
+mod sweep;
 mod top;
 
 pub use command::{Command, Detail};

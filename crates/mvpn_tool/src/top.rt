@@ -1,13 +1,14 @@
 //! The top call: a command, from octets to octets.
 ghost use Rattle.std.specs.Prelude.{◌≡◌, ℕ, Option, List, None, map, string_bytes};
 ghost use Rattle.mvpn_tool.specs.Commands.{command_of};
-ghost use Rattle.mvpn_tool.specs.Runs.{Runs, UsageRun, ReplayRun, DecodeRun, MakeRun};
+ghost use Rattle.mvpn_tool.specs.Runs.{Runs, UsageRun, ReplayRun, DecodeRun, MakeRun, SweepRun};
 
 use crate::command::{Command, Detail, command_of};
 use crate::decode::decode;
 use crate::make::make;
 use crate::replay::replay;
 use crate::stop::Stop;
+use crate::sweep::sweep;
 use decode_text::Format;
 use mv_io::{Sink, Source, write_all};
 use network_events::World;
@@ -72,6 +73,34 @@ fn run_make<K: Sink>(alloc: Global, number: u32, sink: &mut K) -> End
         Ok(()) => ended(0),
         Err(Stop::Sink) => ended(5),
         Err(_) => ended(6),
+    }
+}
+
+fn run_sweep<K: Sink>(alloc: Global, number: u32, sink: &mut K) -> End
+    ensures { (left : Option (List ℕ)) (faults : ℕ) → SweepRun number (record {
+      status = result.status;
+      world = result.world;
+      left = left;
+      rest = left;
+      old = K.written sink.old;
+      new = K.written sink.new;
+      source_before = faults;
+      source_now = faults;
+      sink_before = K.faults sink.old;
+      sink_now = K.faults sink.new;
+    }) }
+{
+    one_run_or_one_halt();
+    match sweep(alloc, number, sink) {
+        Ok(world) => End {
+            status: 0,
+            world: Some(world),
+        },
+        Err(Stop::Text) => ended(3),
+        Err(Stop::Source) => unreachable!(),
+        Err(Stop::Sink) => ended(5),
+        Err(Stop::Memory) => ended(6),
+        Err(Stop::Label) => ended(7),
     }
 }
 
@@ -158,5 +187,6 @@ pub fn run<S: Source, K: Sink>(alloc: Global, words: &[String], source: &mut S, 
         Some(Command::Replay(detail)) => run_replay(alloc, detail, source, sink),
         Some(Command::Decode(format)) => run_decode(alloc, format, source, sink),
         Some(Command::Make(number)) => run_make(alloc, number, sink),
+        Some(Command::Sweep(number)) => run_sweep(alloc, number, sink),
     }
 }

@@ -62,6 +62,13 @@ impl World {
         self.network.scenario()
     }
 
+    /// How many datagrams were accepted.
+    pub fn accepted(&self) -> u64
+        ensures { result ≡ self.now.network.datagrams.count }
+    {
+        self.network.accepted()
+    }
+
     /// One event: it is refused, with the line that says so, or its acts are done, with their lines.
     pub fn step(&mut self, timed: &Timed, lines: &mut Lines) -> Result<(), Halt>
         requires { self.old.halt ≡ None → IsReached timed.now self.old }

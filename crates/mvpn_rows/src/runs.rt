@@ -107,11 +107,7 @@ fn a_sink_fails(rt: HostRuntime) -> Result<(), Fail> {
 }
 
 /// The status of a replay of the network with the lines of the wire, where a read fails or a write, and what it wrote.
-fn network_outcome(
-    alloc: Global,
-    reads: &[u64],
-    writes: &[u64],
-) -> Result<(u8, Bytes), Fail> {
+fn network_outcome(alloc: Global, reads: &[u64], writes: &[u64]) -> Result<(u8, Bytes), Fail> {
     let text = network(alloc)?;
     outcome(alloc, &["replay", "--wire"], text.as_slice(), reads, writes)
 }

@@ -20,7 +20,7 @@ tshark 4.0.17 does not tell all, so the cases keep within this:
 - FEC elements end to end have opaque values of 7 octets: behind another length the next element is not found.
 - Of an UPDATE at most one route is told.
 - A next hop of 4 octets in front of routes of AFI 2 and SAFI 5 is a fault to tshark. The length of such a next hop tells
-  its family (RFC 6515 section 2), so this fault is none, and the next hop is read here.
+  its family (RFC 6515), so this fault is none, and the next hop is read here.
 - VPN-IPv6 routes are told in one text. Their route distinguishers are of type 0 or 1.
 - What the program refuses has no line of tshark's, so no case has a fault.
 
@@ -618,7 +618,7 @@ def parts(octets, at, more, begin=0):
     while begin < len(octets):
         length = more + int.from_bytes(octets[begin + at:begin + at + 2], 'big')
         yield octets[begin:begin + length]
-        begin += length
+        begin += max(1, length)
 
 
 def count_of(kind, octets):

@@ -1,11 +1,16 @@
 #!/usr/bin/env python3
-"""Compares what tshark reads in messages of BGP, LDP and PIM with what `mvpn decode` reads in the same octets.
+"""Compares what tshark reads in messages of BGP, LDP and PIM with what `mvpn decode` reads in the same octets, in cases that are
+laid out here, and in all that the nodes of the examples put: `wireshark.py [--command COMMAND]`.
 
 Field values are written here as MCAST-VPN routes of AFI 1 (RFC 6514 section 4; the wildcards of RFC 6625 section 2),
 PMSI Tunnel attributes (RFC 6514 section 5) and multipoint FEC elements (RFC 6388 sections 2.2 and 3.2), in messages
 of a pcap file, and as whole messages of BGP (RFC 4271), of LDP (RFC 5036) and of PIM (Join/Prune, RFC 7761 section
 4.9.5), in the layout that the writers of the program have. The fields that tshark tells of a message become the lines
-that the program is to write. The program, built without its proofs, gets the octets alone.
+that the program is to write. The program gets the octets alone: `./mvpn` of this repository, unless another is named.
+
+Each example is replayed with `--wire`. What a node puts for another one over BGP, or over LDP, is one case: its octets go
+to tshark as a stream of TCP in short segments. There may be no fault, no message may be missing, and the lines have to be
+those that the program writes of the stream.
 
 tshark 4.0.17 does not tell all, so the cases keep within this:
 - The key of a leaf route is told as octets. It is a route, so tshark reads them again in a message of their own.
@@ -13,14 +18,20 @@ tshark 4.0.17 does not tell all, so the cases keep within this:
 - The opaque value in a PMSI Tunnel attribute has one TLV, of type 1 or 255.
 - The two reserved octets in an identifier of RSVP-TE are not told: they are zero (RFC 4875 section 19.1.1).
 - FEC elements end to end have opaque values of 7 octets: behind another length the next element is not found.
-- Of an UPDATE at most one route is told, and its next hop is IPv4.
+- Of an UPDATE at most one route is told.
+- A next hop of 4 octets in front of routes of AFI 2 and SAFI 5 is a fault to tshark. The length of such a next hop tells
+  its family (RFC 6515), so this fault is none, and the next hop is read here.
+- VPN-IPv6 routes are told in one text. Their route distinguishers are of type 0 or 1.
 - What the program refuses has no line of tshark's, so no case has a fault.
 
 Prints the cases that differ, and then 'N passed, M failed'. Without tshark nothing is compared, and nothing failed.
 """
 
+import argparse
+import ipaddress
 import pathlib
 import re
+import shlex
 import shutil
 import socket
 import struct
@@ -29,7 +40,11 @@ import sys
 import tempfile
 import xml.etree.ElementTree as xml
 
-PROGRAM = pathlib.Path(__file__).resolve().parent.parent / 'crates' / 'mvpn'
+from rows import REPLAYED, starts
+
+TOP = pathlib.Path(__file__).resolve().parent.parent
+# octets of a segment of a stream: some messages lie in two or three of them
+SEGMENT = 100
 
 
 # ---- octets of field values
@@ -314,12 +329,15 @@ def ipv4(place, ttl, protocol, target, payload):
     return header + addr('192.0.2.1') + addr(target) + payload
 
 
+def segment(port, place, at, octets):
+    """A packet of TCP to the port, on the connection of that number, with the octets that it has from `at` on."""
+    tcp = struct.pack('>HHIIBBHHH', 40000 + place, port, 1 + at, 1, 0x50, 0x18, 65535, 0, 0)
+    return ipv4(place, 64, 6, '192.0.2.2', tcp + octets)
+
+
 def to_port(port):
     """Packets of TCP to the port, each of a connection of its own."""
-    def packet(place, message):
-        tcp = struct.pack('>HHIIBBHHH', 40000 + place, port, 1, 1, 0x50, 0x18, 65535, 0, 0)
-        return ipv4(place, 64, 6, '192.0.2.2', tcp + message)
-    return packet
+    return lambda place, message: segment(port, place, 0, message)
 
 
 def to_routers(place, message):
@@ -348,6 +366,9 @@ REACH = 'bgp.update.path_attribute.mp_reach_nlri'
 UNREACH = 'bgp.update.path_attribute.mp_unreach_nlri'
 BGP_WORDS = {1: 'open', 3: 'notification', 4: 'keepalive', 5: 'refresh'}
 LDP_WORDS = {0x400: 'mapping', 0x402: 'withdraw', 0x403: 'release'}
+EXPERT, MALFORMED = '_ws.expert.message', '_ws.malformed'
+# what tshark tells of a next hop of IPv4 where it looks for one of IPv6
+SHORT_HOP = 'Unknown Next Hop length (4 bytes)'
 
 
 class Told(dict):
@@ -369,17 +390,36 @@ class Told(dict):
         return self[name].get('value')
 
     def addr(self, name):
-        return self[name].get('show')
+        return spelled(self[name].get('show'))
 
     def part(self, name):
         """A source or a group, or `*`."""
-        if self.number(f'{NLRI}_{name}_length') == 0:
-            return '*'
-        return self.addr(f'{NLRI}_{name}_addr_ipv4')
+        bits = self.number(f'{NLRI}_{name}_length')
+        return self.addr(f'{NLRI}_{name}_addr_ipv{6 if bits == 128 else 4}') if bits else '*'
 
     def inside(self, *prefixes):
         """The octets of all fields whose names begin so, in the order of the message."""
         return ''.join(self.octets(name) for name in self if name.startswith(prefixes))
+
+    def has_ipv4_hop(self):
+        """Whether routes of AFI 2 and SAFI 5 stand behind a next hop of IPv4."""
+        if REACH + '.safi' not in self:
+            return False
+        family = self.number(REACH + '.afi'), self.number(REACH + '.safi')
+        return family == (2, 5) and self.octets(REACH + '.next_hop').startswith('04')
+
+    def has_fault(self):
+        """Whether tshark tells of a fault, or of anything that is unusual."""
+        said = [field.get('show') for field in self.fields if field.get('name') == EXPERT]
+        if self.has_ipv4_hop() and said == [SHORT_HOP]:
+            return False
+        return bool(said) or MALFORMED in self
+
+
+def spelled(text):
+    """An address as the program writes it: an IPv4-mapped one as that of IPv4, another one of IPv6 in eight groups of four digits."""
+    address = ipaddress.ip_address(text)
+    return str(getattr(address, 'ipv4_mapped', None) or address.exploded)
 
 
 def route_line(told):
@@ -433,10 +473,33 @@ def tunnel_octets(told):
     return told.inside(PMSI + 'tunnel.flags', PMSI + 'tunnel.type') + told[LABEL].get('unmaskedvalue') + told.inside(PMSI + 'mldp.')
 
 
-def nlri_text(told, safi, prefix):
-    if told.number(safi) == 5:
-        return 'ipv4 ' + route_line(told)
+def rd_octets(text):
+    """Those of a route distinguisher of type 0 or 1 (RFC 4364 section 4.2)."""
+    front, behind = text.split(':')
+    if '.' in front:
+        return (number(1, 2) + addr(front) + number(int(behind), 2)).hex()
+    return (number(0, 2) + number(int(front), 2) + number(int(behind), 4)).hex()
+
+
+def vpn_ipv6_text(told):
+    rd, prefix, bits = re.search(r' RD=(\S+), IPv6=(\S+)/(\d+)$', told['bgp.label_stack'].get('showname')).groups()
+    return f'unicast {rd_octets(rd)} {spelled(prefix)}/{bits}'
+
+
+def nlri_text(told, attribute, prefix):
+    is_six = told.number(attribute + '.afi') == 2
+    if told.number(attribute + '.safi') == 5:
+        return f'ipv{6 if is_six else 4} {route_line(told)}'
+    if is_six:
+        return vpn_ipv6_text(told)
     return f'unicast {told.octets("bgp.rd")} {told.addr(prefix)}/{told.number("bgp.prefix_length") - 88}'
+
+
+def next_hop(told):
+    if told.has_ipv4_hop():
+        return socket.inet_ntoa(bytes.fromhex(told.octets(REACH + '.next_hop'))[1:])
+    is_six = REACH + '.next_hop.ipv6' in told
+    return told.addr(f'{REACH}.next_hop.ipv{6 if is_six else 4}')
 
 
 def bgp_line(told):
@@ -444,10 +507,9 @@ def bgp_line(told):
     if kind != 2:
         return BGP_WORDS[kind]
     if REACH + '.safi' in told:
-        hop = told.addr(REACH + '.next_hop.ipv4')
-        key = nlri_text(told, REACH + '.safi', 'bgp.mp_reach_nlri_ipv4_prefix')
-        return f'update\nreach {hop} {communities_text(told)} {tunnel_octets(told)} {key}'
-    return f'update\nunreach {nlri_text(told, UNREACH + ".safi", "bgp.mp_unreach_nlri_ipv4_prefix")}'
+        key = nlri_text(told, REACH, 'bgp.mp_reach_nlri_ipv4_prefix')
+        return f'update\nreach {next_hop(told)} {communities_text(told)} {tunnel_octets(told)} {key}'
+    return f'update\nunreach {nlri_text(told, UNREACH, "bgp.mp_unreach_nlri_ipv4_prefix")}'
 
 
 def ldp_line(told):
@@ -499,18 +561,28 @@ COMMANDS = {
 
 
 def dissect(packets):
-    """What tshark tells of each packet: the elements `field`, in their order."""
+    """What tshark tells of each packet: its elements with a name, in their order."""
     with tempfile.NamedTemporaryFile(suffix='.pcap') as file:
         file.write(pcap(packets))
         file.flush()
         run = subprocess.run(['tshark', '-n', '-r', file.name, '-T', 'pdml'], capture_output=True, text=True)
     if run.returncode:
         sys.exit(run.stderr)
-    return [packet.iter('field') for packet in xml.fromstring(run.stdout)]
+    return [[element for element in packet.iter() if element.get('name')] for packet in xml.fromstring(run.stdout)]
+
+
+def values_of(elements, first):
+    """What stands in front of the values of a packet, and then each value: it begins with the field `first`."""
+    told = [Told()]
+    for element in elements:
+        if element.get('name') == first:
+            told.append(Told())
+        told[-1].add(element)
+    return told
 
 
 def line_of(line, told):
-    if '_ws.expert' in told:
+    if told.has_fault():
         return 'tshark: a fault'
     try:
         return line(told)
@@ -521,44 +593,117 @@ def line_of(line, told):
 def lines_of(command, octets):
     """For each of the octets the lines of what tshark reads in them."""
     _, packet, message, first, line = COMMANDS[command]
-    lines = []
-    for fields in dissect(packet(place, message(o)) for place, o in enumerate(octets)):
-        values = []
-        for field in fields:
-            if field.get('name') == first:
-                values.append(Told())
-            if values:
-                values[-1].add(field)
-        lines.append([line_of(line, told) for told in values])
+    packets = dissect(packet(place, message(o)) for place, o in enumerate(octets))
+    return [[line_of(line, told) for told in values_of(elements, first)[1:]] for elements in packets]
+
+
+# ---- what the nodes of the examples put
+
+# by kind of session: its port, the place of the length in a message or PDU, and how many of its octets that does not count
+SESSIONS = {'bgp': (179, 16, 0), 'ldp': (646, 2, 4)}
+
+
+def streams_of(report):
+    """The octets that one node puts for another one over one kind of session, by these three."""
+    streams = {}
+    for line in report.splitlines():
+        word, *session, octets = line.split()
+        if word == 'put':
+            streams.setdefault(tuple(session), bytearray()).extend(bytes.fromhex(octets))
+    return streams
+
+
+def parts(octets, at, more, begin=0):
+    """The octets from `begin` on, cut into parts: each has at the place `at` the number of its octets, but for `more` of them."""
+    while begin < len(octets):
+        length = more + int.from_bytes(octets[begin + at:begin + at + 2], 'big')
+        yield octets[begin:begin + length]
+        begin += max(1, length)
+
+
+def count_of(kind, octets):
+    """How many messages the octets have."""
+    _, at, more = SESSIONS[kind]
+    if kind == 'bgp':
+        return sum(1 for _ in parts(octets, at, more))
+    return sum(1 for pdu in parts(octets, at, more) for _ in parts(pdu, 2, 4, begin=10))
+
+
+def segments(kind, octets):
+    """The octets of streams of that kind as packets, each with the number of its stream."""
+    for place, stream in enumerate(octets):
+        for at in range(0, len(stream), SEGMENT):
+            yield place, segment(SESSIONS[kind][0], place, at, bytes(stream[at:at + SEGMENT]))
+
+
+def stream_lines(kind, octets):
+    """For each of these streams the lines of what tshark reads in it, and one more where it tells a fault or misses a message."""
+    *_, first, line = COMMANDS[kind]
+    places, packets = zip(*segments(kind, octets))
+    lines = [[] for _ in octets]
+    for place, elements in zip(places, dissect(packets)):
+        front, *values = values_of(elements, first)
+        lines[place] += ['tshark: a fault'] * front.has_fault() + [line_of(line, told) for told in values]
+    for own, stream in zip(lines, octets):
+        if len(own) != count_of(kind, stream):
+            own.append(f'tshark: {len(own)} messages of {count_of(kind, stream)}')
     return lines
+
+
+def replayed(program, path):
+    """What the program writes of the example, with the lines of the wire."""
+    run = subprocess.run([*program, 'replay', '--wire'], input=path.read_text(), capture_output=True, text=True)
+    if run.returncode not in REPLAYED:
+        sys.exit(f'{path.name}: status {run.returncode}')
+    return run.stdout
+
+
+def example_cases(program, kind):
+    """The names, octets and lines of the streams of that kind in the examples."""
+    names, octets = [], []
+    for path in sorted((TOP / 'examples').glob('*.txt')):
+        for (own, *nodes), stream in streams_of(replayed(program, path)).items():
+            if own == kind:
+                names.append(' '.join([path.name, *nodes]))
+                octets.append(stream)
+    return zip(names, octets, stream_lines(kind, octets))
 
 
 # ---- the comparison
 
-def compare(command):
-    """How many cases the program decodes as tshark does, and how many it does not; those are printed."""
+def own_cases(command):
+    """The names, octets and lines of the cases that are laid out here."""
     cases = COMMANDS[command][0]
-    with tempfile.TemporaryDirectory() as folder:
-        for (name, octets), lines in zip(cases.items(), lines_of(command, cases.values())):
-            case = pathlib.Path(folder) / name
-            case.write_text(octets.hex() + '\n')
-            case.with_suffix('.stdout').write_text(''.join(line + '\n' for line in lines))
-        words = ['rt', 'try', '--cases', folder, '--', 'decode', command]
-        run = subprocess.run(words, cwd=PROGRAM, stdout=subprocess.PIPE, stderr=subprocess.STDOUT, text=True)
-    agreed = re.findall(r'^case=(\S+) run=ended status=0 .*output=expected', run.stdout, re.MULTILINE)
-    passed = len(cases.keys() & set(agreed))
-    if passed < len(cases):
-        print(re.sub(r'^case=.* output=expected.*\n', '', run.stdout, flags=re.MULTILINE))
-    return passed, len(cases) - passed
+    return zip(cases, cases.values(), lines_of(command, cases.values()))
+
+
+def differs(program, command, octets, lines):
+    """What the program writes of the octets where it is not these lines, or nothing."""
+    run = subprocess.run([*program, 'decode', command], input=octets.hex() + '\n', capture_output=True, text=True)
+    wanted = ''.join(line + '\n' for line in lines)
+    return '' if (run.stdout, run.returncode) == (wanted, 0) else f'wanted\n{wanted}came, with status {run.returncode},\n{run.stdout}'
 
 
 def main():
+    options = argparse.ArgumentParser(description='Compares what tshark and the program read.')
+    options.add_argument('--command', default=str(TOP / 'mvpn'), help='runs the program')
+    program = shlex.split(options.parse_args().command)
     if not shutil.which('tshark'):
         print('tshark is not installed, so nothing was compared')
         print('0 passed, 0 failed')
         return 0
-    passed, failed = map(sum, zip(*map(compare, COMMANDS)))
-    print('%d passed, %d failed' % (passed, failed))
+    if not starts(program):
+        print('the program does not start\n0 passed, 1 failed')
+        return 1
+    cases = [(command, *case) for command in COMMANDS for case in own_cases(command)]
+    cases += [(kind, *case) for kind in SESSIONS for case in example_cases(program, kind)]
+    failed = 0
+    for command, name, octets, lines in cases:
+        told = differs(program, command, octets, lines)
+        if told:
+            failed += 1
+            print(f'{command}, {name}: {told}')
+    print('%d passed, %d failed' % (len(cases) - failed, failed))
     return 1 if failed else 0
 
 

@@ -1,5 +1,5 @@
 -- Laws of the run of a made network, whose lines are counted.
-use Rattle.std.proofs.Common.{◌≡◌, ◌≢◌, ◌∙◌, ℕ, ◌+◌, ◌⊎◌, inl, inr, List, [], ◌++◌, length, take, slice_get, refl, sym, ap, subst, absurd, arith}
+use Rattle.std.proofs.Common.{◌≡◌, ◌≢◌, ◌∙◌, ℕ, ◌+◌, ◌⊎◌, inl, inr, List, [], ◌++◌, length, take, slice_get, refl, sym, ap, subst, arith}
 use Rattle.std.specs.Prelude.{Option, None, Some, Result, Ok, Err, MatchResult, OnOk, OnErr, IfErr, fold}
 use Rattle.std.proofs.lemmas.List.{take_all}
 use Rattle.std.proofs.lemmas.List.Sums.{fold-append}
@@ -97,10 +97,10 @@ more_counts counts after trace number acts told more =
 
 module _ (known : KnownRuns) (script : Script) (rules : ScriptRules script) (octets : ScriptHasOctets script) where
   -- No event ran yet.
-  pub swept_none : (view : WorldView) → IsBegun script.scenario view → SweptSoFar script 0 view no_counts
-  swept_none view begun =
+  pub swept_none : (view : WorldView) (counts : Counts) → IsBegun script.scenario view → counts ≡ no_counts → SweptSoFar script 0 view counts
+  swept_none view counts begun none =
       let own = known.cores script.scenario rules.scenario in
-      record { cores = own.0; trace = []; state = start script.scenario own.0; behind = begun.behind own.0 script refl rules own.1; told = refl }
+      record { cores = own.0; trace = []; state = start script.scenario own.0; behind = begun.behind own.0 script refl rules own.1; told = none }
 
   module _ (count : ℕ) (timed : Timed) (view : WorldView) (counts : Counts) (at : slice_get script.events count ≡ Some timed) (so_far : SweptSoFar script count view counts) where
     -- where the next event is met

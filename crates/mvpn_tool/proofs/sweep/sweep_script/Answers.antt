@@ -11,7 +11,7 @@ returns-in_err-world-clause-sweeps c =
 
 pub loop-timed-init : goal.loop-timed-init
 loop-timed-init c = record {
-  so_far = swept_none c.runs_are_known.ensures c.args.script c.requires c.script_has_octets.ensures c.in_ok-world.world c.in_ok-world.ensures;
+  so_far = swept_none c.runs_are_known.ensures c.args.script c.requires c.script_has_octets.ensures c.in_ok-world.world c.none-counts.result c.in_ok-world.ensures c.none-counts.ensures;
   within = omega arith;
 }
 

@@ -1,5 +1,5 @@
 -- The numbers of the run of a made network, and what `sweep` writes of them.
-use Rattle.std.specs.Prelude.{◌≡◌, ◌⊎◌, ⊤, ⊥, ℕ, ◌+◌, ◌==◌, ◌&&◌, ◌++◌, min, Bool, true, false, codes, fold, if◌then◌else◌}
+use Rattle.std.specs.Prelude.{◌≡◌, ◌⊎◌, ⊤, ℕ, ◌+◌, ◌==◌, ◌&&◌, ◌++◌, min, Bool, true, false, codes, fold, if◌then◌else◌}
 use Rattle.std.specs.Prelude.{List, [], length, count_by, slice_get, Option, None, Some, Result, Ok, Err, MatchResult, OnOk, IsErrOf}
 use Rattle.std.specs.Fmt.{decimal}
 use Rattle.mv_base.specs.declared.ids.NodeId.{NodeId}

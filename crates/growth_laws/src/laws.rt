@@ -1,0 +1,17 @@
+//! Laws of growing nodes.
+ghost use Rattle.std.specs.Prelude.{◌≡◌, ◌<◌, ℕ, List, length};
+ghost use Rattle.mldp_fec.specs.declared.fec.Fec.{Fec};
+ghost use Rattle.label_defs.specs.LabelData.{Place, LabelData, fresh};
+ghost use Rattle.label_defs.specs.Steps.{Call};
+ghost use Rattle.growth_laws.specs.Labels.{Growing, TakesNothingBack, GrowsOn, AreAmong};
+
+/// A node that was never asked to take anything back has a label for each tree that needs one, as long as it has more labels than
+/// there are trees. It is so in a node in which nothing has happened, behind each step that takes nothing back, and with more trees,
+/// as long as the labels are more.
+pub fn growing_nodes_never_lack_a_label()
+    ensures fresh { (place : Place) (trees : List Fec) (count : ℕ) → length trees < count → Growing place trees (fresh count) }
+    ensures step { (place : Place) (now : ℕ) (trees : List Fec) (part : LabelData) (call : Call) → Growing place trees part →
+        TakesNothingBack place trees call → GrowsOn place now trees part call }
+    ensures more { (place : Place) (trees more : List Fec) (part : LabelData) → Growing place trees part → AreAmong trees more →
+        length more < length part.labels → Growing place more part }
+{}

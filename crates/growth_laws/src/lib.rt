@@ -1,0 +1,6 @@
+//! Laws of runs in which nothing is ever taken back: where each node has more labels than there are trees, it never lacks one.
+#![tactic(auto)]
+
+mod laws;
+
+pub use laws::growing_nodes_never_lack_a_label;

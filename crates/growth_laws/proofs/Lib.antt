@@ -1,3 +1,5 @@
 mod Counts
 mod Turns
 mod Calls
+mod Leaves
+mod Flows

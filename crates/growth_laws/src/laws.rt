@@ -3,6 +3,11 @@ ghost use Rattle.std.specs.Prelude.{◌≡◌, ◌<◌, ℕ, List, length};
 ghost use Rattle.mldp_fec.specs.declared.fec.Fec.{Fec};
 ghost use Rattle.label_defs.specs.LabelData.{Place, LabelData, fresh};
 ghost use Rattle.label_defs.specs.Steps.{Call};
+ghost use Rattle.edge_defs.specs.Edge.{Control};
+ghost use Rattle.edge_defs.specs.Flows.{flows_at};
+ghost use Rattle.edge_defs.specs.Place.{EdgePlace};
+ghost use Rattle.edge_defs.specs.Steps.{refreshed};
+ghost use Rattle.growth_laws.specs.Edges.{TakenStays, FlowsStay, AreNarrow, TakesNoneBack, LeavesStay};
 ghost use Rattle.growth_laws.specs.Labels.{Growing, TakesNothingBack, GrowsOn, AreAmong};
 
 /// A node that was never asked to take anything back has a label for each tree that needs one, as long as it has more labels than
@@ -14,4 +19,12 @@ pub fn growing_nodes_never_lack_a_label()
         TakesNothingBack place trees call → GrowsOn place now trees part call }
     ensures more { (place : Place) (trees more : List Fec) (part : LabelData) → Growing place trees part → AreAmong trees more →
         length more < length part.labels → Growing place more part }
+{}
+
+/// Where a call's own effect takes nothing back, the flows of an edge keep their upstreams, and it stays a leaf of each tunnel.
+pub fn growing_edges_stay_leaves()
+    ensures flows { (place : EdgePlace) (moment now : ℕ) (old new : Control) → old.flows ≡ flows_at place moment old →
+        TakesNoneBack place now old new → FlowsStay old (refreshed place now new) }
+    ensures leaves { (place : EdgePlace) (old new : Control) → TakenStays old new → FlowsStay old new → AreNarrow new →
+        LeavesStay place old new }
 {}

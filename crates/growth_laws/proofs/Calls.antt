@@ -137,17 +137,26 @@ module _ (place : Place) (trees : List Fec) (part : LabelData) (g : Growing plac
   raise_grows now peer =
       alike_grows place trees part (record part { ends = maps.insert part.ends peer (raised_end now) }) refl (λ label. refl) (λ fec h. h) (λ fec h. g.within fec h) g
 
-effect_grows : (place : Place) (now : ℕ) (trees : List Fec) (part : LabelData) (call : Call) → Growing place trees part → TakesNothingBack place trees call
-    → Growing place trees (effect place now part call).0.part × AreMappings trees (effect place now part call).0.puts
-effect_grows place now trees part (Taken from (messages.Mapping fec label)) g may = (mapping_grows place trees part g (branch_to from fec label) (place.is_tree fec) may, tt)
+record Effect (place : Place) (trees : List Fec) (part : LabelData) (new : Stepped) : Type 0 where
+  growing : Growing place trees new.part
+  many : length new.part.labels ≡ length part.labels
+  puts : AreMappings trees new.puts
+
+mapping_many : (part next : LabelData) (t : Bool) → length next.labels ≡ length part.labels → length (cond t next part).labels ≡ length part.labels
+mapping_many part next true e = e
+mapping_many part next false e = refl
+
+effect_grows : (place : Place) (now : ℕ) (trees : List Fec) (part : LabelData) (call : Call) → Growing place trees part → TakesNothingBack place trees call → Effect place trees part (effect place now part call).0
+effect_grows place now trees part (Taken from (messages.Mapping fec label)) g may =
+    record { growing = mapping_grows place trees part g (branch_to from fec label) (place.is_tree fec) may; many = mapping_many part (record part { branches = sets.insert part.branches (branch_to from fec label) }) (place.is_tree fec) refl; puts = tt }
 effect_grows place now trees part (Taken from (messages.Withdraw fec label)) g may = absurd may
 effect_grows place now trees part (Taken from (messages.Release fec label)) g may = absurd may
-effect_grows place now trees part (Taken from (messages.Ignored kind)) g may = (g, tt)
-effect_grows place now trees part (Want fec) g may = (leaf_grows place trees part g fec may, tt)
+effect_grows place now trees part (Taken from (messages.Ignored kind)) g may = record { growing = g; many = refl; puts = tt }
+effect_grows place now trees part (Want fec) g may = record { growing = leaf_grows place trees part g fec may; many = refl; puts = tt }
 effect_grows place now trees part (Unwant fec) g may = absurd may
-effect_grows place now trees part (Raised peer) g may = (raise_grows place trees part g now peer, tt)
+effect_grows place now trees part (Raised peer) g may = record { growing = raise_grows place trees part g now peer; many = refl; puts = tt }
 effect_grows place now trees part (Noticed peer) g may = absurd may
-effect_grows place now trees part Timers g may = (timers_grow place trees part g now, tt)
+effect_grows place now trees part Timers g may = record { growing = timers_grow place trees part g now; many = length-map part.labels (woken now); puts = tt }
 effect_grows place now trees part Rerouted g may = absurd may
 
 -- ---- steps
@@ -156,7 +165,7 @@ pub grows_on : (place : Place) (now : ℕ) (trees : List Fec) (part : LabelData)
 grows_on place now trees part call g may =
     let own = effect place now part call in
     let start = effect_grows place now trees part call g may in
-    let s = settles place trees own.1 own.0 start.0 start.1 in
+    let s = settles place trees own.1 own.0 start.growing start.puts in
     let stepped : label_step place now part call ≡ Some (counted s.new) = ap (option_map counted) s.is in
     let growing : Growing place trees (counted s.new).part =
         alike_grows place trees s.new.part (counted s.new).part refl (λ label. refl) (λ fec h. h) (λ fec h. s.growing.within fec h) s.growing in
@@ -164,6 +173,7 @@ grows_on place now trees part call g may =
       new = counted s.new;
       stepped = stepped;
       growing = growing;
+      many = s.many ∙ start.many;
       kept = λ fec label u p. stays fec label u growing (mapped_then place now part call (counted s.new) label fec u stepped p);
       puts = s.puts;
     }

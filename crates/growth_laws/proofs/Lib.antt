@@ -3,3 +3,8 @@ mod Turns
 mod Calls
 mod Leaves
 mod Flows
+mod Rows
+mod Told
+mod Homes
+mod Entries
+mod Effects

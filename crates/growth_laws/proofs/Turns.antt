@@ -105,18 +105,23 @@ module _ (place : Place) (trees : List Fec) (old new : LabelData) (fec : Fec) (p
 -- ---- a turn
 
 -- behind a turn the node is still growing, and what is put is mappings
-turn_grows : (place : Place) (trees : List Fec) (old : LabelData) (fec : Fec) (new : LabelData) (puts : List Put) → Growing place trees old → Turn place old fec new puts → Growing place trees new × AreMappings trees puts
+turn_grows : (place : Place) (trees : List Fec) (old : LabelData) (fec : Fec) (new : LabelData) (puts : List Put) → Growing place trees old → Turn place old fec new puts → Growing place trees new × AreMappings trees puts × (length new.labels ≡ length old.labels)
 turn_grows place trees old fec new puts g t = by t.how
   where
     tree : (own : Fec) → has_tree new own ≡ has_tree old own
     tree own = rest_tree old new t.rest own
 
-    by : Quiet place old fec new puts ⊎ (Takes place old fec new puts ⊎ Gives place old fec new puts) → Growing place trees new × AreMappings trees puts
+    by : Quiet place old fec new puts ⊎ (Takes place old fec new puts ⊎ Gives place old fec new puts) → Growing place trees new × AreMappings trees puts × (length new.labels ≡ length old.labels)
     by (inl q) = (
       alike_grows place trees old new (ap length q.labels) (λ label. same_uses old new old.labels q.labels label) (λ own h. tree own ∙ h) (λ own h. g.within own (sym (tree own) ∙ h)) g,
       subst (AreMappings trees) (sym q.silent) tt,
+      ap length q.labels,
     )
-    by (inr (inl takes)) = (mapped_grows place trees old new fec puts g tree takes, subst (AreMappings trees) (sym takes.put) (g.within fec takes.tree, tt))
+    by (inr (inl takes)) = (
+      mapped_grows place trees old new fec puts g tree takes,
+      subst (AreMappings trees) (sym takes.put) (g.within fec takes.tree, tt),
+      ap length takes.labels ∙ length-set old.labels (takes.label - 16) (uses.Mapped fec takes.to),
+    )
     by (inr (inr gives)) = absurd (on_it place old fec gives.to (g.needed fec gives.label gives.to gives.was) (g.toward fec gives.label gives.to gives.was) gives.off)
 
 -- ---- a row of turns
@@ -125,10 +130,11 @@ pub record Settles (place : Place) (trees : List Fec) (fecs : List Fec) (old : S
   pub new : Stepped
   pub is : settle_all place fecs old ≡ Some new
   pub growing : Growing place trees new.part
+  pub many : length new.part.labels ≡ length old.part.labels
   pub puts : AreMappings trees new.puts
 
 pub settles : (place : Place) (trees fecs : List Fec) (old : Stepped) → Growing place trees old.part → AreMappings trees old.puts → Settles place trees fecs old
-settles place trees [] old g m = record { new = old; is = refl; growing = g; puts = m }
+settles place trees [] old g m = record { new = old; is = refl; growing = g; many = refl; puts = m }
 settles place trees (fec ∷ more) old g m = by (changed old.part fec (change_of place old.part fec)) refl (λ next. settles place trees more (record { part = next; puts = old.puts ++ put_by fec (change_of place old.part fec) }))
   where
     by : (o : Option LabelData) → changed old.part fec (change_of place old.part fec) ≡ o
@@ -143,5 +149,6 @@ settles place trees (fec ∷ more) old g m = by (changed old.part fec (change_of
           new = behind.new;
           is = ap (λ (o : Option LabelData). o >>? λ new. settle_all place more (record { part = new; puts = old.puts ++ put })) e ∙ behind.is;
           growing = behind.growing;
+          many = behind.many ∙ grows.2;
           puts = behind.puts;
         }

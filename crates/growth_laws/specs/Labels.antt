@@ -50,10 +50,12 @@ abbrev pub IsMappingOf : List Fec → LabelMessage → Type 0
 IsMappingOf trees (messages.Mapping fec label) = Among fec trees
 IsMappingOf trees other = ⊥
 
--- There is a step, and behind it the node is so again. What was mapped stays mapped, and all that is put is mappings of the trees.
+-- There is a step, and behind it the node is so again, with as many labels. What was mapped stays mapped, and all that is put is mappings
+-- of the trees.
 pub record GrowsOn (place : Place) (now : ℕ) (trees : List Fec) (part : LabelData) (call : Call) : Type 0 where
   pub new : Stepped
   pub stepped : label_step place now part call ≡ Some new
   pub growing : Growing place trees new.part
+  pub many : length new.part.labels ≡ length part.labels
   pub kept : (fec : Fec) (label : ℕ) (upstream : NodeId) → Maps part fec label upstream → Maps new.part fec label upstream
   pub puts : AllByRecursion (λ (put : Put). IsMappingOf trees put.message) new.puts

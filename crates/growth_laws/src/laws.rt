@@ -8,6 +8,7 @@ ghost use Rattle.edge_defs.specs.Flows.{flows_at};
 ghost use Rattle.edge_defs.specs.Place.{EdgePlace};
 ghost use Rattle.edge_defs.specs.Steps.{refreshed};
 ghost use Rattle.growth_laws.specs.Edges.{TakenStays, FlowsStay, AreNarrow, TakesNoneBack, LeavesStay};
+ghost use Rattle.growth_laws.specs.Scripts.{GrowingRunsNeverHalt};
 ghost use Rattle.growth_laws.specs.Labels.{Growing, TakesNothingBack, GrowsOn, AreAmong};
 
 /// A node that was never asked to take anything back has a label for each tree that needs one, as long as it has more labels than
@@ -27,4 +28,9 @@ pub fn growing_edges_stay_leaves()
         TakesNoneBack place now old new → FlowsStay old (refreshed place now new) }
     ensures leaves { (place : EdgePlace) (old new : Control) → TakenStays old new → FlowsStay old new → AreNarrow new →
         LeavesStay place old new }
+{}
+
+/// A script that takes nothing back never lacks a label.
+pub fn growing_runs_never_halt()
+    ensures { GrowingRunsNeverHalt }
 {}

@@ -68,7 +68,7 @@ selective_by : (vrf : _) (peer : Addr) (key : Key) (route next : TakenRoute) →
 selective_by vrf peer key route next e =
     ap (λ (v : Value). selective_of key >>? λ found. only_if (is_admitted vrf v.comms) v >>? λ value. tunnel_by peer found.originator value >>? λ fec. Some (record { route = found; fec = fec })) e
 
-abbrev as_learned : TakenRoute → Option ImportedSelective → Option LearnedRoute
+abbrev pub as_learned : TakenRoute → Option ImportedSelective → Option LearnedRoute
 as_learned taken o = elim o [
   | None ↦ None
   | Some imported ↦
@@ -102,20 +102,21 @@ read_again place own edge key route next learned same h = by (imported_selective
           ap (λ (x : ImportedSelective). x.fec) one ∙ ap (λ (r : LearnedRoute). r.fec) is,
         )
 
+-- an inclusive route is no join
+pub inclusive_no_join : (own : OwnVrf) (peer : Addr) (key : Key) (route : TakenRoute) (fec : Fec) → imported_inclusive own.vrf peer (key, route) ≡ Some fec → IsJoinKey key → ⊥
+inclusive_no_join own peer (Mcast Ipv4 (routes.SourceJoin rd source_as source group)) route fec h join = none-some fec h
+inclusive_no_join own peer (Mcast Ipv6 (routes.SourceJoin rd source_as source group)) route fec h join = none-some fec h
+inclusive_no_join own peer (Mcast afi (routes.Intra rd originator)) route fec h join = join
+inclusive_no_join own peer (Mcast afi (routes.Inter rd source_as)) route fec h join = join
+inclusive_no_join own peer (Mcast afi (routes.Selective rd source group originator)) route fec h join = join
+inclusive_no_join own peer (Mcast afi (routes.Leaf key originator)) route fec h join = join
+inclusive_no_join own peer (Mcast afi (routes.Active rd source group)) route fec h join = join
+inclusive_no_join own peer (Mcast afi (routes.SharedJoin rd source_as source group)) route fec h join = join
+inclusive_no_join own peer (Mcast afi (routes.Other kind octets)) route fec h join = join
+inclusive_no_join own peer (Unicast rd prefix) route fec h join = join
+
 module _ (place : EdgePlace) (old new : Control) (taken : TakenStays old new) (flows : FlowsStay old new) (narrow : AreNarrow new) (own : OwnVrf) where
   -- ---- inclusive tunnels
-
-  inclusive_key : (peer : Addr) (key : Key) (route : TakenRoute) (fec : Fec) → imported_inclusive own.vrf peer (key, route) ≡ Some fec → IsJoinKey key → ⊥
-  inclusive_key peer (Mcast Ipv4 (routes.SourceJoin rd source_as source group)) route fec h join = none-some fec h
-  inclusive_key peer (Mcast Ipv6 (routes.SourceJoin rd source_as source group)) route fec h join = none-some fec h
-  inclusive_key peer (Mcast afi (routes.Intra rd originator)) route fec h join = join
-  inclusive_key peer (Mcast afi (routes.Inter rd source_as)) route fec h join = join
-  inclusive_key peer (Mcast afi (routes.Selective rd source group originator)) route fec h join = join
-  inclusive_key peer (Mcast afi (routes.Leaf key originator)) route fec h join = join
-  inclusive_key peer (Mcast afi (routes.Active rd source group)) route fec h join = join
-  inclusive_key peer (Mcast afi (routes.SharedJoin rd source_as source group)) route fec h join = join
-  inclusive_key peer (Mcast afi (routes.Other kind octets)) route fec h join = join
-  inclusive_key peer (Unicast rd prefix) route fec h join = join
 
   inclusive_stays : (fec : Fec) → Among fec (flat_map (inclusive_tunnels place own) (maps.entries old.peers)) → Among fec (flat_map (inclusive_tunnels place own) (maps.entries new.peers))
   inclusive_stays fec a =
@@ -126,7 +127,7 @@ module _ (place : EdgePlace) (old new : Control) (taken : TakenStays old new) (f
       let key : Key = found.0.0 in
       let route : TakenRoute = found.0.1 in
       let got : maps.get (taken_from old peer) key ≡ Some route = ap (λ (t : Taken). maps.get t key) (peer_table old peer table at.1) ∙ entry_get key_total table key route found.1 in
-      let next = taken peer key route (inclusive_key (addr_of place.scenario peer) key route fec found.2) got in
+      let next = taken peer key route (inclusive_no_join own (addr_of place.scenario peer) key route fec found.2) got in
       let read = inclusive_by own.vrf (addr_of place.scenario peer) key route next.0 next.2 ∙ found.2 in
       among_flat_map (inclusive_tunnels place own) (peer, taken_from new peer) fec (maps.entries new.peers) (among_peers new peer (peer_up new peer key next.0 next.1))
       (among_found (imported_inclusive own.vrf (addr_of place.scenario peer)) (key, next.0) fec (maps.entries (taken_from new peer)) (get_entry key_exact (taken_from new peer) key next.0 next.1) read)

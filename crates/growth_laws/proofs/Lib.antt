@@ -8,3 +8,5 @@ mod Told
 mod Homes
 mod Entries
 mod Effects
+mod Within
+mod NodeSteps

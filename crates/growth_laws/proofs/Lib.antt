@@ -10,3 +10,4 @@ mod Entries
 mod Effects
 mod Within
 mod NodeSteps
+mod Networks

@@ -11,3 +11,4 @@ mod Effects
 mod Within
 mod NodeSteps
 mod Networks
+mod Worlds

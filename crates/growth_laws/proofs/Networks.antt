@@ -1,7 +1,8 @@
 -- The network at the level of messages: each call and each message that is taken has a step, and nothing is taken back.
 use Rattle.std.proofs.Common.{◌≡◌, ◌≢◌, ℕ, ◌+◌, ◌<◌, ◌≤◌, ◌==◌, ◌&&◌, ◌||◌, Bool, true, false, cond, List, [], ◌∷◌, ◌++◌, flat_map, length, is_some, Option, Some, None, ◌⊎◌, inl, inr, refl, sym, ap, subst, ◌∙◌, arith}
-use Rattle.std.specs.List.{AllByRecursion}
+use Rattle.std.specs.List.{AllByRecursion, list_any}
 use Rattle.std.specs.FinMap as maps
+use Rattle.std.specs.FinMap.{FinMap}
 use Rattle.std.proofs.lemmas.Bool.{cases_Bool, or_left}
 use Rattle.std.proofs.lemmas.List.{append_assoc}
 use Rattle.std.proofs.lemmas.Option.{none-some}
@@ -31,11 +32,12 @@ use Rattle.session_defs.specs.System.{Put, Stepped, System, MessageNetwork, Behi
 use Rattle.session_defs.specs.declared.direction.Direction.{Direction}
 use Rattle.session_defs.proofs.Lines.{direction_is, own_direction}
 use Rattle.pim_defs.specs.Single.{join_of}
-use Rattle.edge_defs.specs.Edge.{Control, Selected, EdgeData}
+use Rattle.selective_defs.specs.Selective.{free_number}
+use Rattle.edge_defs.specs.Edge.{Control, pattern_cmp, Selected, EdgeData}
 use Rattle.edge_defs.specs.Keys.{Value}
 use Rattle.edge_defs.specs.Place.{EdgePlace, OwnVrf, own_addr, own_vrfs, lsp, tunnel_number}
 use Rattle.edge_defs.specs.Steps as steps
-use Rattle.edge_defs.specs.Steps.{own_label_call, one_call}
+use Rattle.edge_defs.specs.Steps.{is_used, own_label_call, one_call}
 use Rattle.edge_laws.specs.Acts.{message_of}
 use Rattle.network_defs.specs.Counts.{direction, is_bgp_up, is_end_up}
 use Rattle.network_defs.specs.Nodes.{NodeState, Edge, CoreNode, Nodes, place_of, label_place_of, part_of}
@@ -145,6 +147,10 @@ stepped_grows horizon clock trees network n call found g joined x = record {
 
 -- ---- calls
 
+-- the number of a new selection
+abbrev pub new_number : VrfId → FinMap pattern_cmp Selected → ℕ
+new_number vrf old = free_number (λ number. list_any (is_used vrf number) (maps.entries old)) (maps.len old) 1
+
 module _ (horizon clock : ℕ) (trees : List Fec) (network : MessageNetwork Nodes) (g : NetworkGrown horizon clock trees network) (n : NodeId) where
   abbrev nodes : Nodes
   nodes = network.state
@@ -183,17 +189,15 @@ module _ (horizon clock : ℕ) (trees : List Fec) (network : MessageNetwork Node
 
   -- the new selection's tunnel is among the trees
   pub select_called : (vrf : VrfId) (pattern : Pattern) → rank pattern ≡ 4 → maps.get (kept nodes n).selections (record { vrf = vrf; pattern = pattern }) ≡ None
-      → ((made : Selected) → maps.insert (kept nodes n).selections (record { vrf = vrf; pattern = pattern }) made ≡ steps.with_selection nodes.clock vrf pattern (kept nodes n).selections
-          → (own : OwnVrf) → Among own (own_vrfs (place_of nodes n)) → own.id ≡ vrf → Among (lsp (own_addr (place_of nodes n)) (tunnel_number own.vrf made.number)) trees)
+      → ((own : OwnVrf) → Among own (own_vrfs (place_of nodes n)) → own.id ≡ vrf → Among (lsp (own_addr (place_of nodes n)) (tunnel_number own.vrf (new_number vrf (kept nodes n).selections))) trees)
       → NodeGrows horizon trees nodes n (steps.Select vrf pattern) (node_called nodes n (nodes.node n) (steps.Select vrf pattern))
   select_called vrf pattern narrow free there =
       node_grows horizon trees nodes n (steps.Select vrf pattern) g.nodes tt
       (λ edge at. (let control : kept nodes n ≡ edge.control = ap control_of at in
       effect_by (steps.Select vrf pattern) edge.control _
-      (select_grows horizon trees (place_of nodes) (kept nodes) n edge.control (edge_grown edge at) vrf pattern _ narrow
+      (select_grows horizon trees (place_of nodes) (kept nodes) n edge.control (edge_grown edge at) vrf pattern (record { number = new_number vrf edge.control.selections; since = nodes.clock; run = false }) narrow
       (ap (λ (c : Control). maps.get c.selections (record { vrf = vrf; pattern = pattern })) (sym control) ∙ free)
-      (λ own a is. (subst (λ (c : Control). (made : Selected) → maps.insert c.selections (record { vrf = vrf; pattern = pattern }) made ≡ steps.with_selection nodes.clock vrf pattern c.selections
-          → (own : OwnVrf) → Among own (own_vrfs (place_of nodes n)) → own.id ≡ vrf → Among (lsp (own_addr (place_of nodes n)) (tunnel_number own.vrf made.number)) trees) control there) _ refl own a is))))
+      (λ own a is. subst (λ (c : Control). Among (lsp (own_addr (place_of nodes n)) (tunnel_number own.vrf (new_number vrf c.selections))) trees) control (there own a is)))))
 
   pub raise_called : (kind : Kind) (peer : NodeId) → (peer ≡ n → ⊥) → is_end_up kind (nodes.node n) peer ≡ false → NodeGrows horizon trees nodes n (steps.Raised kind peer) (node_called nodes n (nodes.node n) (steps.Raised kind peer))
   raise_called kinds.Ldp peer other down = node_grows horizon trees nodes n (steps.Raised kinds.Ldp peer) g.nodes (tt, tt)

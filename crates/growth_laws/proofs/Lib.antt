@@ -12,3 +12,5 @@ mod Within
 mod NodeSteps
 mod Networks
 mod Worlds
+mod Musts
+mod Runs

@@ -14,3 +14,4 @@ mod Networks
 mod Worlds
 mod Musts
 mod Runs
+mod Starts

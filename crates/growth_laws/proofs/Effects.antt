@@ -1,11 +1,8 @@
 -- What the own effect of each call that takes nothing back makes of what an edge keeps.
-use Rattle.std.proofs.Common.{◌≡◌, ℕ, ◌+◌, ◌<◌, ◌≤◌, ◌==◌, ◌||◌, nat_le, Bool, true, false, cond, fold, List, [], ◌∷◌, is_some, option_map, Option, Some, None, ◌⊎◌, inl, inr, refl, sym, ap, subst, ◌∙◌}
+use Rattle.std.proofs.Common.{◌≡◌, ℕ, ◌+◌, ◌<◌, ◌≤◌, Bool, true, false, cond, fold, List, is_some, option_map, Option, Some, None, ◌⊎◌, inl, inr, refl, sym, ap, subst, ◌∙◌}
 use Rattle.std.specs.Ordering.{eq_by_cmp}
-use Rattle.std.specs.Cmp.{Equal-is}
 use Rattle.std.specs.FinMap as maps
 use Rattle.std.specs.FinMap.{FinMap}
-use Rattle.std.specs.FinSet as sets
-use Rattle.std.proofs.lemmas.Bool.{cases_Bool}
 use Rattle.std.proofs.lemmas.Option.{same_Some, none-some}
 use Rattle.mv_base.specs.Lists.{Among}
 use Rattle.mv_base.specs.Pattern.{rank}
@@ -18,9 +15,7 @@ use Rattle.mldp_fec.specs.declared.fec.Fec.{Fec}
 use Rattle.bgp_attributes.specs.declared.key.Key.{Key}
 use Rattle.bgp_update.specs.Table.{changes_of}
 use Rattle.scenario_defs.specs.Rules.{Rules}
-use Rattle.scenario_defs.specs.declared.event.IfaceEntry.{IfaceEntry}
 use Rattle.scenario_defs.specs.declared.event.JoinEntry.TheVariants as entries
-use Rattle.scenario_defs.specs.declared.event.Kind.TheVariants as kinds
 use Rattle.table_defs.specs.Changes.{key_of, value_of}
 use Rattle.table_defs.specs.declared.change.Change.{Change}
 use Rattle.table_defs.specs.declared.change.Change.TheVariants.{Reach, Unreach}
@@ -28,11 +23,8 @@ use Rattle.label_defs.specs.Keys.{node_cmp}
 use Rattle.label_defs.proofs.KeyLemmas.{node_cases}
 use Rattle.label_defs.proofs.SetLemmas.{put_here, get-changed}
 use Rattle.label_defs.proofs.SetLemmas as sets_of
-use Rattle.pim_joinprune.specs.declared.message.JoinPrune.{JoinPrune}
 use Rattle.pim_defs.specs.Single.{join_of}
-use Rattle.pim_defs.specs.declared.expiry.Expiry.{Expiry}
-use Rattle.edge_defs.specs.Edge.{Note, VrfPattern, pattern_cmp, Selected, TakenRoute, Taken, Control}
-use Rattle.edge_defs.specs.Imported.{taken_from}
+use Rattle.edge_defs.specs.Edge.{VrfPattern, pattern_cmp, Selected, TakenRoute, Taken, Control}
 use Rattle.edge_defs.specs.Keys.{Value, key_cmp, same_value}
 use Rattle.edge_defs.specs.Place.{EdgePlace, OwnVrf, own_addr, own_vrfs, lsp, tunnel_number}
 use Rattle.edge_defs.specs.Steps as steps

@@ -1,15 +1,13 @@
 -- A VRF knows an address by one route: the one home that it has in the VPN.
-use Rattle.std.proofs.Common.{◌≡◌, ℕ, ◌==◌, Bool, true, false, List, [], ◌∷◌, ◌++◌, map, slice_get, Option, Some, None, ◌⊎◌, inl, inr, refl, sym, ap, subst, ◌∙◌}
+use Rattle.std.proofs.Common.{◌≡◌, Bool, true, false, [], map, slice_get, Option, Some, None, inl, inr, refl, sym, ap, subst, ◌∙◌}
 use Rattle.std.specs.List.{flat_map}
 use Rattle.std.specs.FinMap as maps
-use Rattle.std.proofs.lemmas.Bool.Decides.{nat_tests}
 use Rattle.std.proofs.lemmas.Option.{same_Some, none-some}
 use Rattle.mv_base.specs.Lists.{Among}
 use Rattle.mv_base.specs.Number.{◌>>?◌, only_if}
 use Rattle.mv_base.specs.Prefix.{covers}
 use Rattle.mv_base.specs.declared.addr.Addr.{Addr}
 use Rattle.mv_base.specs.declared.ids.NodeId.{NodeId}
-use Rattle.mv_base.specs.declared.ids.SiteId.{SiteId}
 use Rattle.mv_base.specs.declared.ids.VrfId.{VrfId}
 use Rattle.mv_base.specs.declared.prefix.Prefix.{Prefix}
 use Rattle.mv_base.specs.declared.rd.Rd.{Rd}
@@ -26,10 +24,9 @@ use Rattle.choice_defs.specs.Choice.{of_site}
 use Rattle.choice_defs.specs.declared.known_route.KnownRoute.{KnownRoute}
 use Rattle.choice_defs.specs.declared.origin.Origin.TheVariants as origins
 use Rattle.core_walks.specs.Core.{Core}
-use Rattle.edge_defs.specs.Edge.{TakenRoute, Taken, Control, no_control}
-use Rattle.edge_defs.specs.Imported.{found_in, taken_from, join_by, is_admitted}
+use Rattle.edge_defs.specs.Edge.{TakenRoute, Taken, Control}
+use Rattle.edge_defs.specs.Imported.{taken_from, join_by, is_admitted}
 use Rattle.edge_defs.specs.Keys.{Value}
-use Rattle.edge_defs.specs.Originated.{unicast_value}
 use Rattle.edge_defs.specs.Place.{EdgePlace, OwnVrf, addr_of, own_vrfs}
 use Rattle.edge_defs.specs.Upstream.{known_route, known_from, known_routes}
 use Rattle.edge_defs.proofs.KeyLemmas.{key_total}

@@ -1,11 +1,8 @@
 -- The network at the level of messages: each call and each message that is taken has a step, and nothing is taken back.
-use Rattle.std.proofs.Common.{◌≡◌, ◌≢◌, ℕ, ◌+◌, ◌<◌, ◌≤◌, ◌==◌, ◌&&◌, ◌||◌, Bool, true, false, cond, List, [], ◌∷◌, ◌++◌, flat_map, length, is_some, Option, Some, None, ◌⊎◌, inl, inr, refl, sym, ap, subst, ◌∙◌, arith}
+use Rattle.std.proofs.Common.{◌≡◌, ℕ, ◌<◌, Bool, true, false, cond, List, [], ◌∷◌, ◌++◌, length, is_some, Option, Some, None, inl, inr, refl, sym, ap, subst, ◌∙◌, arith}
 use Rattle.std.specs.List.{AllByRecursion, list_any}
 use Rattle.std.specs.FinMap as maps
 use Rattle.std.specs.FinMap.{FinMap}
-use Rattle.std.proofs.lemmas.Bool.{cases_Bool, or_left}
-use Rattle.std.proofs.lemmas.List.{append_assoc}
-use Rattle.std.proofs.lemmas.Option.{none-some}
 use Rattle.mv_base.specs.Lists.{Among}
 use Rattle.mv_base.specs.Number.{◌>>?◌}
 use Rattle.mv_base.specs.Pattern.{rank}
@@ -17,32 +14,29 @@ use Rattle.mv_base.specs.declared.pattern.Pattern.{Pattern}
 use Rattle.mldp_fec.specs.declared.fec.Fec.{Fec}
 use Rattle.mldp_msgs.specs.declared.message.LabelMessage.{LabelMessage}
 use Rattle.mldp_msgs.specs.declared.message.LabelMessage.TheVariants as messages
-use Rattle.bgp_attributes.specs.declared.key.Key.{Key}
 use Rattle.bgp_attributes.specs.declared.update.Message.{Message}
 use Rattle.scenario_defs.specs.declared.event.JoinEntry.TheVariants as entries
 use Rattle.scenario_defs.specs.declared.event.Kind.{Kind}
 use Rattle.scenario_defs.specs.declared.event.Kind.TheVariants as kinds
 use Rattle.scenario_defs.specs.declared.scenario.Scenario.{Scenario}
-use Rattle.table_defs.specs.declared.change.Change.{Change}
-use Rattle.label_defs.specs.LabelData.{Place, LabelData}
+use Rattle.label_defs.specs.LabelData.{Place}
 use Rattle.label_defs.specs.Steps as labels
 use Rattle.session_defs.specs.Message.{SessionMessage, Bgp, Label, same_direction}
 use Rattle.session_defs.specs.Refined.{deliveries}
-use Rattle.session_defs.specs.System.{Put, Stepped, System, MessageNetwork, Behind, messages_over, with_messages, with_step, with_rest, with_earlier, delivered, message_act, message_run, Deliver}
+use Rattle.session_defs.specs.System.{Put, Stepped, System, MessageNetwork, Behind, messages_over, with_messages, with_step, with_rest, with_earlier, delivered, message_run}
 use Rattle.session_defs.specs.declared.direction.Direction.{Direction}
 use Rattle.session_defs.proofs.Lines.{direction_is, own_direction}
 use Rattle.pim_defs.specs.Single.{join_of}
 use Rattle.selective_defs.specs.Selective.{free_number}
 use Rattle.edge_defs.specs.Edge.{Control, pattern_cmp, Selected, EdgeData}
-use Rattle.edge_defs.specs.Keys.{Value}
 use Rattle.edge_defs.specs.Place.{EdgePlace, OwnVrf, own_addr, own_vrfs, lsp, tunnel_number}
 use Rattle.edge_defs.specs.Steps as steps
 use Rattle.edge_defs.specs.Steps.{is_used, own_label_call, one_call}
 use Rattle.edge_laws.specs.Acts.{message_of}
 use Rattle.network_defs.specs.Counts.{direction, is_bgp_up, is_end_up}
-use Rattle.network_defs.specs.Nodes.{NodeState, Edge, CoreNode, Nodes, place_of, label_place_of, part_of}
+use Rattle.network_defs.specs.Nodes.{NodeState, Edge, Nodes, place_of, label_place_of, part_of}
 use Rattle.network_defs.specs.Refusals.{control_of}
-use Rattle.network_defs.specs.System.{NodeCall, Own, call_of, node_called, system}
+use Rattle.network_defs.specs.System.{call_of, node_called}
 use Rattle.network_laws.specs.Honest.{SoundCall, sound_system}
 use Rattle.network_laws.proofs.Lists.{each_append, each_flat, each_weaker}
 use Rattle.rule_laws.proofs.Deliveries.{waits}
@@ -50,7 +44,7 @@ use Rattle.growth_laws.specs.Labels.{AreAmong, IsMappingOf, TakesNothingBack}
 use Rattle.growth_laws.proofs.Calls.{grows_with}
 use Rattle.growth_laws.proofs.Effects.{Grown, GrowsTo, itself_grows, update_grows, raise_grows, join_grows, timers_grow, select_grows}
 use Rattle.growth_laws.proofs.NodeSteps.{kept, NodesGrown, IsGrownMessage, IsGrownPut, EffectIs, NodeGrows, node_grows}
-use Rattle.growth_laws.proofs.Told.{SaysOn, IsPicked, IsTrue, true_on}
+use Rattle.growth_laws.proofs.Told.{SaysOn, IsPicked, true_on}
 
 -- ---- what is kept
 

@@ -1,12 +1,11 @@
 -- A call of a node that takes nothing back has a step, behind which all nodes are growing again.
 use Rattle.std.proofs.Common.{◌≡◌, ℕ, ◌≤◌, ◌==◌, Bool, true, false, cond, List, [], ◌∷◌, ◌++◌, map, flat_map, length, is_some, Option, Some, None, ◌⊎◌, inl, inr, refl, sym, ap, subst, ◌∙◌}
-use Rattle.std.specs.List.{AllByRecursion, filter}
-use Rattle.label_defs.specs.Members.{in_order}
+use Rattle.std.specs.List.{AllByRecursion}
 use Rattle.std.specs.FinMap as maps
 use Rattle.std.specs.FinMap.{FinMap}
 use Rattle.std.specs.FinSet as sets
 use Rattle.std.proofs.lemmas.Bool.{cases_Bool}
-use Rattle.std.proofs.lemmas.Option.{same_Some, none-some}
+use Rattle.std.proofs.lemmas.Option.{none-some}
 use Rattle.mv_base.specs.Lists.{Among}
 use Rattle.mv_base.specs.Number.{◌>>?◌}
 use Rattle.mv_base.specs.declared.addr.Addr.{Addr}
@@ -16,7 +15,6 @@ use Rattle.bgp_attributes.specs.declared.key.Key.{Key}
 use Rattle.scenario_defs.specs.Rules.{Rules}
 use Rattle.scenario_defs.specs.declared.event.Kind.{Kind}
 use Rattle.scenario_defs.specs.declared.event.Kind.TheVariants as kinds
-use Rattle.scenario_defs.specs.declared.scenario.Scenario.{Scenario}
 use Rattle.table_defs.specs.declared.change.Change.{Change}
 use Rattle.label_defs.specs.Keys.{node_cmp}
 use Rattle.label_defs.specs.LabelData as label_data
@@ -46,17 +44,16 @@ use Rattle.mvpn_model.specs.Sessions.{edges}
 use Rattle.network_defs.specs.Counts.{is_bgp_up, is_end_up}
 use Rattle.network_defs.specs.Nodes.{NodeState, Edge, CoreNode, Nodes, with_node, place_of, label_place_of, core_at, part_of}
 use Rattle.network_defs.specs.Refusals.{control_of}
-use Rattle.network_defs.specs.System.{edge_stepped, core_stepped, core_called, node_called, unchanged}
+use Rattle.network_defs.specs.System.{core_called, node_called, unchanged}
 use Rattle.network_laws.proofs.Lists.{each_append, each_map, each_flat, each_of, each_weaker}
-use Rattle.held_laws.specs.Held.{IsJoinKey}
-use Rattle.growth_laws.specs.Edges.{TakenStays, FlowsStay, EntriesStay, AreLasting, AreNarrow, KnowsOneOrigin, TakesNoneBack, LeavesStay}
+use Rattle.growth_laws.specs.Edges.{TakenStays, FlowsStay, EntriesStay, AreNarrow, TakesNoneBack, LeavesStay}
 use Rattle.growth_laws.specs.Labels.{Growing, IsMappingOf, TakesNothingBack, GrowsOn}
 use Rattle.growth_laws.specs.Scripts.{HasOneHome}
 use Rattle.growth_laws.proofs.Calls.{grows_on}
 use Rattle.growth_laws.proofs.Effects.{Grown}
 use Rattle.growth_laws.proofs.Entries.{sooner}
 use Rattle.growth_laws.proofs.Flows.{flows_stay}
-use Rattle.growth_laws.proofs.Homes.{TakenIsTold, one_origin}
+use Rattle.growth_laws.proofs.Homes.{one_origin}
 use Rattle.growth_laws.proofs.Leaves.{leaves_stay}
 use Rattle.growth_laws.proofs.Rows.{step_up, RowGrows, row_grows}
 use Rattle.growth_laws.proofs.Told.{SaysOn, says_itself, says_on, HasInclusive, told_narrow, any_narrow, IsTrue, puts_are_true}

@@ -1,16 +1,14 @@
 -- A row of label steps that take nothing back.
-use Rattle.std.proofs.Common.{◌≡◌, ℕ, Bool, true, false, cond, List, [], ◌∷◌, ◌++◌, length, is_some, option_map, Option, Some, None, ◌⊎◌, inl, inr, refl, sym, ap, subst, ◌∙◌}
+use Rattle.std.proofs.Common.{◌≡◌, ℕ, Bool, true, false, cond, List, [], ◌∷◌, length, is_some, option_map, Option, Some, None, ◌⊎◌, inl, inr, refl, sym, ap, ◌∙◌}
 use Rattle.std.specs.List.{AllByRecursion}
 use Rattle.std.specs.Ordering.{eq_by_cmp}
 use Rattle.std.specs.Cmp.{Equal-is}
 use Rattle.std.specs.FinMap as maps
 use Rattle.std.specs.FinMap.{FinMap}
-use Rattle.std.proofs.lemmas.Bool.{cases_Bool}
 use Rattle.mv_base.specs.Lists.{Among}
 use Rattle.mv_base.specs.Number.{◌>>?◌}
 use Rattle.mv_base.specs.declared.ids.NodeId.{NodeId}
 use Rattle.mldp_fec.specs.declared.fec.Fec.{Fec}
-use Rattle.mldp_msgs.specs.declared.message.LabelMessage.{LabelMessage}
 use Rattle.label_defs.specs.Keys.{node_cmp}
 use Rattle.label_defs.specs.LabelData.{Place, LabelData, is_up}
 use Rattle.label_defs.specs.Steps as labels
@@ -22,7 +20,7 @@ use Rattle.label_defs.proofs.KeyLemmas.{node_cmp_total, node_cmp_exact}
 use Rattle.label_defs.proofs.TimerLemmas.{timed_end}
 use Rattle.edge_defs.specs.Place.{EdgePlace, label_place}
 use Rattle.edge_defs.specs.Steps.{LabelStep, label_row, part_after}
-use Rattle.growth_laws.specs.Labels.{Growing, TakesNothingBack, GrowsOn}
+use Rattle.growth_laws.specs.Labels.{Growing, TakesNothingBack}
 use Rattle.growth_laws.proofs.Turns.{AreMappings}
 use Rattle.growth_laws.proofs.Calls.{grows_on}
 

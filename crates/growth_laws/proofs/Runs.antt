@@ -1,17 +1,12 @@
 -- Each event that takes nothing back is done, and so are those of a script.
-use Rattle.std.proofs.Common.{◌≡◌, ◌≢◌, ℕ, zero, suc, ◌+◌, ◌<◌, ◌≤◌, ◌==◌, nat_le, ◌&&◌, ◌||◌, not, Bool, true, false, cond, List, [], ◌∷◌, ◌++◌, map, flat_map, length, replicate, slice_get, sum_by, count_by, is_some, Option, Some, None, inl, inr, refl, sym, ap, subst, ◌∙◌, arith, le_refl}
+use Rattle.std.proofs.Common.{◌≡◌, ◌≢◌, ℕ, zero, suc, ◌+◌, ◌<◌, ◌≤◌, nat_le, ◌||◌, Bool, true, false, cond, List, [], ◌∷◌, ◌++◌, map, flat_map, length, replicate, slice_get, sum_by, count_by, is_some, Option, Some, None, inl, inr, refl, sym, ap, subst, ◌∙◌, arith}
 use Rattle.std.specs.List.{AllByRecursion}
-use Rattle.std.specs.Option.{option_or}
 use Rattle.std.specs.FinMap as maps
-use Rattle.std.specs.FinMap.{FinMap}
 use Rattle.std.proofs.lemmas.Bool.{false_from_ne_true}
-use Rattle.std.proofs.lemmas.List.{length-map}
 use Rattle.std.proofs.lemmas.List.Sums.{sum_by-cons}
-use Rattle.std.proofs.lemmas.Option.{none-some, same_Some}
-use Rattle.mv_base.specs.Lists.{Among}
+use Rattle.std.proofs.lemmas.Option.{same_Some}
 use Rattle.mv_base.specs.Pattern.{rank}
 use Rattle.mv_base.specs.declared.addr.Addr.{Addr}
-use Rattle.mv_base.specs.declared.addr.Addr.TheVariants.{V4}
 use Rattle.mv_base.specs.declared.ids.IfaceId.{IfaceId}
 use Rattle.mv_base.specs.declared.ids.NodeId.{NodeId}
 use Rattle.mv_base.specs.declared.ids.SiteId.{SiteId}
@@ -21,16 +16,13 @@ use Rattle.mldp_fec.specs.declared.fec.Fec.{Fec}
 use Rattle.scenario_defs.specs.Vpn.{edge_of, entered}
 use Rattle.scenario_defs.specs.declared.event.Event.{Event}
 use Rattle.scenario_defs.specs.declared.event.Event.TheVariants as events
-use Rattle.scenario_defs.specs.declared.event.JoinEntry.{JoinEntry}
 use Rattle.scenario_defs.specs.declared.event.JoinEntry.TheVariants as entries
 use Rattle.scenario_defs.specs.declared.event.Kind.{Kind}
-use Rattle.scenario_defs.specs.declared.event.Kind.TheVariants as kinds
 use Rattle.scenario_defs.specs.declared.event.Timed.{Timed}
 use Rattle.scenario_defs.specs.declared.report.Refusal.{Refusal}
 use Rattle.scenario_defs.specs.declared.report.Refusal.TheVariants as refusals
 use Rattle.scenario_defs.specs.declared.report.ReportLine.TheVariants as lines
 use Rattle.scenario_defs.specs.declared.scenario.Scenario.{Scenario}
-use Rattle.scenario_defs.specs.declared.scenario.Node.{Node}
 use Rattle.scenario_defs.specs.declared.scenario.Vrf.{Vrf}
 use Rattle.session_defs.specs.Refined.{seen}
 use Rattle.session_defs.specs.declared.direction.Direction.{Direction}
@@ -40,28 +32,25 @@ use Rattle.mvpn_model.specs.Packet.{packet}
 use Rattle.mvpn_model.specs.Packets.{source_in, group_in}
 use Rattle.mvpn_model.specs.Sessions.{sessions}
 use Rattle.mvpn_model.specs.declared.session.Session.{Session}
-use Rattle.edge_defs.specs.Edge.{Control}
-use Rattle.edge_defs.specs.Place.{OwnVrf, addr_of, own_vrfs, lsp, tunnel_number}
+use Rattle.edge_defs.specs.Place.{addr_of, lsp, tunnel_number}
 use Rattle.edge_defs.specs.Steps as steps
 use Rattle.calm_laws.proofs.Vrfs.{own_at}
 use Rattle.network_defs.specs.Acts.{Act, Tick, Timers, Move, Notice, RaiseFirst, RaiseSecond, At, Enter, Land, Drop, Tell, act}
-use Rattle.network_defs.specs.Counts.{direction, directions, link_ways, all_nodes, is_joined, is_up, is_end_up}
-use Rattle.network_defs.specs.Events.{Happened, Outcome, Done, Halted, row, each, times, raise_acts, notices, healed, turn, settled, landings, drain_round, drained, sent, at_edge, with_message, done}
+use Rattle.network_defs.specs.Counts.{direction, directions, link_ways, all_nodes, is_joined, is_up}
+use Rattle.network_defs.specs.Events.{Happened, Outcome, Done, Halted, row, each, times, raise_acts, notices, healed, turn, settled, landings, drain_round, sent, at_edge, done}
 use Rattle.network_defs.specs.Nodes.{place_of}
 use Rattle.network_defs.specs.Refusals.{refused_if, selection_limit, edge_of_vrf, control_at, is_selected, selections_at, are_sessions_full, refusal}
-use Rattle.network_defs.specs.Run.{Traced, outcome, traced, Runs}
-use Rattle.network_defs.specs.World.{World, Datagram, scenario_of}
+use Rattle.network_defs.specs.Run.{Traced, outcome, Runs}
+use Rattle.network_defs.specs.World.{World, scenario_of}
 use Rattle.network_defs.proofs.Kept.{enter_keeps, land_keeps}
-use Rattle.network_laws.specs.Sound.{SoundScenario, Sound}
+use Rattle.network_laws.specs.Sound.{SoundScenario}
 use Rattle.network_laws.specs.Honest.{IsSoundCall, IsSoundEvent}
 use Rattle.network_laws.proofs.Lists.{each_of, each_map, each_flat, each_weaker}
 use Rattle.network_laws.proofs.RunMessages.{join_is_sound}
 use Rattle.network_laws.proofs.RunNodes.{IsNode, IsFoundNode, nodes_within, edge_within, vrf_within}
 use Rattle.rule_laws.proofs.Events.{IsFitSession, sessions_fit, not_refused, or_not_refused}
-use Rattle.growth_laws.specs.Edges.{IsSourceEntry}
 use Rattle.growth_laws.specs.Scripts.{OnlyAdds, ticks_of, is_selection}
-use Rattle.growth_laws.specs.Labels.{AreAmong}
-use Rattle.growth_laws.proofs.Musts.{Comes, comes_as, then_comes, first_comes, row_comes, alone_comes, each_comes, times_comes}
+use Rattle.growth_laws.proofs.Musts.{Comes, then_comes, first_comes, row_comes, alone_comes, each_comes, times_comes}
 use Rattle.growth_laws.proofs.Networks.{NetworkGrown, network_more, join_called, new_number, select_called}
 use Rattle.growth_laws.proofs.NodeSteps.{kept}
 use Rattle.growth_laws.proofs.Worlds.{OctetsGrown, WorldGrown, Must, called_must, timers_must, world_moves, Half, first_must, second_must, ticks_must}

@@ -1,5 +1,5 @@
 -- A network in which nothing has happened, and scripts that never halt.
-use Rattle.std.proofs.Common.{◌≡◌, ℕ, ◌+◌, ◌<◌, ◌≤◌, Bool, true, false, cond, List, [], ◌∷◌, ◌++◌, map, length, slice_get, sum_by, count_by, zero, suc, is_some, Option, Some, None, inl, inr, refl, sym, ap, subst, ◌∙◌, arith, le_refl}
+use Rattle.std.proofs.Common.{◌≡◌, ℕ, ◌<◌, Bool, true, false, cond, List, [], ◌∷◌, map, length, slice_get, sum_by, zero, suc, is_some, Option, Some, None, inl, inr, refl, sym, ap, subst, ◌∙◌, arith}
 use Rattle.std.specs.List.{AllByRecursion}
 use Rattle.std.specs.FinMap as maps
 use Rattle.std.proofs.lemmas.List.{length-map, length-replicate}
@@ -9,7 +9,6 @@ use Rattle.mv_base.specs.declared.addr.Addr.{Addr}
 use Rattle.mv_base.specs.declared.addr.Addr.TheVariants.{V4}
 use Rattle.mv_base.specs.declared.ids.NodeId.{NodeId}
 use Rattle.mldp_fec.specs.declared.fec.Fec.{Fec}
-use Rattle.bgp_attributes.specs.declared.key.Key.{Key}
 use Rattle.scenario_defs.specs.Rules.{Rules, IsEventOf, ScriptRules}
 use Rattle.scenario_defs.specs.declared.event.Kind.{Kind}
 use Rattle.scenario_defs.specs.declared.event.Kind.TheVariants as kinds
@@ -22,39 +21,34 @@ use Rattle.label_defs.specs.Keys.{node_cmp}
 use Rattle.label_defs.specs.LabelData as label_data
 use Rattle.label_defs.specs.LabelData.{LabelData}
 use Rattle.label_defs.specs.declared.end.End.{End}
-use Rattle.session_defs.specs.Refined.{seen}
-use Rattle.session_defs.specs.declared.direction.Direction.{Direction}
-use Rattle.session_defs.specs.Message.{SessionMessage}
-use Rattle.session_defs.specs.System.{MessageNetwork}
 use Rattle.pim_defs.specs.Entries.{entry_cmp}
-use Rattle.pim_defs.specs.declared.expiry.Expiry.{Expiry}
 use Rattle.edge_defs.specs.Edge as edges
 use Rattle.edge_defs.specs.Edge.{pattern_cmp, Selected, TakenRoute, Taken, Control, no_control}
-use Rattle.edge_defs.specs.Imported.{taken_from}
 use Rattle.edge_defs.specs.Keys.{key_cmp}
-use Rattle.edge_defs.specs.Place.{EdgePlace, OwnVrf, addr_of, own_vrfs, lsp, tunnel_number}
+use Rattle.edge_defs.specs.Place.{EdgePlace, addr_of, lsp, tunnel_number}
 use Rattle.edge_laws.proofs.Taken.{table_in}
 use Rattle.calm_laws.proofs.Flows.{Stands, fresh_stands}
 use Rattle.calm_laws.proofs.Lists.{among_map}
 use Rattle.calm_laws.proofs.Vrfs.{own_at, own_edge}
 use Rattle.mvpn_model.specs.Report.{Entry}
-use Rattle.network_defs.specs.Costs.{Cores}
+use Rattle.network_defs.specs.Costs.{Cores, AreCoresOf}
 use Rattle.network_defs.specs.Counts.{is_end_up}
-use Rattle.network_defs.specs.Nodes.{NodeState, Edge, CoreNode, Nodes, is_edge, fresh_node, start_nodes, place_of, label_place_of, part_of}
+use Rattle.network_defs.specs.Nodes.{Edge, CoreNode, Nodes, is_edge, fresh_node, start_nodes, place_of, label_place_of, part_of}
 use Rattle.network_defs.specs.Refusals.{control_of}
-use Rattle.network_defs.specs.Run.{Halts}
+use Rattle.network_defs.specs.Run.{Traced, Run, Halts}
 use Rattle.network_defs.specs.World.{World, start}
 use Rattle.network_laws.specs.Sound.{SoundScenario}
 use Rattle.network_laws.specs.Honest.{IsSoundEvent}
 use Rattle.network_laws.proofs.NodeCalls.{start_sound}
 use Rattle.run_laws.specs.Octets.{EventHasOctets, ScriptHasOctets}
+use Rattle.run_laws.specs.Runs.{RunsOrHalts, AllRun, OneHalts}
+use Rattle.run_laws.proofs.Halting.{either}
 use Rattle.run_laws.proofs.SoundEvents.{sound_event}
 use Rattle.growth_laws.specs.Labels.{Growing}
-use Rattle.growth_laws.specs.Scripts.{HasOneHome, ticks_of, is_selection, OnlyGrows}
+use Rattle.growth_laws.specs.Scripts.{HasOneHome, ticks_of, OnlyGrows}
 use Rattle.growth_laws.proofs.Calls.{fresh_grows}
 use Rattle.growth_laws.proofs.Effects.{Grown}
-use Rattle.growth_laws.proofs.Networks.{NetworkGrown}
-use Rattle.growth_laws.proofs.NodeSteps.{kept, NodesGrown}
+use Rattle.growth_laws.proofs.NodeSteps.{kept}
 use Rattle.growth_laws.proofs.Runs.{Left, never_halts}
 use Rattle.growth_laws.proofs.Told.{HasInclusive}
 use Rattle.growth_laws.proofs.Worlds.{WorldGrown}
@@ -172,3 +166,11 @@ growing_never_halt cores script report node rules octets grows halt =
     never_halts scenario horizon grows.short halt.before halt.timed halt.after 0 0 trees (start scenario cores) halt.trace halt.world halt.acts node
     (start_grown scenario cores horizon (record { rules = rules.scenario; octets = octets.scenario }) grows.home (omega (arith, room)))
     (subst (Left scenario horizon 0 trees) halt.events left) halt.run halt.lacks
+
+-- all events run, since none halts
+pub growing_run : (cores : Cores) (script : Script) → AreCoresOf script.scenario cores → ScriptRules script → ScriptHasOctets script → OnlyGrows script → (trace : List Traced) × (new : World) × Run cores script script.events trace new
+growing_run cores script of_scenario rules octets grows = by (either cores script script.events of_scenario)
+  where
+    by : RunsOrHalts cores script → (trace : List Traced) × (new : World) × Run cores script script.events trace new
+    by (AllRun trace new run) = (trace, new, run)
+    by (OneHalts report node halt) = absurd (growing_never_halt cores script report node rules octets grows halt)

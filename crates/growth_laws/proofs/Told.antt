@@ -1,14 +1,12 @@
 -- What edges say of themselves: it stays, its tunnels are among the trees, and its selective routes have no wildcard.
-use Rattle.std.proofs.Common.{◌≡◌, ℕ, ◌+◌, ◌==◌, ◌&&◌, Bool, true, false, cond, not, List, [], ◌∷◌, ◌++◌, map, is_some, is_none, Option, Some, None, ◌⊎◌, inl, inr, refl, sym, ap, subst, ◌∙◌}
+use Rattle.std.proofs.Common.{◌≡◌, ℕ, Bool, true, false, cond, not, List, [], is_some, is_none, Option, Some, None, ◌⊎◌, inl, inr, refl, sym, ap, subst, ◌∙◌}
 use Rattle.std.specs.List.{AllByRecursion}
 use Rattle.std.specs.Option.{option_eq}
 use Rattle.std.specs.FinMap as maps
-use Rattle.std.specs.FinMap.{FinMap}
 use Rattle.std.specs.FinSet as sets
 use Rattle.std.proofs.lemmas.Option.{same_Some, none-some}
 use Rattle.mv_base.specs.Lists.{Among}
-use Rattle.mv_base.specs.Pattern.{rank_of, rank}
-use Rattle.mv_base.specs.declared.ids.IfaceId.{IfaceId}
+use Rattle.mv_base.specs.Pattern.{rank}
 use Rattle.mv_base.specs.declared.ids.NodeId.{NodeId}
 use Rattle.mv_base.specs.declared.pattern.Pattern.{Pattern}
 use Rattle.mldp_fec.specs.declared.fec.Fec.{Fec}
@@ -19,15 +17,15 @@ use Rattle.scenario_defs.specs.Rules.{Rules}
 use Rattle.table_defs.specs.Changes.{lost, news, withdrawals, advertisements, changes}
 use Rattle.table_defs.specs.declared.change.Change.{Change}
 use Rattle.table_defs.specs.declared.change.Change.TheVariants.{Reach, Unreach}
-use Rattle.edge_defs.specs.Edge.{Note, VrfPattern, Selected, TakenRoute, Control}
+use Rattle.edge_defs.specs.Edge.{Note, VrfPattern, Selected, Control}
 use Rattle.edge_defs.specs.Held.{held_for, told, put_to}
-use Rattle.edge_defs.specs.Imported.{lsp_of, taken_from}
+use Rattle.edge_defs.specs.Imported.{lsp_of}
 use Rattle.edge_defs.specs.Keys.{Value, Table, key_cmp, same_value}
-use Rattle.edge_defs.specs.Originated.{inclusive_key, selective_key, active_key, tunnel_value, plain_value, unicast_value}
-use Rattle.edge_defs.specs.Place.{EdgePlace, OwnVrf, addr_of, own_addr, own_vrfs, lsp, tunnel_number}
+use Rattle.edge_defs.specs.Originated.{tunnel_value}
+use Rattle.edge_defs.specs.Place.{EdgePlace, OwnVrf, own_addr, own_vrfs, lsp, tunnel_number}
 use Rattle.edge_defs.proofs.KeyLemmas.{key_total, key_exact}
 use Rattle.held_laws.specs.Held.{IsJoinKey, IsOriginated, Inclusive, Unicast, Selective, Active, Originates}
-use Rattle.held_laws.proofs.Originated.{held_both, no_join}
+use Rattle.held_laws.proofs.Originated.{held_both}
 use Rattle.network_laws.proofs.Lists.{each_append, each_map}
 use Rattle.network_laws.proofs.Maps.{all_entries, kept_is}
 use Rattle.growth_laws.specs.Edges.{IsNarrow}

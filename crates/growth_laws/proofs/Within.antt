@@ -1,5 +1,5 @@
 -- The tunnels of which an edge is to be a leaf are among the trees, and each change of its leaves is one leaf more.
-use Rattle.std.proofs.Common.{◌≡◌, ℕ, ◌&&◌, Bool, true, false, cond, not, List, [], ◌∷◌, ◌++◌, map, filter, flat_map, Option, Some, None, ◌⊎◌, inl, inr, refl, sym, ap, subst, ◌∙◌}
+use Rattle.std.proofs.Common.{◌≡◌, ◌&&◌, Bool, true, false, cond, not, List, map, filter, flat_map, Option, Some, None, ◌⊎◌, inl, inr, refl, sym, ap, subst, ◌∙◌}
 use Rattle.std.specs.List.{AllByRecursion}
 use Rattle.std.specs.FinMap as maps
 use Rattle.std.specs.FinSet as sets
@@ -11,9 +11,7 @@ use Rattle.mv_base.specs.Number.{◌>>?◌, only_if}
 use Rattle.mv_base.specs.declared.addr.Addr.{Addr}
 use Rattle.mv_base.specs.declared.ids.NodeId.{NodeId}
 use Rattle.mldp_fec.specs.declared.fec.Fec.{Fec}
-use Rattle.mvpn_nlri.specs.declared.route.Route.TheVariants as routes
 use Rattle.bgp_attributes.specs.declared.key.Key.{Key}
-use Rattle.bgp_attributes.specs.declared.key.Key.TheVariants.{Mcast, Unicast}
 use Rattle.scenario_defs.specs.declared.scenario.Vrf.{Vrf}
 use Rattle.label_defs.specs.Keys.{fec_cmp}
 use Rattle.label_defs.specs.LabelData.{Place}
@@ -24,20 +22,19 @@ use Rattle.label_defs.proofs.MemberLemmas.{each_in_order}
 use Rattle.selective_defs.specs.Selective.{is_wanted, wanted}
 use Rattle.selective_defs.specs.declared.learned_route.LearnedRoute.{LearnedRoute}
 use Rattle.edge_defs.specs.Edge.{VrfFlow, Upstream, Site, Remote, TakenRoute, Taken, Control}
-use Rattle.edge_defs.specs.Imported.{ImportedSelective, SelectiveRoute, found_in, taken_from, inclusive_of, selective_of, lsp_of, tunnel_by, is_admitted, imported_inclusive, imported_selective}
+use Rattle.edge_defs.specs.Imported.{ImportedSelective, SelectiveRoute, taken_from, inclusive_of, selective_of, lsp_of, tunnel_by, is_admitted, imported_inclusive, imported_selective}
 use Rattle.edge_defs.specs.Keys.{Value}
-use Rattle.edge_defs.specs.Place.{EdgePlace, OwnVrf, addr_of, own_vrfs}
+use Rattle.edge_defs.specs.Place.{EdgePlace, OwnVrf, addr_of}
 use Rattle.edge_defs.specs.Steps.{changed_leaves}
-use Rattle.edge_defs.specs.Tunnels.{learned_route, learned_routes, inclusive_tunnels, flow_tunnels, flows_of, tunnels_of, leaves}
+use Rattle.edge_defs.specs.Tunnels.{learned_route, learned_routes, inclusive_tunnels, flow_tunnels, flows_of, leaves}
 use Rattle.edge_defs.proofs.KeyLemmas.{key_total}
 use Rattle.calm_laws.proofs.Lists.{among_either, map_among, flat_map_among, filter_among, found_among}
 use Rattle.calm_laws.proofs.Maps.{entry_get}
 use Rattle.calm_laws.proofs.Imports.{learned_of}
 use Rattle.calm_laws.proofs.Tables.{peer_table}
 use Rattle.calm_laws.proofs.Upstreams.{chained}
-use Rattle.held_laws.specs.Held.{IsJoinKey, Originates}
-use Rattle.network_laws.proofs.Lists.{each_map, each_filter, each_filtered, each_weaker}
-use Rattle.growth_laws.specs.Edges.{LeavesStay}
+use Rattle.held_laws.specs.Held.{IsJoinKey}
+use Rattle.network_laws.proofs.Lists.{each_map, each_filter}
 use Rattle.growth_laws.specs.Labels.{TakesNothingBack}
 use Rattle.growth_laws.proofs.Homes.{TakenIsTold}
 use Rattle.growth_laws.proofs.Leaves.{of_leaf, as_learned, inclusive_no_join}

@@ -14,31 +14,30 @@ use Rattle.scenario_defs.specs.declared.event.Kind.TheVariants as kinds
 use Rattle.scenario_defs.specs.declared.report.ReportLine.{ReportLine}
 use Rattle.scenario_defs.specs.declared.report.ReportLine.TheVariants as lines
 use Rattle.scenario_defs.specs.declared.scenario.Scenario.{Scenario}
-use Rattle.label_defs.specs.Between.{is_between}
 use Rattle.label_defs.proofs.BetweenLemmas.{between_swap}
 use Rattle.label_defs.proofs.KeyLemmas.{node_itself}
 use Rattle.session_defs.specs.Message.{SessionMessage, same_direction, front_of}
 use Rattle.session_defs.specs.Octets as octets
 use Rattle.session_defs.specs.Octets.{OctetNetwork, OctetAct, with_octets, with_step, all_taken, moved, octet_run}
-use Rattle.session_defs.specs.Refined.{IsLine, AreLines, seen, ArePut, Keeps, deliveries}
-use Rattle.session_defs.specs.System.{Put, Stepped, MessageNetwork, Behind, messages_over, with_messages, with_earlier, message_run}
+use Rattle.session_defs.specs.Refined.{IsLine, AreLines, seen, Keeps, deliveries}
+use Rattle.session_defs.specs.System.{Put, Stepped, MessageNetwork, Behind, with_messages, with_earlier, message_run}
 use Rattle.session_defs.specs.declared.direction.Direction.{Direction}
 use Rattle.session_defs.proofs.Deliveries.{IsSeen, with_news, news_are}
 use Rattle.session_defs.proofs.Lines.{line_joined}
 use Rattle.session_defs.proofs.Moves.{moved_seen}
 use Rattle.edge_defs.specs.Steps as steps
 use Rattle.calm_laws.proofs.Flows.{later_stands}
-use Rattle.network_defs.specs.Acts.{Act, Tick, Timers, Move, RaiseFirst, RaiseSecond, At, Acted, with_network, is_of_session, with_aged, act}
+use Rattle.network_defs.specs.Acts.{Tick, Timers, Move, RaiseFirst, RaiseSecond, At, Acted, with_network, is_of_session, with_aged, act}
 use Rattle.network_defs.specs.Counts.{direction, is_end_up}
 use Rattle.network_defs.specs.Nodes.{Nodes, place_of}
-use Rattle.network_defs.specs.System.{NodeCall, Own, Elapse, node_called, system, unchanged}
+use Rattle.network_defs.specs.System.{Own, Elapse, node_called, system, unchanged}
 use Rattle.network_defs.specs.World.{World}
 use Rattle.network_laws.specs.Sound.{Sound}
 use Rattle.network_laws.specs.Honest.{IsSoundCall, IsSoundNodeCall, sound_system}
 use Rattle.network_laws.proofs.Lists.{each_append}
 use Rattle.network_laws.proofs.Nodes.{honest_nodes}
 use Rattle.network_laws.proofs.RunActs.{taken_alike}
-use Rattle.growth_laws.proofs.Networks.{NetworkGrown, RaisesJoined, stepped_grows, timers_called, raise_called, DeliversOn, delivers_on}
+use Rattle.growth_laws.proofs.Networks.{NetworkGrown, RaisesJoined, stepped_grows, timers_called, raise_called, delivers_on}
 use Rattle.growth_laws.proofs.NodeSteps.{kept, IsGrownMessage, NodeGrows}
 
 -- ---- what is kept, in octets

@@ -7,8 +7,14 @@ ghost use Rattle.edge_defs.specs.Edge.{Control};
 ghost use Rattle.edge_defs.specs.Flows.{flows_at};
 ghost use Rattle.edge_defs.specs.Place.{EdgePlace};
 ghost use Rattle.edge_defs.specs.Steps.{refreshed};
+ghost use Rattle.scenario_defs.specs.Rules.{ScriptRules};
+ghost use Rattle.scenario_defs.specs.declared.event.Script.{Script};
+ghost use Rattle.network_defs.specs.Costs.{Cores, AreCoresOf};
+ghost use Rattle.network_defs.specs.Run.{Traced, Run};
+ghost use Rattle.network_defs.specs.World.{World};
+ghost use Rattle.run_laws.specs.Octets.{ScriptHasOctets};
 ghost use Rattle.growth_laws.specs.Edges.{TakenStays, FlowsStay, AreNarrow, TakesNoneBack, LeavesStay};
-ghost use Rattle.growth_laws.specs.Scripts.{GrowingRunsNeverHalt};
+ghost use Rattle.growth_laws.specs.Scripts.{OnlyGrows, GrowingRunsNeverHalt};
 ghost use Rattle.growth_laws.specs.Labels.{Growing, TakesNothingBack, GrowsOn, AreAmong};
 
 /// A node that was never asked to take anything back has a label for each tree that needs one, as long as it has more labels than
@@ -30,7 +36,9 @@ pub fn growing_edges_stay_leaves()
         LeavesStay place old new }
 {}
 
-/// A script that takes nothing back never lacks a label.
+/// A script that takes nothing back never lacks a label at any node. So all its events run, by the cores of its scenario.
 pub fn growing_runs_never_halt()
-    ensures { GrowingRunsNeverHalt }
+    ensures no_halt { GrowingRunsNeverHalt }
+    ensures run { (cores : Cores) (script : Script) → AreCoresOf script.scenario cores → ScriptRules script → ScriptHasOctets script →
+        OnlyGrows script → (trace : List Traced) × (new : World) × Run cores script script.events trace new }
 {}

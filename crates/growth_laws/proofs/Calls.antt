@@ -168,7 +168,7 @@ grows_on place now trees part call g may =
     let s = settles place trees own.1 own.0 start.growing start.puts in
     let stepped : label_step place now part call ≡ Some (counted s.new) = ap (option_map counted) s.is in
     let growing : Growing place trees (counted s.new).part =
-        alike_grows place trees s.new.part (counted s.new).part refl (λ label. refl) (λ fec h. h) (λ fec h. s.growing.within fec h) s.growing in
+    alike_grows place trees s.new.part (counted s.new).part refl (λ label. refl) (λ fec h. h) (λ fec h. s.growing.within fec h) s.growing in
     record {
       new = counted s.new;
       stepped = stepped;

@@ -96,10 +96,10 @@ pub never_full : (place : Place) (trees : List Fec) (part : LabelData) → Growi
 never_full place trees part g full =
     let all = each_counted (maps_one trees) part.labels (λ k x at. passes k x at (g.used (16 + k) x (used_place part.labels k ∙ at))) in
     let few = few_mapped part.labels trees (λ fec i j x y at_x at_y p q.
-        (let first = maps_at part fec i x at_x p in
-        let second = maps_at part fec j y at_y q in
-        let same = g.one fec (16 + i) (16 + j) first.0 second.0 first.1 second.1 in
-        omega (arith, same))) in
+    (let first = maps_at part fec i x at_x p in
+    let second = maps_at part fec j y at_y q in
+    let same = g.one fec (16 + i) (16 + j) first.0 second.0 first.1 second.1 in
+    omega (arith, same))) in
     let room = g.room in
     omega (arith, all, few, room)
   where

@@ -183,7 +183,7 @@ module _ (horizon : ℕ) (trees : List Fec) (at : NodeId → EdgePlace) (kept : 
       by None e = itself_grows
       by (Some table) e =
           let told : (key : Key) (route : TakenRoute) → (IsJoinKey key → ⊥) → maps.get table key ≡ Some route → Originates (at peer) (kept peer) key route.value =
-              λ key route not h. g.told peer key route not (ap (λ (o : Option Taken). maps.get (table_in o) key) e ∙ h) in
+          λ key route not h. g.told peer key route not (ap (λ (o : Option Taken). maps.get (table_in o) key) e ∙ h) in
           let more : Taken = fold (taken_change clock) table (changes_of (message_of change)) in
           with_peers (maps.insert old.peers peer more)
           (insert_grows peer more (not_self peer table e)

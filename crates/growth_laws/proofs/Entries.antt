@@ -63,9 +63,9 @@ module _ (old : Entries) (clock horizon : ℕ) (each : (at : IfaceEntry) → Las
   applied_by iface neighbour source group at lt = elim (at.iface.0 == iface.0) as (λ b.
       let new : Option Expiry = cond b (expiry_after at.entry (mention_of (join_of neighbour (entries.Source source group)) at.entry) clock 210 (maps.get old at)) (maps.get old at) in
       Stays (maps.get old at) new × Lasts horizon at.entry new) [
-    | true ↦ after_join clock horizon neighbour source group at.entry (maps.get old at) lt (each at)
-    | false ↦ ((λ expiry h. (expiry, h)), each at)
-  ]
+        | true ↦ after_join clock horizon neighbour source group at.entry (maps.get old at) lt (each at)
+        | false ↦ ((λ expiry h. (expiry, h)), each at)
+      ]
 
   pub joins_stay : (iface : IfaceId) (neighbour source group : Addr) (at : IfaceEntry) → horizon < clock + 210
       → let new : Option Expiry = maps.get (applied old iface (join_of neighbour (entries.Source source group)) clock) at in Stays (maps.get old at) new × Lasts horizon at.entry new

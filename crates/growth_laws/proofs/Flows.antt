@@ -195,8 +195,8 @@ some_flow place moment control own route a b =
     let flow : VrfFlow = record { vrf = own.id; source = route.source; group = route.group } in
     let list : List (VrfFlow × Option Upstream) = flat_map (vrf_flows place moment control) (own_vrfs place) in
     let there : Among (with_upstream place control own route) list =
-        among_flat_map (vrf_flows place moment control) own (with_upstream place control own route) (own_vrfs place) a
-        (among_map (with_upstream place control own) route (filter (is_flow place moment control own) (possible_flows place control own)) b) in
+    among_flat_map (vrf_flows place moment control) own (with_upstream place control own route) (own_vrfs place) a
+    (among_map (with_upstream place control own) route (filter (is_flow place moment control own) (possible_flows place control own)) b) in
     let found = some_found flow_total flow (upstream_for place control own route.source route.group) list there in
     (found.0, maps.get-from_entries flow_total list flow ∙ found.1)
 
@@ -211,6 +211,6 @@ flows_stay place moment now old new stand none flow up h =
     let source : is.route.source ≡ was.route.source = ap (λ (f : VrfFlow). f.source) (sym is.is) in
     let group : is.route.group ≡ was.route.group = ap (λ (f : VrfFlow). f.group) (sym is.is) in
     let up_is : there.0 ≡ Some up =
-        is.upstream ∙ (λ i. upstream_for place new (same i) (source i) (group i))
-        ∙ upstream_again place old new none.taken none.one was.own was.among was.route.source was.route.group up (sym was.upstream) in
+    is.upstream ∙ (λ i. upstream_for place new (same i) (source i) (group i))
+    ∙ upstream_again place old new none.taken none.one was.own was.among was.route.source was.route.group up (sym was.upstream) in
     ap (maps.get (flows_at place now new)) was.is ∙ there.1 ∙ ap (λ (o : Option Upstream). Some o) up_is

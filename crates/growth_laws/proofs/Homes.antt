@@ -140,8 +140,8 @@ module _ (scenario : Scenario) (core : NodeId → Core) (kept : NodeId → Contr
       absurd (apart (sym (node_is u me root own b a (edge_is u me root own b a one.0))))
   one_known me own route other source a (There u root from b apart among e vpn) (There w root_other from_other b_other apart_other among_other f vpn_other) c d =
       let one = home root.id root_other.id from from_other source
-          (of_one_vpn u w root root_other b b_other (same_through root.vrf.targets own.vrf.targets root_other.vrf.targets vpn (same_back root_other.vrf.targets own.vrf.targets vpn_other)))
-          among among_other (ap (λ (r : KnownRoute). covers r.prefix source) (sym e) ∙ c) (ap (λ (r : KnownRoute). covers r.prefix source) (sym f) ∙ d) in
+      (of_one_vpn u w root root_other b b_other (same_through root.vrf.targets own.vrf.targets root_other.vrf.targets vpn (same_back root_other.vrf.targets own.vrf.targets vpn_other)))
+      among among_other (ap (λ (r : KnownRoute). covers r.prefix source) (sym e) ∙ c) (ap (λ (r : KnownRoute). covers r.prefix source) (sym f) ∙ d) in
       let vrfs = edge_is u w root root_other b b_other one.0 in
       let nodes = node_is u w root root_other b b_other vrfs in
       e ∙ (λ i. record { prefix = (one.1 i).prefix; origin = origins.Remote (nodes i) (addr_of scenario (nodes i)) (vrfs i).rd }) ∙ sym f

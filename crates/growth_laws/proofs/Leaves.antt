@@ -94,8 +94,7 @@ read_again place own edge key route next learned same h = by (imported_selective
     by (Some p) (Some q) e k =
         let one : p ≡ q = same_Some p q e in
         let made : LearnedRoute = record { pattern = record { source = q.route.source; group = q.route.group }; fec = q.fec; since = route.since; run = route.run } in
-        let is : made ≡ learned = same_Some made learned k in
-        (
+        let is : made ≡ learned = same_Some made learned k in (
           record { pattern = record { source = p.route.source; group = p.route.group }; fec = p.fec; since = next.since; run = next.run },
           refl,
           ap (λ (x : ImportedSelective). record { source = x.route.source; group = x.route.group }) one ∙ ap (λ (r : LearnedRoute). r.pattern) is,
@@ -187,7 +186,7 @@ module _ (place : EdgePlace) (old new : Control) (taken : TakenStays old new) (f
       let next = again edge of.0 both.0 in
       let fits : matches next.next.pattern flow.source flow.group ≡ true = ap (λ p. matches p flow.source flow.group) next.pattern ∙ first_holds (matches of.0.pattern flow.source flow.group) (not (list_any (overtakes flow.source flow.group of.0) (learned_routes place old own edge))) both.1 in
       let stands : is_wanted (learned_routes place new own edge) flow.source flow.group next.next ≡ true =
-          (λ i. fits i && not (none_overtakes edge flow.source flow.group next.next (narrow_rank edge next.next next.among) i)) in
+      (λ i. fits i && not (none_overtakes edge flow.source flow.group next.next (narrow_rank edge next.next next.among) i)) in
       subst (λ (f : Fec). Among f (map (λ (route : LearnedRoute). route.fec) (wanted (learned_routes place new own edge) flow.source flow.group))) (next.fec ∙ sym of.2)
       (among_map (λ (route : LearnedRoute). route.fec) next.next (wanted (learned_routes place new own edge) flow.source flow.group)
       (among_filter (is_wanted (learned_routes place new own edge) flow.source flow.group) next.next (learned_routes place new own edge) stands next.among))
@@ -198,7 +197,7 @@ module _ (place : EdgePlace) (old new : Control) (taken : TakenStays old new) (f
   flow_stays flow (Some (Remote edge rd import source_as)) fec of h a =
       let up : Option Upstream = Some (Remote edge rd import source_as) in
       let there : Among (flow, up) (flows_of new own.id) =
-          among_filter (λ (entry : VrfFlow × Option Upstream). entry.0.vrf.0 == own.id.0) (flow, up) (maps.entries new.flows) of (get_entry flow_exact new.flows flow up (flows flow (Remote edge rd import source_as) h)) in
+      among_filter (λ (entry : VrfFlow × Option Upstream). entry.0.vrf.0 == own.id.0) (flow, up) (maps.entries new.flows) of (get_entry flow_exact new.flows flow up (flows flow (Remote edge rd import source_as) h)) in
       among_flat_map (flow_tunnels place new own) (flow, up) fec (flows_of new own.id) there (selective_stays flow edge fec a)
 
   pub tunnel_stays : (fec : Fec) → Among fec (tunnels_of place old own) → Among fec (tunnels_of place new own)

@@ -120,14 +120,14 @@ stepped_grows horizon clock trees network n call found g joined x = record {
   transit = λ over.
       let now : SessionMessage → Type 0 = IsGrownMessage trees (place_of x.new.state over.from) (kept x.new.state over.from) in
       let before : AllByRecursion now (network.transit over) =
-          each_weaker (IsGrownMessage trees (place_of network.state over.from) (kept network.state over.from)) now
-          (λ message is. message_on trees (place_of x.new.state over.from) (kept network.state over.from) (kept x.new.state over.from) message (x.says over.from)
-              (subst (λ (place : EdgePlace). IsGrownMessage trees place (kept network.state over.from) message) (sym (x.places over.from)) is))
-          (network.transit over) (g.transit over) in
+      each_weaker (IsGrownMessage trees (place_of network.state over.from) (kept network.state over.from)) now
+      (λ message is. message_on trees (place_of x.new.state over.from) (kept network.state over.from) (kept x.new.state over.from) message (x.says over.from)
+      (subst (λ (place : EdgePlace). IsGrownMessage trees place (kept network.state over.from) message) (sym (x.places over.from)) is))
+      (network.transit over) (g.transit over) in
       let more : AllByRecursion now (messages_over over x.new.puts) =
-          each_flat now (λ (put : Put). cond (same_direction put.over over) put.unit.messages []) x.new.puts
-          (each_weaker (IsGrownPut trees (place_of x.new.state n) (kept x.new.state n) n) (λ (put : Put). AllByRecursion now (cond (same_direction put.over over) put.unit.messages []))
-          (λ put is. over_grown trees x.new.state n over put is) x.new.puts x.puts) in
+      each_flat now (λ (put : Put). cond (same_direction put.over over) put.unit.messages []) x.new.puts
+      (each_weaker (IsGrownPut trees (place_of x.new.state n) (kept x.new.state n) n) (λ (put : Put). AllByRecursion now (cond (same_direction put.over over) put.unit.messages []))
+      (λ put is. over_grown trees x.new.state n over put is) x.new.puts x.puts) in
       elim (network.joined over) as (λ b. AllByRecursion now (cond b (network.transit over ++ messages_over over x.new.puts) (network.transit over))) [
         | true ↦ each_append now (network.transit over) (messages_over over x.new.puts) before more
         | false ↦ before
@@ -222,7 +222,7 @@ module _ (horizon clock : ℕ) (trees : List Fec) (network : MessageNetwork Node
       subst (λ (m : Message). NodeGrows horizon trees nodes n (steps.Update from m) (node_called nodes n (nodes.node n) (steps.Update from m))) (sym is.1)
       (node_grows horizon trees nodes n (steps.Update from (message_of is.0)) g.nodes tt
       (λ edge at. effect_by (steps.Update from (message_of is.0)) edge.control _
-          (update_grows horizon trees (place_of nodes) (kept nodes) n edge.control (edge_grown edge at) (λ u. g.nodes.rules) nodes.clock from is.0 is.2)))
+      (update_grows horizon trees (place_of nodes) (kept nodes) n edge.control (edge_grown edge at) (λ u. g.nodes.rules) nodes.clock from is.0 is.2)))
 
 -- ---- deliveries
 
@@ -256,15 +256,15 @@ delivers_on scenario horizon clock trees over [] network rest g joined waiting =
 delivers_on scenario horizon clock trees over (message ∷ more) network rest g joined waiting =
     let own : System Nodes (SoundCall scenario) = sound_system scenario in
     let all : AllByRecursion (IsGrownMessage trees (place_of network.state over.from) (kept network.state over.from)) (message ∷ (more ++ rest)) =
-        subst (AllByRecursion (IsGrownMessage trees (place_of network.state over.from) (kept network.state over.from))) waiting (g.transit over) in
+    subst (AllByRecursion (IsGrownMessage trees (place_of network.state over.from) (kept network.state over.from))) waiting (g.transit over) in
     let gone : MessageNetwork Nodes = with_rest network over (more ++ rest) in
     let left : NetworkGrown horizon clock trees gone = left_grown horizon clock trees network over (more ++ rest) g all.1 in
     let x = message_called horizon clock trees gone left over.to over.from message all.0 in
     let after : NetworkGrown horizon clock trees (with_messages gone x.new) =
-        stepped_grows horizon clock trees gone over.to (call_of over.from message) (node_called gone.state over.to (gone.state.node over.to) (call_of over.from message)) left
-        (λ kind peer e. absurd (no_raise over.from message kind peer e)) x in
+    stepped_grows horizon clock trees gone over.to (call_of over.from message) (node_called gone.state over.to (gone.state.node over.to) (call_of over.from message)) left
+    (λ kind peer e. absurd (no_raise over.from message kind peer e)) x in
     let still : (with_messages gone x.new).transit over ≡ more ++ (rest ++ messages_over over x.new.puts) =
-        waits (network.joined over) (same_direction over over) more rest (network.transit over) (messages_over over x.new.puts) joined (own_direction over) in
+    waits (network.joined over) (same_direction over over) more rest (network.transit over) (messages_over over x.new.puts) joined (own_direction over) in
     let further = delivers_on scenario horizon clock trees over more (with_messages gone x.new) (rest ++ messages_over over x.new.puts) after joined still in
     record {
       behind = record { network = further.behind.network; puts = x.new.puts ++ further.behind.puts };

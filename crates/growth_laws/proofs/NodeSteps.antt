@@ -106,7 +106,7 @@ bgp_puts_grown trees place old new all =
     each_flat (IsGrownPut trees place new place.me) (λ peer. map (bgp_put place.me peer) (put_to place old new peer)) (edges place.scenario)
     (each_of (λ peer. AllByRecursion (IsGrownPut trees place new place.me) (map (bgp_put place.me peer) (put_to place old new peer)))
     (λ peer. each_map (IsGrownPut trees place new place.me) (bgp_put place.me peer) (put_to place old new peer)
-        (each_weaker (IsTrue place new) (λ (change : Change Key Value). IsGrownPut trees place new place.me (bgp_put place.me peer change)) (λ change is. (refl, ((change, refl, is), tt))) (put_to place old new peer) (all peer)))
+    (each_weaker (IsTrue place new) (λ (change : Change Key Value). IsGrownPut trees place new place.me (bgp_put place.me peer change)) (λ change is. (refl, ((change, refl, is), tt))) (put_to place old new peer) (all peer)))
     (edges place.scenario))
 
 -- ---- nodes that change

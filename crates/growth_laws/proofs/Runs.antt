@@ -172,7 +172,7 @@ select_comes scenario horizon now trees world vrf pattern narrow is same room fr
         let fec : Fec = lsp (addr_of (scenario_of world) n) (tunnel_number found (new_number vrf (kept world.network.state n).selections)) in
         let long : length (fec ∷ trees) ≡ suc (length trees) = refl in
         let more : NetworkGrown horizon now (fec ∷ trees) network =
-            network_more horizon now trees (fec ∷ trees) network (λ other among. inr among) (let labels : (scenario_of world).labels ≡ scenario.labels = ap (λ (own : Scenario). own.labels) same in omega (arith, long, room, labels)) s.3 in
+        network_more horizon now trees (fec ∷ trees) network (λ other among. inr among) (let labels : (scenario_of world).labels ≡ scenario.labels = ap (λ (own : Scenario). own.labels) same in omega (arith, long, room, labels)) s.3 in
         let grown : WorldGrown scenario horizon now (fec ∷ trees) world = (s.0, s.1, s.2, more) in
         record {
           later = now;
@@ -184,8 +184,8 @@ select_comes scenario horizon now trees world vrf pattern narrow is same room fr
               (select_called horizon now (fec ∷ trees) network more n vrf pattern narrow
               (not_there (maps.get (kept world.network.state n).selections (record { vrf = vrf; pattern = pattern })) off)
               (λ own a id.
-                  let vrfs : own.vrf ≡ found = same_Some own.vrf found (sym (own_at (place_of world.network.state n) own a) ∙ ap (λ (v : VrfId). slice_get (scenario_of world).vrfs v.0) id ∙ e) in
-                  inl (ap (λ (v : Vrf). lsp (addr_of (scenario_of world) n) (tunnel_number v (new_number vrf (kept world.network.state n).selections))) vrfs))));
+              let vrfs : own.vrf ≡ found = same_Some own.vrf found (sym (own_at (place_of world.network.state n) own a) ∙ ap (λ (v : VrfId). slice_get (scenario_of world).vrfs v.0) id ∙ e) in
+              inl (ap (λ (v : Vrf). lsp (addr_of (scenario_of world) n) (tunnel_number v (new_number vrf (kept world.network.state n).selections))) vrfs))));
         }
 
 -- ---- events
@@ -259,7 +259,7 @@ event_comes scenario world horizon now trees short s timed adds sound le room = 
     by (Some reason) e = still scenario horizon now trees timed.event _ s
     by None free =
         subst (λ (own : Scenario). SoundScenario own → WorldGrown own horizon now trees world → IsSoundEvent own timed.event → length trees + cond {A = ℕ} (is_selection timed.event) 1 0 < own.labels
-            → EventGrows own horizon now trees timed.event (done world timed.event)) s.2.same
+        → EventGrows own horizon now trees timed.event (done world timed.event)) s.2.same
         (λ own_lines own_s own_sound own_room. done_comes world horizon now trees own_lines short own_s timed.event adds own_sound free le own_room) s.2.lines s sound room
 
 -- ---- scripts

@@ -83,7 +83,7 @@ pub call_must : (scenario : Scenario) (horizon now : ℕ) (trees : List Fec) (ol
 call_must scenario horizon now trees old pending are sound g n call is joined x =
     let keeps : Keeps (Sound scenario) (Some x.new) = subst (Keeps (Sound scenario)) x.is ((honest_nodes scenario).called (record { call = Own n call; sound = is }) old.state sound) in
     let found : OctetsGrown scenario horizon now trees (with_octets old x.new) =
-        (with_news old pending x.new.puts, news_are old pending x.new are keeps.0, keeps.1, stepped_grows horizon now trees (seen old pending) n call (node_called old.state n (old.state.node n) call) g joined x) in
+    (with_news old pending x.new.puts, news_are old pending x.new are keeps.0, keeps.1, stepped_grows horizon now trees (seen old pending) n call (node_called old.state n (old.state.node n) call) g joined x) in
     subst (λ (o : Option (Stepped Nodes)). MustBe (Called scenario horizon now trees old n call) (with_step old o >>? λ next. with_earlier next.puts (Some (record { network = next.network; puts = [] })))) (sym x.is)
     (record { grown = found; joined = refl; ups = x.ups })
 

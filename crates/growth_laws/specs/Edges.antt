@@ -28,7 +28,8 @@ use Rattle.held_laws.specs.Held.{IsJoinKey}
 
 -- Each route that was taken from a peer is there again with the same value, Source Tree Joins aside.
 abbrev pub TakenStays : Control → Control → Type 0
-TakenStays old new = (peer : NodeId) (key : Key) (route : TakenRoute) → (IsJoinKey key → ⊥) → maps.get (taken_from old peer) key ≡ Some route
+TakenStays old new = (peer : NodeId) (key : Key) (route : TakenRoute) → (IsJoinKey key → ⊥)
+    → maps.get (taken_from old peer) key ≡ Some route
     → (next : TakenRoute) × (maps.get (taken_from new peer) key ≡ Some next) × (next.value ≡ route.value)
 
 -- Each flow that has an upstream is there again with that upstream.

@@ -3,4 +3,6 @@
 
 mod laws;
 
-pub use laws::{growing_edges_stay_leaves, growing_nodes_never_lack_a_label, growing_runs_never_halt};
+pub use laws::{
+    growing_edges_stay_leaves, growing_nodes_never_lack_a_label, growing_runs_never_halt,
+};

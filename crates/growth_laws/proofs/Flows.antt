@@ -41,7 +41,7 @@ use Rattle.calm_laws.proofs.Tables.{among_peers, peer_table}
 use Rattle.calm_laws.proofs.Upstreams.{chained}
 use Rattle.calm_laws.proofs.Vrfs.{one_number}
 use Rattle.held_laws.specs.Held.{IsJoinKey}
-use Rattle.growth_laws.specs.Edges.{TakenStays, FlowsStay, EntriesStay, AreLasting, KnowsOneOrigin, TakesNoneBack}
+use Rattle.growth_laws.specs.Edges.{TakenStays, FlowsStay, EntriesStay, AreLasting, KnowsOneOrigin, KeepsAll}
 use Rattle.growth_laws.proofs.Leaves.{peer_up}
 
 -- ---- what an interface asks for
@@ -200,7 +200,7 @@ some_flow place moment control own route a b =
     let found = some_found flow_total flow (upstream_for place control own route.source route.group) list there in
     (found.0, maps.get-from_entries flow_total list flow ∙ found.1)
 
-pub flows_stay : (place : EdgePlace) (moment now : ℕ) (old new : Control) → old.flows ≡ flows_at place moment old → TakesNoneBack place now old new → FlowsStay old (refreshed place now new)
+pub flows_stay : (place : EdgePlace) (moment now : ℕ) (old new : Control) → old.flows ≡ flows_at place moment old → KeepsAll place now old new → FlowsStay old (refreshed place now new)
 flows_stay place moment now old new stand none flow up h =
     let was = flow_at place moment old flow (Some up) (ap (λ (flows : FinMap flow_cmp (Option Upstream)). maps.get flows flow) (sym stand) ∙ h) in
     let listed = flow_again place moment now old new none.entries none.lasting was.own was.route was.asked in

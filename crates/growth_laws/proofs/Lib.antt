@@ -15,3 +15,4 @@ mod Worlds
 mod Musts
 mod Runs
 mod Starts
+mod Tests

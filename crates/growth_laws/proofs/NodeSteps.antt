@@ -46,7 +46,7 @@ use Rattle.network_defs.specs.Nodes.{NodeState, Edge, CoreNode, Nodes, with_node
 use Rattle.network_defs.specs.Refusals.{control_of}
 use Rattle.network_defs.specs.System.{core_called, node_called, unchanged}
 use Rattle.network_laws.proofs.Lists.{each_append, each_map, each_flat, each_of, each_weaker}
-use Rattle.growth_laws.specs.Edges.{TakenStays, FlowsStay, EntriesStay, AreNarrow, TakesNoneBack, LeavesStay}
+use Rattle.growth_laws.specs.Edges.{TakenStays, FlowsStay, EntriesStay, AreNarrow, KeepsAll, LeavesStay}
 use Rattle.growth_laws.specs.Labels.{Growing, IsMappingOf, TakesNothingBack, GrowsOn}
 use Rattle.growth_laws.specs.Scripts.{HasOneHome}
 use Rattle.growth_laws.proofs.Calls.{grows_on}
@@ -215,7 +215,7 @@ module _ (horizon : ℕ) (trees : List Fec) (nodes : Nodes) (g : NodesGrown hori
     narrow : AreNarrow own
     narrow peer key route h = any_narrow key (λ not. told_narrow trees (place_of nodes peer) (kept nodes peer) key route.value (g.edges peer).picked (e.grown.told peer key route not h))
 
-    none : TakesNoneBack place nodes.clock old own
+    none : KeepsAll place nodes.clock old own
     none = record {
       taken = e.taken;
       entries = e.entries;

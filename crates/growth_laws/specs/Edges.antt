@@ -67,9 +67,9 @@ KnowsOneOrigin place control = (own : OwnVrf) (route other : KnownRoute) (source
     → Among route (known_routes place control own) → Among other (known_routes place control own)
     → covers route.prefix source ≡ true → covers other.prefix source ≡ true → route ≡ other
 
--- A call's own effect takes nothing back: routes and entries stay, which are (S,G) joins that last, selective routes have no wildcard, and
--- a source is known by one route.
-pub record TakesNoneBack (place : EdgePlace) (now : ℕ) (old new : Control) : Type 0 where
+-- A call's own effect keeps all that there was: routes, and entries, which are (S,G) joins that last. Selective routes have no wildcard,
+-- and a source is known by one route.
+pub record KeepsAll (place : EdgePlace) (now : ℕ) (old new : Control) : Type 0 where
   pub taken : TakenStays old new
   pub entries : EntriesStay old new
   pub lasting : AreLasting now new

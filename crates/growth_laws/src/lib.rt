@@ -5,4 +5,5 @@ mod laws;
 
 pub use laws::{
     growing_edges_stay_leaves, growing_nodes_never_lack_a_label, growing_runs_never_halt,
+    growing_scripts_are_told,
 };

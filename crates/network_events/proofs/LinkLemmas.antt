@@ -12,10 +12,9 @@ use Rattle.scenario_defs.specs.Rules.{Rules}
 use Rattle.scenario_defs.specs.declared.scenario.Scenario.{Scenario}
 use Rattle.network_defs.specs.Counts.{link_ways}
 use Rattle.network_defs.specs.World.{LinkCopy, World, scenario_of}
-use Rattle.link_copies.specs.CopiesData.{is_way}
+use Rattle.network_acts.specs.Words.{AreLinked, is_way}
 use Rattle.delivery_laws.specs.Flood.{AreSound, SoundCopy}
 use Rattle.delivery_laws.specs.Flood as floods
-use Rattle.datagram_acts.specs.Stored.{AreLinked}
 
 true-ne-false : true ≡ false → ⊥
 true-ne-false t = cc

@@ -10,9 +10,9 @@ use Rattle.network_defs.specs.Costs.{AreCoresOf, Cores}
 use Rattle.network_defs.specs.Events.{Happened, Done, Halted}
 use Rattle.network_defs.specs.Run.{Run, Traced, outcome, traced}
 use Rattle.network_defs.specs.World.{World, start}
-use Rattle.control_plane.specs.Plane.{at_rest}
 use Rattle.network_acts.specs.Handling.{AreOfFlows}
 use Rattle.network_acts.specs.Instant.{Instant, IsWorld}
+use Rattle.network_acts.specs.Words.{at_rest}
 use Rattle.network_events.specs.Doing.{lines_in}
 use Rattle.network_events.specs.WorldView.{WorldView}
 use Rattle.network_events.specs.declared.halt.Halt.{Halt}

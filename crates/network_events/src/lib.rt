@@ -16,4 +16,5 @@ mod settling;
 mod world;
 
 pub use halt::Halt;
+pub use network_acts::{Edge, Pool};
 pub use world::World;

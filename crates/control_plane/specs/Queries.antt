@@ -13,15 +13,11 @@ use Rattle.network_defs.specs.World.{World}
 use Rattle.network_nodes.specs.NodeView.{IsPlacedAt, data_in, spent_in}
 use Rattle.network_nodes.specs.declared.node.NetworkNode.{NetworkNode}
 use Rattle.control_plane.specs.Acted.{IsCurrent, Standing}
--- where datagrams go
-pub use Rattle.edge_core.specs.declared.fate.Fate.{Fate}
-pub use Rattle.edge_core.specs.State.{IsFate}
-pub use Rattle.network_nodes.specs.Network.{landing_fate}
--- edges, and where nodes stand
+-- where nodes stand, and where datagrams go
 pub use Rattle.edge_home.specs.Home.{home_of}
 pub use Rattle.node_laws.specs.Places.{node_place}
-pub use Rattle.edge_core.specs.State.{data_of, home_of as home_in}
-pub use Rattle.edge_core.specs.View.{EdgeView}
+pub use Rattle.network_nodes.specs.Edges.{EdgeView, Fate, IsFate, data_of, home_in}
+pub use Rattle.network_nodes.specs.Network.{landing_fate}
 
 -- ---- nodes
 

@@ -12,7 +12,8 @@ ghost use Rattle.network_nodes.specs.Edges.{IsFate};
 ghost use Rattle.network_nodes.specs.Network.{landing_fate};
 ghost use Rattle.control_plane.specs.Acted.{IsCurrent, IsIn, IsSome, IsWithin, Standing};
 ghost use Rattle.control_plane.specs.Customers.{IsVrfEdge, control_at};
-ghost use Rattle.control_plane.specs.Queries.{HasEnds, HaveEnds, IsCoreThere, IsEdgeOf, IsEdgeThere, IsNoCore, IsNoEdge, IsNodeThere, without_copies};
+ghost use Rattle.control_plane.specs.Queries.{HasEnds, HaveEnds, IsEdgeOf, IsNodeThere, without_copies};
+ghost use Rattle.control_plane.specs.Queries.{IsCoreThere, IsEdgeThere, IsNoCore, IsNoEdge};
 
 use crate::plane::ControlPlane;
 use label_forwarding::Datagram;

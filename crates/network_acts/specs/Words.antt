@@ -4,7 +4,8 @@ pub use Rattle.control_plane.specs.Customers.{IsIfaceEdge, IsMessageTo, IsUnsele
 pub use Rattle.control_plane.specs.Moving.{IsMovable}
 pub use Rattle.control_plane.specs.Passing.{all_late}
 pub use Rattle.control_plane.specs.Plane.{Moment, at_rest}
-pub use Rattle.control_plane.specs.Queries.{EdgeView, IsCoreThere, IsEdgeOf, IsEdgeThere, IsNoCore, IsNoEdge, data_of, home_in, home_of, node_place}
+pub use Rattle.control_plane.specs.Queries.{EdgeView, data_of, home_in, home_of, node_place}
+pub use Rattle.control_plane.specs.Queries.{IsCoreThere, IsEdgeOf, IsEdgeThere, IsNoCore, IsNoEdge}
 pub use Rattle.control_plane.specs.Sessions.{IsDown, IsHalfUp, IsLost, none_rising, with_rising}
 pub use Rattle.control_plane.specs.declared.customers.Verdict.{Verdict}
 pub use Rattle.control_plane.specs.declared.customers.Verdict.TheVariants.{Full as VerdictFull, Made as VerdictMade}

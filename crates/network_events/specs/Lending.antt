@@ -11,7 +11,7 @@ use Rattle.network_defs.specs.Counts.{all_copies}
 use Rattle.network_defs.specs.Nodes.{CoreNode, Edge}
 use Rattle.network_defs.specs.Run.{Traced}
 use Rattle.network_defs.specs.World.{Datagram, World, numbered}
-use Rattle.network_acts.specs.Words.{EdgeView, IsLive, KeptCopy, data_of, held, home_in, home_of, kept_at, node_place}
+pub use Rattle.network_acts.specs.Words.{EdgeView, IsLive, KeptCopy, data_of, held, home_in, home_of, kept_at, node_place}
 use Rattle.network_events.specs.Behind.{IsBehind}
 use Rattle.network_events.specs.WorldView.{WorldView}
 

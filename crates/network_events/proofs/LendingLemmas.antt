@@ -3,7 +3,6 @@ use Rattle.std.proofs.Common.{◌≡◌, ◌∙◌, sym, ap, subst, ◌≤◌, l
 use Rattle.mv_base.specs.declared.ids.NodeId.{NodeId}
 use Rattle.scenario_defs.specs.declared.scenario.Scenario.{Scenario}
 use Rattle.mldp_node.specs.NodeData.{NodeData}
-use Rattle.network_defs.specs.World.{World}
 use Rattle.network_acts.specs.Instant.{Instant, IsWorld, standing_of}
 use Rattle.network_acts.specs.Words as words
 use Rattle.network_acts.specs.Words.{EdgeView, IsCoreThere, IsEdgeThere, IsShared, home_of, node_place}

@@ -1,5 +1,5 @@
 -- A network behind the first events of a script, and what a step does to it.
-use Rattle.std.specs.Prelude.{◌≡◌, ◌≤◌, ◌+◌, ◌++◌, ℕ, List, [], ◌∷◌, length, slice_get, take, Option, None, Some, Result, Err, OnOk}
+use Rattle.std.specs.Prelude.{◌≡◌, ◌≤◌, ◌+◌, ◌++◌, ℕ, List, [], length, slice_get, take, None, Some, Result, Err, OnOk}
 use Rattle.mv_base.specs.declared.ids.NodeId.{NodeId}
 use Rattle.scenario_defs.specs.Rules.{ScriptRules}
 use Rattle.scenario_defs.specs.declared.event.Script.{Script}

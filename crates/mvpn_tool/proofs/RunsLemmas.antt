@@ -10,7 +10,6 @@ use Rattle.network_defs.specs.Costs.{AreCoresOf, Cores}
 use Rattle.network_defs.specs.Run.{Halts, Run, Traced}
 use Rattle.network_defs.specs.World.{World}
 use Rattle.run_laws.specs.Runs.{of_events}
-use Rattle.generator.specs.Made.{made}
 use Rattle.network_defs.proofs.CostLemmas.{same_cores}
 use Rattle.network_events.specs.WorldView.{WorldView}
 use Rattle.mvpn_tool.specs.Input.{IsInput, Taken}
@@ -20,7 +19,6 @@ use Rattle.mvpn_tool.specs.declared.command.Command.{Command}
 use Rattle.mvpn_tool.specs.declared.command.Command.TheVariants as commands
 use Rattle.mvpn_tool.specs.Runs.{Ending, MakeRun, ReplayRun, Runs, SweepRun, UsageRun}
 use Rattle.mvpn_tool.specs.Report.{AllRun, OneHalts}
-use Rattle.mvpn_tool.specs.Sweep.{SweepsHalted, SweepsWell}
 
 pub usage_runs : (e : Ending) (named : Option Command) → None ≡ named → UsageRun e → Runs named e
 usage_runs e named h ends = subst (λ (x : Option Command). Runs x e) h ends
@@ -135,68 +133,3 @@ module _ (never_both : (cores : Cores) (script : Script) (events : List Timed) (
       complete = λ script source sink gives. inr (inr refl);
       only = inr (inr (inl refl));
     }
-
-  -- ---- the two ends of the run of a made network
-
-  module _ (number : ℕ) (left old new : Option (List ℕ)) (faults sink_before sink_now : ℕ) where
-    abbrev swept_end : ℕ → Option WorldView → Ending
-    swept_end status world = record {
-      status = status;
-      world = world;
-      left = left;
-      rest = left;
-      old = old;
-      new = new;
-      source_before = faults;
-      source_now = faults;
-      sink_before = sink_before;
-      sink_now = sink_now;
-    }
-
-    same_made : (script other : Script) → script_of (made number) ≡ Ok script → script_of (made number) ≡ Ok other → script ≡ other
-    same_made script other said says = one_script script other (sym said ∙ says)
-
-    no_fault : (script : Script) (fault : TextFault) → script_of (made number) ≡ Ok script → script_of (made number) ≡ Err fault → ⊥
-    no_fault script fault said says = (let both : read_as script ≡ Err fault = sym said ∙ says in absurd cc)
-
-    -- All events ran.
-    pub swept_ended : (view : WorldView) → SweepsWell number old new view → SweepRun number (swept_end 0 (Some view))
-    swept_ended view ends =
-        let run = ends.holds.whole in
-        record {
-          zero = λ e. ends;
-          zero_always = λ script said all. inl refl;
-          worldless = λ e. absurd (e refl);
-          three = λ e. absurd (omega (arith, e));
-          three_always = λ fault says. absurd (no_fault ends.script fault ends.said says);
-          five = λ e. absurd (omega (arith, e));
-          five_cause = λ e. absurd (omega (arith, e));
-          six = λ e. absurd (omega (arith, e));
-          seven = λ e. absurd (omega (arith, e));
-          seven_always = λ script says one. absurd
-              (not_both ends.script (record { cores = run.cores; of_scenario = run.whole.of_scenario; trace = run.trace; state = run.state; run = run.whole.run })
-              (subst OneHalts (sym (same_made ends.script script ends.said says)) one));
-          only = inl refl;
-          untouched = refl;
-        }
-
-    -- An event lacks a label.
-    pub swept_halted : SweepsHalted number old new → SweepRun number (swept_end 7 None)
-    swept_halted ends =
-        let made = ends.0 in
-        record {
-          zero = λ e. absurd (omega (arith, e));
-          zero_always = λ script says all. absurd
-              (not_both made.script (subst AllRun (sym (same_made made.script script made.said says)) all)
-              (record { cores = made.holds.cores; report = made.holds.report; node = made.holds.node; halt = made.holds.halted.halt }));
-          worldless = λ e. refl;
-          three = λ e. absurd (omega (arith, e));
-          three_always = λ fault says. absurd (no_fault made.script fault made.said says);
-          five = λ e. absurd (omega (arith, e));
-          five_cause = λ e. absurd (omega (arith, e));
-          six = λ e. absurd (omega (arith, e));
-          seven = λ e. ends;
-          seven_always = λ script says one. inl refl;
-          only = inr (inr (inl refl));
-          untouched = refl;
-        }

@@ -1,5 +1,5 @@
 -- The script of each number takes nothing back.
-use Rattle.std.proofs.Common.{◌≡◌, ℕ, zero, suc, ◌+◌, ◌*◌, ◌%◌, ◌<◌, ◌≤◌, ◌==◌, ◌&&◌, not, Bool, true, false, cond, List, [], ◌∷◌, ◌++◌, length, sum_by, count_by, refl, ap, ◌∙◌, sym, arith, suc-mul}
+use Rattle.std.proofs.Common.{◌≡◌, ℕ, zero, suc, ◌+◌, ◌*◌, ◌%◌, ◌≤◌, ◌==◌, ◌&&◌, not, Bool, true, false, cond, List, [], ◌∷◌, ◌++◌, sum_by, count_by, refl, ap, ◌∙◌, sym, arith, suc-mul}
 use Rattle.std.specs.List.{AllByRecursion}
 use Rattle.std.proofs.lemmas.List.Sums.{sum_by-cons, sum_by-append}
 use Rattle.scenario_defs.specs.declared.event.Event.{Event}
@@ -7,7 +7,7 @@ use Rattle.scenario_defs.specs.declared.event.Event.TheVariants as events
 use Rattle.scenario_defs.specs.declared.event.Timed.{Timed}
 use Rattle.network_laws.proofs.Lists.{each_append}
 use Rattle.growth_laws.specs.Scripts.{OnlyAdds, ticks_of, is_selection, OnlyGrows}
-use Rattle.made_laws.specs.MadeScript.{each, all, join, send, selection, source_edge, first_events, last_events, made_scenario, made_events, from_line, made_script}
+use Rattle.made_laws.specs.MadeScript.{each, all, join, send, selection, source_edge, first_events, last_events, made_events, from_line, made_script}
 use Rattle.made_laws.proofs.HomeLemmas.{made_home, labels_are, vrfs_long}
 
 -- The events take nothing back, last so many ticks, and no more of them are selections.

@@ -9,6 +9,8 @@ ghost use Rattle.run_laws.specs.Octets.{ScriptHasOctets};
 ghost use Rattle.growth_laws.specs.Scripts.{OnlyGrows};
 ghost use Rattle.made_laws.specs.MadeScript.{made_script};
 
+use growth_laws::growing_runs_never_halt;
+
 /// The script of each number takes nothing back.
 pub fn made_scripts_only_grow()
     ensures { (number : ℕ) → OnlyGrows (made_script number) }
@@ -18,4 +20,7 @@ pub fn made_scripts_only_grow()
 pub fn made_runs_never_halt()
     ensures { (cores : Cores) (number : ℕ) (report : List Entry) (node : NodeId) →
         ScriptRules (made_script number) → ScriptHasOctets (made_script number) → Halts cores (made_script number) report node → ⊥ }
-{}
+{
+    growing_runs_never_halt();
+    made_scripts_only_grow();
+}

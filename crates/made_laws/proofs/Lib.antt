@@ -1,3 +1,4 @@
 pub mod RowLemmas
 pub mod ListLemmas
 pub mod NumeralLemmas
+pub mod LineLemmas

@@ -2,3 +2,4 @@ pub mod RowLemmas
 pub mod ListLemmas
 pub mod NumeralLemmas
 pub mod LineLemmas
+pub mod EventLines

@@ -244,7 +244,7 @@ pub record IsNewIface (draft : Drafted) (id : IfaceId) (iface : Iface) (vrf site
   pub mixed : list_any (is_mixed draft.scenario iface) draft.scenario.ifaces ≡ false
   pub taken : list_any (is_taken draft.scenario iface) draft.scenario.ifaces ≡ false
 
-addr_word : (row : Row) (word : Placed) (addr : Addr) → addr_of word.text ≡ Some addr → addr_at row word ≡ Ok addr
+pub addr_word : (row : Row) (word : Placed) (addr : Addr) → addr_of word.text ≡ Some addr → addr_at row word ≡ Ok addr
 unfolding addr_at
 addr_word row word addr h = rw h refl
 

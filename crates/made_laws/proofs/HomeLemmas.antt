@@ -167,7 +167,7 @@ numbered number = record { 0 = number }
 one_home : (a b : VrfId) (route other : Route) (source : Addr) → IsAt a route → IsAt b other → covers route.prefix source ≡ true → covers other.prefix source ≡ true → (a ≡ b) × (route ≡ other)
 one_home a b route other source x y h k =
     let same = one_place x.edges x.vpns y.edges y.vpns source x.few_vpns y.few_vpns
-        (ap (λ (r : Route). covers r.prefix source) (sym x.is) ∙ h) (ap (λ (r : Route). covers r.prefix source) (sym y.is) ∙ k) in
+    (ap (λ (r : Route). covers r.prefix source) (sym x.is) ∙ h) (ap (λ (r : Route). covers r.prefix source) (sym y.is) ∙ k) in
     let number : a.0 ≡ b.0 = x.number ∙ ap (λ (n : ℕ). 8 * n + x.vpns) same.0 ∙ ap (λ (n : ℕ). 8 * y.edges + n) same.1 ∙ sym y.number in
     (ap numbered number, x.is ∙ ap (λ (n : ℕ). route_at n x.vpns) same.0 ∙ ap (λ (n : ℕ). route_at y.edges n) same.1 ∙ sym y.is)
 

@@ -1,3 +1,7 @@
 pub mod RowLemmas
+pub mod ListLemmas
+pub mod NumeralLemmas
+pub mod LineLemmas
+pub mod EventLines
 pub mod HomeLemmas
 pub mod GrowLemmas

@@ -77,7 +77,7 @@ all_weaker p q weaker (x ∷ xs) h =
     let parts = and_parts (p x) (list_all p xs) h in
     and_from (q x) (list_all q xs) (weaker x parts.0) (all_weaker p q weaker xs parts.1)
 
-all_append : (p : ℕ → Bool) (xs ys : List ℕ) → list_all p xs ≡ true → list_all p ys ≡ true → list_all p (xs ++ ys) ≡ true
+pub all_append : (p : ℕ → Bool) (xs ys : List ℕ) → list_all p xs ≡ true → list_all p ys ≡ true → list_all p (xs ++ ys) ≡ true
 all_append p xs ys a b = list_all-append p xs ys ∙ and_from _ _ a b
 
 joined_plain : (words : List (List ℕ)) → AreWords words → list_all is_line_octet (joined words) ≡ true
@@ -99,7 +99,7 @@ not_octet : (other b : ℕ) → (other < 32) ⊎ (126 < other) → is_line_octet
 not_octet other b (inl low) h = grind (arith, nat_tests)
 not_octet other b (inr high) h = grind (arith, nat_tests)
 
-none_of : (p q : ℕ → Bool) → ((b : ℕ) → p b ≡ true → q b ≡ false) → (xs : List ℕ) → list_all p xs ≡ true → All (λ x. q x ≡ false) xs
+pub none_of : (p q : ℕ → Bool) → ((b : ℕ) → p b ≡ true → q b ≡ false) → (xs : List ℕ) → list_all p xs ≡ true → All (λ x. q x ≡ false) xs
 none_of p q none [] h = All-nil (λ x. q x ≡ false)
 none_of p q none (x ∷ xs) h =
     let parts = and_parts (p x) (list_all p xs) h in

@@ -3,3 +3,4 @@ pub mod ListLemmas
 pub mod NumeralLemmas
 pub mod LineLemmas
 pub mod EventLines
+pub mod Drafts

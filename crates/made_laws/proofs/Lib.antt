@@ -1,0 +1,8 @@
+pub mod HomeLemmas
+pub mod GrowLemmas
+pub mod RowLemmas
+pub mod ListLemmas
+pub mod NumeralLemmas
+pub mod LineLemmas
+pub mod EventLines
+pub mod Drafts

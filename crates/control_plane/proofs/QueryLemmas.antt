@@ -1,6 +1,6 @@
 -- What the nodes of the control plane keep, in the words of the network, and what is counted over nodes and sessions.
 use Rattle.std.specs.Prelude.{count_by, sum_by}
-use Rattle.core.specs.Slice.{IsItemAt}
+use Rattle.std.specs.Slice.{IsItemAt}
 use Rattle.std.proofs.Common.{◌≡◌, ◌∙◌, refl, sym, ap, subst, arith, ℕ, ◌+◌, ◌<◌, ◌≤◌, min, not, List, [], ◌∷◌, ◌++◌, length, take, slice_get, get_or, Option, Some, None, IfSome, Bor}
 use Rattle.std.proofs.lemmas.Option.{same_Some, slice_get_read, slice_get_within}
 use Rattle.std.proofs.lemmas.List.{map-id}

@@ -1,6 +1,6 @@
 -- Laws of the run of a made network, whose lines are counted.
 use Rattle.std.proofs.Common.{◌≡◌, ◌∙◌, ℕ, ◌+◌, ◌⊎◌, inl, inr, List, [], ◌++◌, length, take, slice_get, refl, sym, ap, subst, arith}
-use Rattle.std.specs.Prelude.{Option, Some, Result, Ok, Err, fold}
+use Rattle.std.specs.Prelude.{Option, Some, Result, Ok, Err, IsErrOf, fold}
 use Rattle.std.proofs.lemmas.List.{take_all}
 use Rattle.std.proofs.lemmas.List.Sums.{fold-append}
 use Rattle.mv_base.specs.declared.ids.NodeId.{NodeId}
@@ -160,10 +160,10 @@ module _ (number : ℕ) (script : Script) (said : script_of (made number) ≡ Ok
 
   -- It was not, or a part of it.
   pub number_cut : (old new : Option (List ℕ)) (swept : Swept) (stop : Stop) → SweepsWhole script swept → AppendedPart old new (sweep_text number swept.world.network.datagrams.count swept.counts) →
-      (stop ≡ stops.Memory → Appended old new []) → (stop ≡ stops.Sink) ⊎ (stop ≡ stops.Memory) → SweepEnds number (Err stop) old new
+      (IsErrOf (stopped stop) stops.Memory → Appended old new []) → (stop ≡ stops.Sink) ⊎ (stop ≡ stops.Memory) → SweepEnds number (Err stop) old new
   number_cut old new swept stop whole text nothing (inl sink) =
       subst (λ (s : Stop). SweepEnds number (Err s) old new) (sym sink) (record { script = script; said = said; holds = (swept.world, numbers_of (AppendedPart old new) swept whole text) })
-  number_cut old new swept stop whole text nothing (inr memory) = subst (λ (s : Stop). SweepEnds number (Err s) old new) (sym memory) (nothing memory)
+  number_cut old new swept stop whole text nothing (inr memory) = subst (λ (s : Stop). SweepEnds number (Err s) old new) (sym memory) (nothing (ap stopped memory))
 
 -- There was no memory, and nothing was written.
 pub number_unmade : (number : ℕ) (old : Option (List ℕ)) (stop : Stop) → stop ≡ stops.Memory → SweepEnds number (Err stop) old old

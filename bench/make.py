@@ -12,16 +12,19 @@
     groups      SIZE events: Join/Prune messages of 45 groups with four sources each
     limits      a scenario at each limit of nodes, edges, links, VRFs, sites, interfaces, targets and prefixes, then SIZE
                 events: joins and sends in turn, each datagram entering at two edges
+    drains      a scenario with 1,000 interfaces, then SIZE events: joins, sends and drains in turn
+    network     the scenario of 32 edges, 16 core nodes and 8 VPNs that `make` writes, then SIZE events of every kind, at random
     late-fault  SIZE octets of comments, of which the last line is faulty
     decode      SIZE octets of hexadecimal text, which writes multipoint FEC elements end to end, one on each line
     decode-nlri SIZE octets of hexadecimal text, which writes MCAST-VPN routes of AFI 1 end to end, one on each line
     decode-bgp  SIZE octets of hexadecimal text, which writes BGP messages end to end, one on each line
     decode-ldp  SIZE octets of hexadecimal text, which writes LDP PDUs end to end, one on each line
 
-The first eight are inputs of `replay`, `decode` is one of `decode fec`, and `decode-NAME` one of `decode NAME`. The input
+The first ten are inputs of `replay`, `decode` is one of `decode fec`, and `decode-NAME` one of `decode NAME`. The input
 is within the limits: 16,777,216 octets, 200,000 events, 1,024 interfaces and entries, 4,096 octets a line.
 """
 
+import random
 import sys
 
 EVENT_LIMIT = 200_000
@@ -87,6 +90,87 @@ def events(size):
         else:
             site = number // 2 % SITES
             yield 'send S%d %s aabb\n' % (site, flow(site))
+
+
+def drains(size):
+    yield from thousand_ifaces()
+    for number in range(min(EVENT_LIMIT, size)):
+        if number % 3 == 0:
+            yield join(number // 3) + '\n'
+        elif number % 3 == 1:
+            site = number // 3 % SITES
+            yield 'send S%d %s aabb\n' % (site, flow(site))
+        else:
+            yield 'drain\n'
+
+
+MADE_EDGES, MADE_CORES, MADE_VPNS = 32, 16, 8
+
+
+def made_scenario():
+    """The scenario of each number that `make` takes."""
+    edges, cores = range(1, MADE_EDGES + 1), range(1, MADE_CORES + 1)
+    yield from ('edge E%d 192.0.2.%d\n' % (edge, edge) for edge in edges)
+    yield from ('core C%d 192.0.3.%d\n' % (core, core) for core in cores)
+    yield from ('link C%d C%d 1\n' % (core, core % MADE_CORES + 1) for core in cores)
+    yield from ('link E%d C%d 1\n' % (edge, (edge - 1) % MADE_CORES + 1) for edge in edges)
+    for edge in edges:
+        for vpn in range(1, MADE_VPNS + 1):
+            yield 'vrf V%d_%d E%d %d 65000:%d 65000:%d highest\n' % (vpn, edge, edge, vpn, vpn, vpn)
+            yield 'site S%d_%d 10.%d.%d.0/24\n' % (vpn, edge, edge, vpn)
+            yield 'iface I%d_%d V%d_%d S%d_%d 10.%d.%d.1\n' % (vpn, edge, vpn, edge, vpn, edge, edge, vpn)
+    yield 'events\nheal\nsettle\ntick 3\nsettle\n'
+
+
+class Events:
+    """Events at random over that scenario, each a line. Sessions are lost and come up again, so some lines are refused."""
+
+    def __init__(self):
+        self.made = random.Random(1)
+
+    def flow(self, vpn):
+        edge = self.made.randint(1, MADE_EDGES)
+        return edge, '10.%d.%d.9 232.1.%d.%d' % (edge, vpn, self.made.randint(1, 2), vpn)
+
+    def session(self):
+        edge = self.made.randint(1, MADE_EDGES)
+        if self.made.random() < 0.5:
+            return 'ldp', 'E%d' % edge, 'C%d' % ((edge - 1) % MADE_CORES + 1)
+        return 'bgp', 'E%d' % edge, 'E%d' % (edge % MADE_EDGES + 1)
+
+    def customers(self):
+        vpn, edge = self.made.randint(1, MADE_VPNS), self.made.randint(1, MADE_EDGES)
+        source, flow = self.flow(vpn)
+        kind = self.made.choice(['join', 'join', 'join', 'prune', 'active', 'idle', 'select', 'unselect'])
+        if kind in ('select', 'unselect'):
+            return '%s V%d_%d %s' % (kind, vpn, source, flow)
+        if kind == 'join' and self.made.random() < 0.2:
+            return 'join I%d_%d * %s' % (vpn, edge, flow.split()[1])
+        return '%s I%d_%d %s' % (kind, vpn, edge, flow)
+
+    def datagrams(self):
+        vpn = self.made.randint(1, MADE_VPNS)
+        source, flow = self.flow(vpn)
+        core = self.made.randint(1, MADE_CORES)
+        ways = ['hop E%d C%d 1' % (source, (source - 1) % MADE_CORES + 1), 'drop C%d C%d 1' % (core, core % MADE_CORES + 1), 'drain']
+        return self.made.choice(['send S%d_%d %s aabb' % (vpn, source, flow)] * 5 + ways)
+
+    def sessions(self):
+        kind, a, b = self.session()
+        lines = ['lose %s %s %s' % (kind, a, b), 'notice %s %s %s' % (kind, a, b), 'notice %s %s %s' % (kind, b, a)]
+        lines += ['raise %s %s %s' % (kind, a, b), 'move %s %s %s 40' % (kind, a, b), 'heal', 'settle', 'state']
+        lines += ['restart E%d' % self.made.randint(1, MADE_EDGES), 'timers C%d' % self.made.randint(1, MADE_CORES), 'tick 1']
+        core = self.made.randint(1, MADE_CORES)
+        return self.made.choice(lines + ['cost C%d C%d %d' % (core, core % MADE_CORES + 1, self.made.randint(1, 9))])
+
+    def line(self):
+        return self.made.choice([self.customers] * 5 + [self.datagrams] * 4 + [self.sessions])()
+
+
+def network(size):
+    yield from made_scenario()
+    events = Events()
+    yield from (events.line() + '\n' for _ in range(min(EVENT_LIMIT, size)))
 
 
 def two_sites():
@@ -261,6 +345,8 @@ KINDS = {
     'comments': lambda size: [*comments(size), *small()],
     'joins': joins,
     'events': events,
+    'drains': drains,
+    'network': network,
     'messages': messages,
     'shared': shared,
     'groups': groups,

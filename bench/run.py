@@ -19,6 +19,8 @@ INPUTS = [
     ('comments', ['replay'], 8_000_000, 0),
     ('joins', ['replay'], 8_000_000, 0),
     ('events', ['replay'], 100_000, 0),
+    ('drains', ['replay'], 100_000, 0),
+    ('network', ['replay'], 10_000, 0),
     ('messages', ['replay'], 100_000, 0),
     ('shared', ['replay'], 100_000, 0),
     ('groups', ['replay'], 1_900, 0),

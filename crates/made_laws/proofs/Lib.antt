@@ -4,3 +4,4 @@ pub mod NumeralLemmas
 pub mod LineLemmas
 pub mod EventLines
 pub mod Drafts
+pub mod NodeBlocks

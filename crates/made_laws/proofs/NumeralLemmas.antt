@@ -117,7 +117,7 @@ paired_name letter edge vpn l h k =
 pub same_name : (name : List ℕ) → pointwise nat_eq name name ≡ true
 same_name name = nat_list_eq_equiv.refl name
 
-other_name : (a b : List ℕ) → a ≢ b → pointwise nat_eq a b ≡ false
+pub other_name : (a b : List ℕ) → a ≢ b → pointwise nat_eq a b ≡ false
 other_name a b differ = false_from_ne_true (pointwise nat_eq a b) (λ e. differ (same_text a b (sym e)))
 
 -- Names of other numbers differ.

@@ -5,3 +5,4 @@ pub mod LineLemmas
 pub mod EventLines
 pub mod Drafts
 pub mod NodeBlocks
+pub mod VpnBlocks

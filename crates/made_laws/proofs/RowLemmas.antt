@@ -55,6 +55,23 @@ abbrev pub with_columns : ℕ → List (List ℕ) → List Placed
 with_columns column [] = []
 with_columns column (word ∷ more) = (record { column = column; text = word }) ∷ with_columns (column + (length word + 1)) more
 
+-- texts one behind another, put together from the front, and from the end
+abbrev pub glued : List ℕ → List (List ℕ) → List ℕ
+glued first [] = first
+glued first (next ∷ more) = glued (first ++ next) more
+
+abbrev pub strung : List ℕ → List (List ℕ) → List ℕ
+strung first [] = first
+strung first (next ∷ more) = first ++ strung next more
+
+strung_first : (first next : List ℕ) (more : List (List ℕ)) → strung (first ++ next) more ≡ first ++ strung next more
+strung_first first next [] = refl
+strung_first first next (third ∷ more) = append_assoc first next (strung third more)
+
+pub glued_strung : (first : List ℕ) (more : List (List ℕ)) → glued first more ≡ strung first more
+glued_strung first [] = refl
+glued_strung first (next ∷ more) = glued_strung (first ++ next) more ∙ strung_first first next more
+
 -- the line feed stands behind the words
 row_text_is : (words : List (List ℕ)) (rest : List ℕ) → row_text words ++ rest ≡ joined words ++ 10 ∷ rest
 row_text_is [] rest = refl

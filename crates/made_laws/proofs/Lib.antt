@@ -6,3 +6,4 @@ pub mod EventLines
 pub mod Drafts
 pub mod NodeBlocks
 pub mod VpnBlocks
+pub mod Connected

@@ -1,6 +1,7 @@
 use Rattle.std.specs.Prelude.{refl}
 use Rattle.made_laws.proofs.RowLemmas.{reads_row, reads_then, reads_none}
 use Rattle.made_laws.proofs.ListLemmas.{get_rows}
+use Rattle.made_laws.proofs.Connected.{connected}
 use Rattle.made_laws.proofs.VpnBlocks.{vpns_read}
 use Rattle.made_laws.proofs.NodeBlocks.{spurs_read}
 use Rattle.made_laws.proofs.Drafts.{edges_later}

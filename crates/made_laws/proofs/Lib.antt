@@ -7,3 +7,5 @@ pub mod Drafts
 pub mod NodeBlocks
 pub mod VpnBlocks
 pub mod Connected
+pub mod EventBlocks
+pub mod Whole

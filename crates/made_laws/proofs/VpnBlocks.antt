@@ -103,7 +103,7 @@ prefix_word edge vpn h k =
     subst IsWord (sym (append_assoc (codes "10." ++ decimal edge ++ codes "." ++ decimal vpn) (codes ".0") (codes "/24")))
     (host_word edge vpn (codes "0/24") h k (omega arith) (known_word (codes ".0/24") (omega arith) (omega arith) refl))
 
-letter_word : (letter : ℕ) → is_word_octet letter ≡ true → IsWord (letter ∷ [])
+pub letter_word : (letter : ℕ) → is_word_octet letter ≡ true → IsWord (letter ∷ [])
 letter_word letter h = record { some = omega arith; few = omega arith; plain = rw h refl }
 
 -- ---- what a VPN has at an edge

@@ -1,6 +1,8 @@
 use Rattle.std.specs.Prelude.{refl}
 use Rattle.made_laws.proofs.RowLemmas.{reads_row, reads_then, reads_none}
 use Rattle.made_laws.proofs.ListLemmas.{get_rows}
+use Rattle.made_laws.proofs.Whole.{few_last}
+use Rattle.made_laws.proofs.EventBlocks.{select_line_told}
 use Rattle.made_laws.proofs.Connected.{connected}
 use Rattle.made_laws.proofs.VpnBlocks.{vpns_read}
 use Rattle.made_laws.proofs.NodeBlocks.{spurs_read}

@@ -16,7 +16,7 @@ use Rattle.scenario_text.specs.Grammar.{row_of, script_at, script_of}
 use Rattle.scenario_text.specs.Faults.{Says, SaysScript}
 use Rattle.scenario_text.proofs.FaultsLemmas.{accepts, short_text}
 use Rattle.generator.specs.Made as made
-use Rattle.made_laws.specs.MadeScript.{each, all, name_at, vrf_id, site_id, iface_id, edge_node, core_node, ring_link, spur_link, vrf, site, iface, join, send, selection, from_line}
+use Rattle.made_laws.specs.MadeScript.{each, all, name_at, vrf_id, site_id, iface_id, edge_node, core_node, ring_link, spur_link, vrf, site, iface, join, send, selection, from_line, made_scenario, made_events, made_script}
 use Rattle.made_laws.proofs.RowLemmas.{joined, Reads, reads_then, reads_row}
 use Rattle.made_laws.proofs.ListLemmas.{behind, rows, behind_all, rows_each, length_behind, get_rows}
 use Rattle.made_laws.proofs.LineLemmas.{at, events_said}
@@ -91,6 +91,20 @@ scenario_said edges cores vpns = record {
   sites = each (λ edge. all (site edge) vpns) edges;
   ifaces = each (λ edge. all (iface edge) vpns) edges;
 }
+
+-- ---- a text that is read to its end
+
+reads_script : (text : List ℕ) (new : Drafted) (after : ℕ) → Reads empty_draft 1 text new after → new.begun ≡ true → after ≤ 4000 → script_of text ≡ Ok (script_at new after)
+reads_script text new after reads begun few =
+    let cut : lines text ≡ reads.rows = ap lines (sym (append-nil text)) ∙ reads.split [] ∙ append-nil reads.rows in
+    let end : after ≡ 1 + length (lines text) = omega (arith, reads.count, ap length cut) in
+    short_text text (omega (arith, reads.short, reads.count, few))
+    ∙ accepts empty_draft 1 (lines text) (script_at new after) (record {
+      draft = new;
+      says = subst (λ (l : List (List ℕ)). Says empty_draft 1 l new) (sym cut) reads.says;
+      begun = begun;
+      told = ap (λ (n : ℕ). script_at new n) end;
+    })
 
 module _ (edges cores vpns : ℕ) (all_edges : edges ≡ 32) (all_cores : cores ≡ 16) (all_vpns : vpns ≡ 8) where
   abbrev base : Drafted
@@ -195,7 +209,7 @@ module _ (edges cores vpns : ℕ) (all_edges : edges ≡ 32) (all_cores : cores 
       length-append (four ++ each (λ vpn. each (join number vpn) edges) vpns ++ (events.Settle ∷ events.State ∷ [])) (all (send number 1) vpns),
       length-append (four ++ each (λ vpn. each (join number vpn) edges) vpns ++ (events.Settle ∷ events.State ∷ []) ++ all (send number 1) vpns) (events.Drain ∷ []))
 
-  pub few_last : (number : ℕ) → length (last_told vpns number) ≤ 100
+  few_last : (number : ℕ) → length (last_told vpns number) ≤ 100
   few_last number =
       omega (arith, few_selections number, few_sends number 2, few_sends number 3,
       length-append (each (selection number) vpns) (events.Settle ∷ events.State ∷ []),
@@ -203,3 +217,58 @@ module _ (edges cores vpns : ℕ) (all_edges : edges ≡ 32) (all_cores : cores 
       length-append (each (selection number) vpns ++ (events.Settle ∷ events.State ∷ []) ++ all (send number 2) vpns) (events.Drain ∷ events.Tick 3 ∷ events.Settle ∷ events.State ∷ []),
       length-append (each (selection number) vpns ++ (events.Settle ∷ events.State ∷ []) ++ all (send number 2) vpns ++ (events.Drain ∷ events.Tick 3 ∷ events.Settle ∷ events.State ∷ [])) (all (send number 3) vpns),
       length-append (each (selection number) vpns ++ (events.Settle ∷ events.State ∷ []) ++ all (send number 2) vpns ++ (events.Drain ∷ events.Tick 3 ∷ events.Settle ∷ events.State ∷ []) ++ all (send number 3) vpns) (events.Drain ∷ events.State ∷ []))
+
+  -- ---- the whole
+
+  first_tells : (number : ℕ) → Tells base (codes "heal\nsettle\ntick 3\nsettle\n" ++ made.each (λ vpn. made.each (made.join_line number vpn) edges) vpns ++ codes "settle\nstate\n" ++ made.each (made.send_line number (codes "01")) vpns ++ codes "drain\n") (first_told edges vpns number)
+  first_tells number =
+      tells_then base _ (codes "drain\n") _ (events.Drain ∷ [])
+      (tells_then base _ (made.each (made.send_line number (codes "01")) vpns) _ (all (send number 1) vpns)
+      (tells_then base _ (codes "settle\nstate\n") _ (events.Settle ∷ events.State ∷ [])
+      (tells_then base (codes "heal\nsettle\ntick 3\nsettle\n") (made.each (λ vpn. made.each (made.join_line number vpn) edges) vpns) four (each (λ vpn. each (join number vpn) edges) vpns) four_told (joins_told number))
+      two_told) (first_sends number)) (drain_told base)
+
+  first_read : (number : ℕ) → Reads base 865 (first_lines edges vpns number) (telling base (first_told edges vpns number)) (866 + length (first_told edges vpns number))
+  first_read number =
+      reads_then base (telling base []) (telling base (first_told edges vpns number)) 865 866 (866 + length (first_told edges vpns number)) (codes "events\n")
+      (codes "heal\nsettle\ntick 3\nsettle\n" ++ made.each (λ vpn. made.each (made.join_line number vpn) edges) vpns ++ codes "settle\nstate\n" ++ made.each (made.send_line number (codes "01")) vpns ++ codes "drain\n")
+      begun_read (first_tells number [] (omega (arith, few_first number)))
+
+  all_read : (number : ℕ) → Reads empty_draft 1 (scenario_lines edges cores vpns ++ first_lines edges vpns number ++ last_lines vpns number)
+      (telling base (first_told edges vpns number ++ last_told vpns number)) (866 + length (first_told edges vpns number ++ last_told vpns number))
+  all_read number =
+      reads_then empty_draft (telling base (first_told edges vpns number)) (telling base (first_told edges vpns number ++ last_told vpns number)) 1 (866 + length (first_told edges vpns number))
+      (866 + length (first_told edges vpns number ++ last_told vpns number)) (scenario_lines edges cores vpns ++ first_lines edges vpns number) (last_lines vpns number)
+      (reads_then empty_draft base (telling base (first_told edges vpns number)) 1 865 (866 + length (first_told edges vpns number)) (scenario_lines edges cores vpns) (first_lines edges vpns number) scenario_read (first_read number))
+      (last_tells number (first_told edges vpns number) (omega (arith, few_first number, few_last number)))
+
+  nodes_said : made_nodes edges cores ≡ all edge_node edges ++ all core_node cores
+  nodes_said = behind_all (behind [] edge_node edges) core_node cores ∙ ap (λ l. l ++ all core_node cores) (behind_all [] edge_node edges)
+
+  links_said : made_links cores edges ≡ all ring_link cores ++ all spur_link edges
+  links_said = behind_all (behind [] ring_link cores) spur_link edges ∙ ap (λ l. l ++ all spur_link edges) (behind_all [] ring_link cores)
+
+  scenario_is : base.scenario ≡ scenario_said edges cores vpns
+  scenario_is = λ i. record {
+    life = 2;
+    delay = 3;
+    labels = 4096;
+    system = 65000;
+    nodes = nodes_said i;
+    links = links_said i;
+    vrfs = rows_each vpns vrf edges i;
+    sites = rows_each vpns site edges i;
+    ifaces = rows_each vpns iface edges i;
+  }
+
+  pub read_whole : (number : ℕ) → script_of (scenario_lines edges cores vpns ++ first_lines edges vpns number ++ last_lines vpns number)
+      ≡ Ok (record { scenario = scenario_said edges cores vpns; events = from_line 866 (first_told edges vpns number ++ last_told vpns number); end = 866 + length (first_told edges vpns number ++ last_told vpns number) })
+  read_whole number =
+      reads_script (scenario_lines edges cores vpns ++ first_lines edges vpns number ++ last_lines vpns number) (telling base (first_told edges vpns number ++ last_told vpns number)) (866 + length (first_told edges vpns number ++ last_told vpns number))
+      (all_read number) refl (omega (arith, few_first number, few_last number, length-append (first_told edges vpns number) (last_told vpns number)))
+      ∙ ap (λ (s : Scenario). Ok (record { scenario = s; events = from_line 866 (first_told edges vpns number ++ last_told vpns number); end = 866 + length (first_told edges vpns number ++ last_told vpns number) })) scenario_is
+
+-- The text of each number, as it is defined.
+pub made_read : (number : ℕ) → script_of (made.made number) ≡ Ok (made_script number)
+unfolding made.made made_script made_scenario made_events
+made_read number = read_whole 32 16 8 refl refl refl number

@@ -9,3 +9,4 @@ pub mod VpnBlocks
 pub mod Connected
 pub mod EventBlocks
 pub mod Whole
+pub mod GrowthLemmas

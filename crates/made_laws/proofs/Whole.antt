@@ -35,7 +35,7 @@ from_one P h (suc e) (suc v) a b c d = h e v (omega arith) (omega arith)
 
 -- ---- how many events there are
 
-few_one : {A : Type 0} (of : ℕ → List A) (count : ℕ) → ((k : ℕ) → length (of k) ≤ 1) → length (each of count) ≤ count
+pub few_one : {A : Type 0} (of : ℕ → List A) (count : ℕ) → ((k : ℕ) → length (of k) ≤ 1) → length (each of count) ≤ count
 few_one of zero h = omega arith
 few_one of (suc count) h = omega (arith, few_one of count h, h (suc count), length-append (each of count) (of (suc count)))
 
@@ -67,19 +67,19 @@ last_lines vpns number =
     made.each (made.select_line number) vpns ++ codes "settle\nstate\n" ++ made.each (made.send_line number (codes "02")) vpns
     ++ codes "drain\ntick 3\nsettle\nstate\n" ++ made.each (made.send_line number (codes "03")) vpns ++ codes "drain\nstate\n"
 
-abbrev four : List Event
+abbrev pub four : List Event
 four = events.Heal ∷ events.Settle ∷ events.Tick 3 ∷ events.Settle ∷ []
 
-abbrev first_told : ℕ → ℕ → ℕ → List Event
+abbrev pub first_told : ℕ → ℕ → ℕ → List Event
 first_told edges vpns number =
     four ++ each (λ vpn. each (join number vpn) edges) vpns ++ (events.Settle ∷ events.State ∷ []) ++ all (send number 1) vpns ++ (events.Drain ∷ [])
 
-abbrev last_told : ℕ → ℕ → List Event
+abbrev pub last_told : ℕ → ℕ → List Event
 last_told vpns number =
     each (selection number) vpns ++ (events.Settle ∷ events.State ∷ []) ++ all (send number 2) vpns
     ++ (events.Drain ∷ events.Tick 3 ∷ events.Settle ∷ events.State ∷ []) ++ all (send number 3) vpns ++ (events.Drain ∷ events.State ∷ [])
 
-abbrev scenario_said : ℕ → ℕ → ℕ → Scenario
+abbrev pub scenario_said : ℕ → ℕ → ℕ → Scenario
 scenario_said edges cores vpns = record {
   life = 2;
   delay = 3;
@@ -107,7 +107,7 @@ reads_script text new after reads begun few =
     })
 
 module _ (edges cores vpns : ℕ) (all_edges : edges ≡ 32) (all_cores : cores ≡ 16) (all_vpns : vpns ≡ 8) where
-  abbrev base : Drafted
+  abbrev pub base : Drafted
   base = behind_vpns edges cores vpns edges zero
 
   -- ---- the scenario
@@ -248,7 +248,7 @@ module _ (edges cores vpns : ℕ) (all_edges : edges ≡ 32) (all_cores : cores 
   links_said : made_links cores edges ≡ all ring_link cores ++ all spur_link edges
   links_said = behind_all (behind [] ring_link cores) spur_link edges ∙ ap (λ l. l ++ all spur_link edges) (behind_all [] ring_link cores)
 
-  scenario_is : base.scenario ≡ scenario_said edges cores vpns
+  pub scenario_is : base.scenario ≡ scenario_said edges cores vpns
   scenario_is = λ i. record {
     life = 2;
     delay = 3;

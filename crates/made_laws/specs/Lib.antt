@@ -1,1 +1,2 @@
 pub mod MadeScript
+pub mod Growth

@@ -26,8 +26,8 @@ use Rattle.scenario_defs.specs.declared.scenario.Route.{Route}
 use Rattle.scenario_defs.specs.declared.scenario.Scenario.{Scenario}
 use Rattle.scenario_defs.specs.declared.scenario.Site.{Site}
 use Rattle.made_laws.specs.MadeScript.{each, all, ipv4, place, vrf_id, site_id, vrf, site, iface, join, send, selection, source, group, source_edge, iface_id, from_line, made_scenario, made_events, made_script}
-use Rattle.made_laws.specs.Growth.{HomesAreOne, OnlyAddsUp, time_of, is_select}
-use Rattle.made_laws.proofs.ListLemmas.{rows, any_rows, get_rows, length_rows}
+use Rattle.made_laws.specs.Growth.{HomesAreOne, IsMadeEvent, OnlyAddsUp, time_of, is_select}
+use Rattle.made_laws.proofs.ListLemmas.{rows, rows_each, any_rows, get_rows, length_rows}
 use Rattle.made_laws.proofs.Whole.{first_told, last_told, four, scenario_said, base, scenario_is, few_one}
 
 -- ---- what holds of each event
@@ -265,3 +265,38 @@ home_of edges cores vpns all_edges all_cores all_vpns =
 pub one_home : HomesAreOne made_scenario
 unfolding made_scenario
 one_home = home_of 32 16 8 refl refl refl
+
+-- ---- all of it
+
+vrf_count : (edges vpns : ℕ) → vpns ≡ 8 → length (each (λ edge. all (vrf edge) vpns) edges) ≡ 8 * edges
+vrf_count edges vpns all_vpns = sym (ap length (rows_each vpns vrf edges)) ∙ length_rows vpns vrf edges all_vpns
+
+-- The ticks of a made script add up to six.
+pub ticks_made : (number : ℕ) → sum_by (λ (timed : Timed). time_of timed.event) (made_script number).events ≡ 6
+unfolding made_script made_events
+ticks_made number = time_told 32 8 number
+
+-- At most eight events of a made script select.
+pub selects_made : (number : ℕ) → count_by (λ (timed : Timed). is_select timed.event) (made_script number).events ≤ 8
+unfolding made_script made_events
+selects_made number = selects_told 32 8 number
+
+pub vrfs_made : length made_scenario.vrfs ≡ 256
+unfolding made_scenario
+vrfs_made = vrf_count 32 8 refl
+
+labels_made : made_scenario.labels ≡ 4096
+unfolding made_scenario
+labels_made = refl
+
+scenario_made : (number : ℕ) → (made_script number).scenario ≡ made_scenario
+unfolding made_script
+scenario_made number = refl
+
+pub only_adds_up : (number : ℕ) → OnlyAddsUp (made_script number)
+only_adds_up number = record {
+  adds = each_made IsMadeEvent (record { heal = tt; settle = tt; drain = tt; state = tt; tick = tt; joins = λ iface source group. tt; sends = λ site source group payload. tt; selects = λ vrf source group. refl }) number;
+  time = ticks_made number;
+  home = subst HomesAreOne (sym (scenario_made number)) one_home;
+  labels = omega (arith, selects_made number, vrfs_made, labels_made, ap (λ (s : Scenario). length s.vrfs) (scenario_made number), ap (λ (s : Scenario). s.labels) (scenario_made number));
+}

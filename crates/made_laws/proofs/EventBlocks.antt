@@ -1,10 +1,8 @@
 -- The blocks of events, line by line, behind any scenario that has the things that they name.
-use Rattle.std.proofs.Common.{◌≡◌, ◌⊎◌, ℕ, zero, suc, ◌+◌, ◌*◌, ◌-◌, ◌%◌, ◌<◌, ◌≤◌, ◌==◌, ◌&&◌, Bool, true, false, cond, not, nat_le, List, [], ◌∷◌, ◌++◌, length, Option, Some, None, refl, sym, ap, ap₂, subst, ◌∙◌, arith, append_assoc, append-nil, length-append}
-use Rattle.std.specs.Prelude.{codes, decimal, nat_eq, Ok}
+use Rattle.std.proofs.Common.{◌≡◌, ℕ, zero, suc, ◌+◌, ◌%◌, ◌<◌, ◌≤◌, ◌==◌, ◌&&◌, Bool, true, false, cond, not, List, [], ◌∷◌, ◌++◌, length, Some, refl, sym, ap, subst, ◌∙◌, arith, append_assoc, append-nil, length-append}
+use Rattle.std.specs.Prelude.{codes, decimal, Ok}
 use Rattle.std.specs.List.{slice_get}
-use Rattle.std.specs.Cmp.Lexicographic.{pointwise}
 use Rattle.std.proofs.lemmas.Bool.{lt-leb}
-use Rattle.mv_base.specs.declared.addr.Addr.{Addr}
 use Rattle.scenario_defs.specs.declared.event.Event.{Event}
 use Rattle.scenario_defs.specs.declared.event.Event.TheVariants as events
 use Rattle.scenario_defs.specs.declared.event.JoinEntry.TheVariants.{Source}
@@ -12,18 +10,17 @@ use Rattle.scenario_defs.specs.declared.event.Timed.{Timed}
 use Rattle.line_words.specs.declared.words.Row.{Row}
 use Rattle.scenario_draft.specs.declared.line.Line.TheVariants as says
 use Rattle.scenario_draft.specs.Drafted.{Drafted}
-use Rattle.scenario_draft.specs.Adding.{added}
 use Rattle.scenario_draft.specs.Naming.{vrf_at, site_at, iface_at}
 use Rattle.line_words.specs.Forms.{payload_at}
 use Rattle.scenario_text.specs.Grammar.{row_of, words_line}
 use Rattle.generator.specs.Made as made
-use Rattle.made_laws.specs.MadeScript.{each, all, name_at, place, vrf_id, site_id, iface_id, vrf, site, iface, source_edge, source, group, join, send, selection, from_line}
-use Rattle.made_laws.proofs.RowLemmas.{glued_strung, is_word_octet, IsWord, AreWords, joined, with_columns, begins, row_text, Reads, reads_none, reads_then, reads_row}
+use Rattle.made_laws.specs.MadeScript.{each, name_at, place, vrf_id, site_id, iface_id, vrf, site, iface, source_edge, source, group, join, send, selection, from_line}
+use Rattle.made_laws.proofs.RowLemmas.{glued_strung, IsWord, AreWords, joined, with_columns, begins, row_text, Reads, reads_none, reads_then, reads_row}
 use Rattle.made_laws.proofs.NumeralLemmas.{numbered_word, paired_name, host, host_dotted, group_dotted, addr_read}
 use Rattle.made_laws.proofs.LineLemmas.{at, vrf_word, site_word, iface_word}
-use Rattle.made_laws.proofs.EventLines.{TakesEvents, heal_said, settle_said, drain_said, state_said, tick_said, AreOfFlow, join_said, send_said, first_payload, second_payload, third_payload, select_said}
+use Rattle.made_laws.proofs.EventLines.{TakesEvents, heal_said, settle_said, drain_said, state_said, tick_said, AreOfFlow, join_said, send_said, select_said}
 use Rattle.made_laws.proofs.Drafts.{vrf_entry, site_entry, iface_entry, Stands}
-use Rattle.made_laws.proofs.NodeBlocks.{as_text, at_lines, known_word}
+use Rattle.made_laws.proofs.NodeBlocks.{known_word}
 use Rattle.made_laws.proofs.VpnBlocks.{pair_word, host_word, letter_word}
 
 -- ---- events with the numbers of their lines

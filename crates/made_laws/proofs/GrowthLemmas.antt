@@ -1,11 +1,11 @@
 -- What holds of each event of a made script, what its events add up to, and that each source has one home.
-use Rattle.std.proofs.Common.{◌≡◌, ◌⊎◌, ℕ, zero, suc, ◌+◌, ◌*◌, ◌-◌, ◌/◌, ◌%◌, ◌^◌, ◌<◌, ◌≤◌, ◌==◌, ◌&&◌, Bool, true, false, cond, List, [], ◌∷◌, ◌++◌, map, length, Option, Some, None, refl, sym, ap, ap₂, subst, ◌∙◌, arith, inl, inr, length-append}
-use Rattle.std.specs.Prelude.{sum_by, count_by, if◌then◌else◌}
+use Rattle.std.proofs.Common.{◌≡◌, ◌⊎◌, ℕ, zero, suc, ◌+◌, ◌*◌, ◌/◌, ◌%◌, ◌^◌, ◌<◌, ◌≤◌, ◌==◌, ◌&&◌, Bool, true, false, cond, List, [], ◌∷◌, ◌++◌, length, Some, refl, sym, ap, ap₂, subst, ◌∙◌, arith, inl, inr}
+use Rattle.std.specs.Prelude.{sum_by, count_by}
 use Rattle.std.specs.List.{AllByRecursion, list_any, slice_get}
 use Rattle.std.specs.Int.{w32, from_be_bytes}
 use Rattle.std.proofs.lemmas.Bool.{and_parts, eqb-true, false_from_ne_true, both_ways, cases_eq}
 use Rattle.std.proofs.lemmas.List.Sums.{sum_by-cons, sum_by-append}
-use Rattle.std.proofs.lemmas.Option.{same_Some, none-some, slice_get_within}
+use Rattle.std.proofs.lemmas.Option.{same_Some, slice_get_within}
 use Rattle.mv_base.specs.Lists.{Among}
 use Rattle.mv_base.specs.Prefix.{covers}
 use Rattle.mv_base.specs.declared.addr.Addr.{Addr}
@@ -13,8 +13,6 @@ use Rattle.mv_base.specs.declared.addr.Addr.TheVariants.{V4, V6}
 use Rattle.mv_base.specs.declared.ids.VrfId.{VrfId}
 use Rattle.mv_base.specs.declared.ids.SiteId.{SiteId}
 use Rattle.mv_base.specs.declared.ids.IfaceId.{IfaceId}
-use Rattle.mv_base.specs.declared.pattern.Pattern.{Pattern}
-use Rattle.mv_base.specs.declared.prefix.Prefix.{Prefix}
 use Rattle.scenario_defs.specs.Home.{routes_of_site, routes_from, local_routes}
 use Rattle.scenario_defs.specs.Vpn.{is_attached_at}
 use Rattle.scenario_defs.specs.declared.event.Event.{Event}
@@ -25,10 +23,10 @@ use Rattle.scenario_defs.specs.declared.scenario.Iface.{Iface}
 use Rattle.scenario_defs.specs.declared.scenario.Route.{Route}
 use Rattle.scenario_defs.specs.declared.scenario.Scenario.{Scenario}
 use Rattle.scenario_defs.specs.declared.scenario.Site.{Site}
-use Rattle.made_laws.specs.MadeScript.{each, all, ipv4, place, vrf_id, site_id, vrf, site, iface, join, send, selection, source, group, source_edge, iface_id, from_line, made_scenario, made_events, made_script}
+use Rattle.made_laws.specs.MadeScript.{each, all, ipv4, place, vrf_id, site_id, vrf, site, iface, join, send, selection, source, group, source_edge, from_line, made_scenario, made_events, made_script}
 use Rattle.made_laws.specs.Growth.{HomesAreOne, IsMadeEvent, OnlyAddsUp, time_of, is_select}
 use Rattle.made_laws.proofs.ListLemmas.{rows, rows_each, any_rows, get_rows, length_rows}
-use Rattle.made_laws.proofs.Whole.{first_told, last_told, four, scenario_said, base, scenario_is, few_one}
+use Rattle.made_laws.proofs.Whole.{first_told, last_told, four, scenario_said, base, scenario_is}
 
 -- ---- what holds of each event
 
@@ -124,18 +122,24 @@ module _ (f : Event → ℕ) (joins : (iface : IfaceId) (source group : Addr) �
       let told : List Event = each (λ vpn. each (join number vpn) edges) vpns in
       let chosen : List Event = each (selection number) vpns in
       let nothing : sum_by f (each (λ vpn. each (join number vpn) edges) vpns) ≡ 0 = sum_none f (λ vpn. each (join number vpn) edges) vpns (λ vpn. sum_none f (join number vpn) edges (λ edge. sum_if f _ _ (joins _ _ _))) in
-      omega (arith, nothing, sum_sends number 1 vpns, sum_sends number 2 vpns, sum_sends number 3 vpns,
-      sum_lines f 866 (first_told edges vpns number ++ last_told vpns number),
-      sum_by-append f (first_told edges vpns number) (last_told vpns number),
-      sum_by-append f four (each (λ vpn. each (join number vpn) edges) vpns),
-      sum_by-append f (four ++ each (λ vpn. each (join number vpn) edges) vpns) (events.Settle ∷ events.State ∷ []),
-      sum_by-append f (four ++ each (λ vpn. each (join number vpn) edges) vpns ++ (events.Settle ∷ events.State ∷ [])) (all (send number 1) vpns),
-      sum_by-append f (four ++ each (λ vpn. each (join number vpn) edges) vpns ++ (events.Settle ∷ events.State ∷ []) ++ all (send number 1) vpns) (events.Drain ∷ []),
-      sum_by-append f (each (selection number) vpns) (events.Settle ∷ events.State ∷ []),
-      sum_by-append f (each (selection number) vpns ++ (events.Settle ∷ events.State ∷ [])) (all (send number 2) vpns),
-      sum_by-append f (each (selection number) vpns ++ (events.Settle ∷ events.State ∷ []) ++ all (send number 2) vpns) (events.Drain ∷ events.Tick 3 ∷ events.Settle ∷ events.State ∷ []),
-      sum_by-append f (each (selection number) vpns ++ (events.Settle ∷ events.State ∷ []) ++ all (send number 2) vpns ++ (events.Drain ∷ events.Tick 3 ∷ events.Settle ∷ events.State ∷ [])) (all (send number 3) vpns),
-      sum_by-append f (each (selection number) vpns ++ (events.Settle ∷ events.State ∷ []) ++ all (send number 2) vpns ++ (events.Drain ∷ events.Tick 3 ∷ events.Settle ∷ events.State ∷ []) ++ all (send number 3) vpns) (events.Drain ∷ events.State ∷ []))
+      omega (
+        arith,
+        nothing,
+        sum_sends number 1 vpns,
+        sum_sends number 2 vpns,
+        sum_sends number 3 vpns,
+        sum_lines f 866 (first_told edges vpns number ++ last_told vpns number),
+        sum_by-append f (first_told edges vpns number) (last_told vpns number),
+        sum_by-append f four (each (λ vpn. each (join number vpn) edges) vpns),
+        sum_by-append f (four ++ each (λ vpn. each (join number vpn) edges) vpns) (events.Settle ∷ events.State ∷ []),
+        sum_by-append f (four ++ each (λ vpn. each (join number vpn) edges) vpns ++ (events.Settle ∷ events.State ∷ [])) (all (send number 1) vpns),
+        sum_by-append f (four ++ each (λ vpn. each (join number vpn) edges) vpns ++ (events.Settle ∷ events.State ∷ []) ++ all (send number 1) vpns) (events.Drain ∷ []),
+        sum_by-append f (each (selection number) vpns) (events.Settle ∷ events.State ∷ []),
+        sum_by-append f (each (selection number) vpns ++ (events.Settle ∷ events.State ∷ [])) (all (send number 2) vpns),
+        sum_by-append f (each (selection number) vpns ++ (events.Settle ∷ events.State ∷ []) ++ all (send number 2) vpns) (events.Drain ∷ events.Tick 3 ∷ events.Settle ∷ events.State ∷ []),
+        sum_by-append f (each (selection number) vpns ++ (events.Settle ∷ events.State ∷ []) ++ all (send number 2) vpns ++ (events.Drain ∷ events.Tick 3 ∷ events.Settle ∷ events.State ∷ [])) (all (send number 3) vpns),
+        sum_by-append f (each (selection number) vpns ++ (events.Settle ∷ events.State ∷ []) ++ all (send number 2) vpns ++ (events.Drain ∷ events.Tick 3 ∷ events.Settle ∷ events.State ∷ []) ++ all (send number 3) vpns) (events.Drain ∷ events.State ∷ []),
+      )
 
 time_told : (edges vpns number : ℕ) → sum_by (λ (timed : Timed). time_of timed.event) (from_line 866 (first_told edges vpns number ++ last_told vpns number)) ≡ 6
 time_told edges vpns number = omega (arith, sum_told time_of (λ iface source group. refl) (λ site source group payload. refl) edges vpns number, sum_none time_of (selection number) vpns (λ vpn. sum_if time_of _ _ refl))

@@ -1,26 +1,23 @@
 -- The blocks of nodes and links, line by line.
-use Rattle.std.proofs.Common.{◌≡◌, ◌≢◌, ◌⊎◌, ℕ, zero, suc, ◌+◌, ◌*◌, ◌-◌, ◌%◌, ◌<◌, ◌≤◌, ◌==◌, ◌&&◌, ◌||◌, Bool, true, false, nat_le, List, [], ◌∷◌, ◌++◌, length, get_or, Option, Some, None, refl, sym, ap, subst, ◌∙◌, arith, inl, inr, append_assoc}
+use Rattle.std.proofs.Common.{◌≡◌, ◌≢◌, ℕ, zero, suc, ◌+◌, ◌-◌, ◌%◌, ◌<◌, ◌≤◌, ◌==◌, ◌&&◌, ◌||◌, true, false, List, [], ◌∷◌, ◌++◌, length, get_or, Option, Some, refl, sym, ap, subst, arith, append_assoc}
 use Rattle.std.specs.Prelude.{codes, decimal, nat_eq, option_map, count_by, Ok}
-use Rattle.std.specs.List.{list_all, list_any, slice_get}
+use Rattle.std.specs.List.{list_all, slice_get}
 use Rattle.std.specs.Cmp.Lexicographic.{pointwise}
 use Rattle.std.proofs.lemmas.Bool.{or_from, and_parts, lt-leb, false_from_ne_true, eqb-true, ne_eqb}
 use Rattle.std.proofs.lemmas.List.Sums.{count_by-le-length}
-use Rattle.mv_base.specs.declared.addr.Addr.{Addr}
 use Rattle.mv_base.specs.declared.addr.Addr.TheVariants.{V4}
-use Rattle.mv_base.specs.declared.ids.NodeId.{NodeId}
 use Rattle.scenario_defs.specs.declared.scenario.Node.{Node}
 use Rattle.line_words.specs.declared.words.Row.{Row}
 use Rattle.scenario_draft.specs.declared.line.Line.TheVariants as says
 use Rattle.scenario_draft.specs.Drafted.{Drafted}
 use Rattle.scenario_draft.specs.Naming.{node_at, is_at, joins}
-use Rattle.scenario_text.specs.Grammar.{row_of}
 use Rattle.generator.specs.Made as made
 use Rattle.made_laws.specs.MadeScript.{ipv4, edge_id, core_id, edge_node, core_node, ring_link, spur_link}
-use Rattle.made_laws.proofs.RowLemmas.{is_word_octet, IsWord, AreWords, joined, row_text, Reads, reads_none, reads_then, reads_row}
+use Rattle.made_laws.proofs.RowLemmas.{is_word_octet, IsWord, row_text, Reads, reads_none, reads_then, reads_row}
 use Rattle.made_laws.proofs.ListLemmas.{behind, length_behind, any_none, get_behind, get_kept}
 use Rattle.made_laws.proofs.NumeralLemmas.{numbered_word, numbered_name, edge_dotted, core_dotted, other_name}
 use Rattle.made_laws.proofs.LineLemmas.{at, node_word, IsNewNode, edge_said, core_said, IsNewLink, link_said}
-use Rattle.made_laws.proofs.Drafts.{edge_entry, core_entry, node_names, made_nodes, made_links, behind_edges, behind_cores, behind_ring, behind_spurs, Stands, edge_free, core_free, edge_stands, core_stands}
+use Rattle.made_laws.proofs.Drafts.{core_entry, node_names, made_nodes, made_links, behind_edges, behind_cores, behind_ring, behind_spurs, Stands, edge_free, core_free, edge_stands, core_stands}
 
 -- ---- a block
 

@@ -1,32 +1,29 @@
 -- The blocks of VRFs, sites and interfaces, line by line.
-use Rattle.std.proofs.Common.{◌≡◌, ◌≢◌, ◌⊎◌, ℕ, zero, suc, ◌+◌, ◌*◌, ◌-◌, ◌<◌, ◌≤◌, ◌==◌, ◌&&◌, ◌||◌, Bool, true, false, not, nat_le, List, [], ◌∷◌, ◌++◌, length, get_or, Option, Some, None, refl, sym, ap, subst, ◌∙◌, arith, append_assoc, append-nil}
+use Rattle.std.proofs.Common.{◌≡◌, ℕ, zero, suc, ◌+◌, ◌*◌, ◌-◌, ◌<◌, ◌≤◌, ◌==◌, ◌&&◌, ◌||◌, Bool, true, false, not, List, [], ◌∷◌, ◌++◌, length, get_or, Option, Some, None, refl, sym, ap, subst, ◌∙◌, arith, append_assoc, append-nil}
 use Rattle.std.specs.Prelude.{codes, decimal, nat_eq, Ok}
-use Rattle.std.specs.List.{list_any, slice_get}
+use Rattle.std.specs.List.{slice_get}
 use Rattle.std.specs.Cmp.Lexicographic.{pointwise, same_text, nat_list_eq_equiv}
 use Rattle.std.proofs.lemmas.Bool.{and_parts, and_left, and_right, lt-leb, false_from_ne_true, eqb-true, ne_eqb, false≢true}
-use Rattle.mv_base.specs.declared.addr.Addr.TheVariants.{V4}
 use Rattle.mv_base.specs.declared.prefix.Prefix.{Prefix}
-use Rattle.route_targets.specs.declared.communities.Target.{Target}
-use Rattle.route_targets.specs.Targets.{same_target}
 use Rattle.scenario_defs.specs.declared.scenario.Scenario.{Scenario}
 use Rattle.scenario_defs.specs.declared.scenario.Site.{Site}
 use Rattle.scenario_defs.specs.declared.scenario.Thing.{Thing}
 use Rattle.scenario_defs.specs.declared.scenario.Thing.TheVariants as things
-use Rattle.scenario_defs.specs.Prefixes.{prefixes_of, same_prefix, share_prefix}
+use Rattle.scenario_defs.specs.Prefixes.{prefixes_of, share_prefix}
 use Rattle.line_words.specs.declared.words.Row.{Row}
 use Rattle.scenario_draft.specs.declared.line.Line.TheVariants as says
 use Rattle.scenario_draft.specs.Drafted.{Drafted}
-use Rattle.scenario_draft.specs.Naming.{edge_at, vrf_at, site_at, has_number, has_rd}
+use Rattle.scenario_draft.specs.Naming.{edge_at, has_number, has_rd}
 use Rattle.scenario_lines.specs.VrfGrammar.{overlaps, is_vpn_at}
 use Rattle.scenario_lines.specs.SiteGrammar.{is_mixed, is_taken}
 use Rattle.generator.specs.Made as made
 use Rattle.made_laws.specs.MadeScript.{ipv4, edge_id, edge_node, name_at, place, vrf_id, site_id, iface_id, vrf, site, iface}
-use Rattle.made_laws.proofs.RowLemmas.{glued_strung, is_word_octet, IsWord, AreWords, row_text, Reads, reads_none, reads_then, reads_row}
+use Rattle.made_laws.proofs.RowLemmas.{glued_strung, is_word_octet, IsWord, row_text, Reads, reads_then, reads_row}
 use Rattle.made_laws.proofs.ListLemmas.{behind, rows, length_behind, length_rows, any_place, get_place}
 use Rattle.made_laws.proofs.NumeralLemmas.{numbered_word, number_word, paired_word, numbered_name, paired_name, other_name, host, host_dotted, addr_read, vrf_number_read, rd_read, targets_read, prefixes_read}
-use Rattle.made_laws.proofs.LineLemmas.{at, edge_word, vrf_word, site_word, IsNewVrf, AreOfVrf, vrf_said, IsNewSite, site_said, IsNewIface, iface_said}
-use Rattle.made_laws.proofs.Drafts.{edge_entry, vrf_entry, site_entry, iface_entry, node_names, named_at, named_edges, with_lists, made_nodes, made_links, behind_spurs, behind_vpns, Stands, edge_stands, vrf_free, site_free, iface_free, vrf_stands, site_stands, at_kept, edges_kept}
-use Rattle.made_laws.proofs.NodeBlocks.{reads_each, as_text, at_lines, known_word, other_octets, edge_there}
+use Rattle.made_laws.proofs.LineLemmas.{at, edge_word, vrf_word, site_word, IsNewVrf, vrf_said, IsNewSite, site_said, IsNewIface, iface_said}
+use Rattle.made_laws.proofs.Drafts.{vrf_entry, site_entry, node_names, named_at, named_edges, with_lists, made_nodes, made_links, behind_vpns, edge_stands, vrf_free, site_free, iface_free, vrf_stands, site_stands, at_kept, edges_kept}
+use Rattle.made_laws.proofs.NodeBlocks.{reads_each, as_text, at_lines, known_word, edge_there}
 
 -- ---- words
 
@@ -160,9 +157,19 @@ module _ (edges cores vpns e v : ℕ) (all_edges : edges ≡ 32) (all_vpns : vpn
   vrf_row number =
       as_text zeroth first number (number + 1) _ (made.vrf_line (suc e) (suc v)) (vrf_text (suc e) (suc v))
       (reads_row zeroth number (codes "vrf") (name_at (codes "V") (suc e) (suc v) ∷ (codes "E" ++ decimal (suc e)) ∷ decimal (suc v) ∷ (codes "65000:" ++ decimal (suc v)) ∷ (codes "65000:" ++ decimal (suc v)) ∷ codes "highest" ∷ [])
-      (says.Vrf (vrf_id (suc e) (suc v)) (vrf (suc e) (suc v)))
-      (known_word (codes "vrf") (omega arith) (omega arith) refl, (pair_word 86 (suc e) (suc v) (omega arith) (omega arith) (letter_word 86 refl), (numbered_word (codes "E") (suc e) (omega arith) (omega arith) (omega arith) refl, (number_word (suc v) (omega arith),
-      (numbered_word (codes "65000:") (suc v) (omega arith) (omega arith) (omega arith) refl, (numbered_word (codes "65000:") (suc v) (omega arith) (omega arith) (omega arith) refl, (known_word (codes "highest") (omega arith) (omega arith) refl, tt)))))))
+      (says.Vrf (vrf_id (suc e) (suc v)) (vrf (suc e) (suc v))) (
+        known_word (codes "vrf") (omega arith) (omega arith) refl,
+        (
+          pair_word 86 (suc e) (suc v) (omega arith) (omega arith) (letter_word 86 refl),
+          (
+            numbered_word (codes "E") (suc e) (omega arith) (omega arith) (omega arith) refl,
+            (
+              number_word (suc v) (omega arith),
+              (numbered_word (codes "65000:") (suc v) (omega arith) (omega arith) (omega arith) refl, (numbered_word (codes "65000:") (suc v) (omega arith) (omega arith) (omega arith) refl, (known_word (codes "highest") (omega arith) (omega arith) refl, tt))),
+            ),
+          ),
+        ),
+      )
       (omega arith) refl
       (vrf_said zeroth _ (vrf_id (suc e) (suc v)) (vrf (suc e) (suc v)) (codes "E" ++ decimal (suc e)) (decimal (suc v)) (codes "65000:" ++ decimal (suc v)) (codes "65000:" ++ decimal (suc v)) _ _ _ _ _ _ _ refl refl new_vrf
       (record { counted = vrf_number_read v k; told_by = rd_read v k; admits = targets_read v k })))
@@ -209,9 +216,19 @@ module _ (edges cores vpns e v : ℕ) (all_edges : edges ≡ 32) (all_vpns : vpn
   iface_row number =
       as_text second (behind_vpns edges cores vpns e (suc v)) number (number + 1) _ (made.iface_line (suc e) (suc v)) (iface_text (suc e) (suc v))
       (reads_row second number (codes "iface") (name_at (codes "I") (suc e) (suc v) ∷ name_at (codes "V") (suc e) (suc v) ∷ name_at (codes "S") (suc e) (suc v) ∷ host (suc e) (suc v) (codes "1") ∷ [])
-      (says.Iface (iface_id (suc e) (suc v)) (iface (suc e) (suc v)))
-      (known_word (codes "iface") (omega arith) (omega arith) refl, (pair_word 73 (suc e) (suc v) (omega arith) (omega arith) (letter_word 73 refl), (pair_word 86 (suc e) (suc v) (omega arith) (omega arith) (letter_word 86 refl), (pair_word 83 (suc e) (suc v) (omega arith) (omega arith) (letter_word 83 refl),
-      (host_word (suc e) (suc v) (codes "1") (omega arith) (omega arith) (omega arith) (known_word (codes ".1") (omega arith) (omega arith) refl), tt)))))
+      (says.Iface (iface_id (suc e) (suc v)) (iface (suc e) (suc v))) (
+        known_word (codes "iface") (omega arith) (omega arith) refl,
+        (
+          pair_word 73 (suc e) (suc v) (omega arith) (omega arith) (letter_word 73 refl),
+          (
+            pair_word 86 (suc e) (suc v) (omega arith) (omega arith) (letter_word 86 refl),
+            (
+              pair_word 83 (suc e) (suc v) (omega arith) (omega arith) (letter_word 83 refl),
+              (host_word (suc e) (suc v) (codes "1") (omega arith) (omega arith) (omega arith) (known_word (codes ".1") (omega arith) (omega arith) refl), tt),
+            ),
+          ),
+        ),
+      )
       (omega arith) refl
       (iface_said second _ (iface_id (suc e) (suc v)) (iface (suc e) (suc v)) (name_at (codes "V") (suc e) (suc v)) (name_at (codes "S") (suc e) (suc v)) (host (suc e) (suc v) (codes "1")) _ _ _ _ _ refl new_iface
       (addr_read (host (suc e) (suc v) (codes "1")) _ (host_dotted (suc e) (suc v) 1 (omega arith) (omega arith) (omega arith)))))

@@ -1,25 +1,23 @@
 -- The whole text, block by block. How many edges, core nodes and VPNs there are is given by equations, so that no block is written out.
-use Rattle.std.proofs.Common.{◌≡◌, ◌⊎◌, ℕ, zero, suc, ◌+◌, ◌*◌, ◌<◌, ◌≤◌, Bool, true, false, cond, List, [], ◌∷◌, ◌++◌, length, refl, sym, ap, ap₂, subst, ◌∙◌, arith, append-nil, length-append}
+use Rattle.std.proofs.Common.{◌≡◌, ℕ, zero, suc, ◌+◌, ◌*◌, ◌<◌, ◌≤◌, Bool, true, false, cond, List, [], ◌∷◌, ◌++◌, length, refl, sym, ap, subst, ◌∙◌, arith, append-nil, length-append}
 use Rattle.std.specs.Prelude.{codes, nat_eq, Ok}
 use Rattle.std.specs.Str.Lines.{lines}
 use Rattle.std.specs.Cmp.Lexicographic.{pointwise}
 use Rattle.scenario_defs.specs.declared.event.Event.{Event}
 use Rattle.scenario_defs.specs.declared.event.Event.TheVariants as events
-use Rattle.scenario_defs.specs.declared.event.Script.{Script}
 use Rattle.scenario_defs.specs.declared.scenario.Scenario.{Scenario}
-use Rattle.scenario_defs.specs.declared.scenario.Thing.{Thing}
 use Rattle.scenario_defs.specs.declared.scenario.Thing.TheVariants as things
 use Rattle.scenario_draft.specs.declared.line.Line.TheVariants as says
 use Rattle.scenario_draft.specs.Drafted.{Drafted}
 use Rattle.scenario_draft.specs.Adding.{empty_draft}
 use Rattle.scenario_text.specs.Grammar.{row_of, script_at, script_of}
-use Rattle.scenario_text.specs.Faults.{Says, SaysScript}
+use Rattle.scenario_text.specs.Faults.{Says}
 use Rattle.scenario_text.proofs.FaultsLemmas.{accepts, short_text}
 use Rattle.generator.specs.Made as made
 use Rattle.made_laws.specs.MadeScript.{each, all, name_at, vrf_id, site_id, iface_id, edge_node, core_node, ring_link, spur_link, vrf, site, iface, join, send, selection, from_line, made_scenario, made_events, made_script}
-use Rattle.made_laws.proofs.RowLemmas.{joined, Reads, reads_then, reads_row}
-use Rattle.made_laws.proofs.ListLemmas.{behind, rows, behind_all, rows_each, length_behind, get_rows}
-use Rattle.made_laws.proofs.LineLemmas.{at, events_said}
+use Rattle.made_laws.proofs.RowLemmas.{Reads, reads_then, reads_row}
+use Rattle.made_laws.proofs.ListLemmas.{behind, behind_all, rows_each, length_behind, get_rows}
+use Rattle.made_laws.proofs.LineLemmas.{events_said}
 use Rattle.made_laws.proofs.EventLines.{first_payload, second_payload, third_payload}
 use Rattle.made_laws.proofs.Drafts.{vrf_entry, site_entry, iface_entry, node_names, made_nodes, made_links, behind_edges, behind_cores, behind_ring, behind_spurs, behind_vpns, Stands, three_stand, edges_later}
 use Rattle.made_laws.proofs.NodeBlocks.{at_lines, known_word, edges_read, cores_read, ring_read, spurs_read}
@@ -203,20 +201,29 @@ module _ (edges cores vpns : ℕ) (all_edges : edges ≡ 32) (all_cores : cores 
 
   few_first : (number : ℕ) → length (first_told edges vpns number) ≤ 300
   few_first number =
-      omega (arith, few_joins number, few_sends number 1,
-      length-append four (each (λ vpn. each (join number vpn) edges) vpns),
-      length-append (four ++ each (λ vpn. each (join number vpn) edges) vpns) (events.Settle ∷ events.State ∷ []),
-      length-append (four ++ each (λ vpn. each (join number vpn) edges) vpns ++ (events.Settle ∷ events.State ∷ [])) (all (send number 1) vpns),
-      length-append (four ++ each (λ vpn. each (join number vpn) edges) vpns ++ (events.Settle ∷ events.State ∷ []) ++ all (send number 1) vpns) (events.Drain ∷ []))
+      omega (
+        arith,
+        few_joins number,
+        few_sends number 1,
+        length-append four (each (λ vpn. each (join number vpn) edges) vpns),
+        length-append (four ++ each (λ vpn. each (join number vpn) edges) vpns) (events.Settle ∷ events.State ∷ []),
+        length-append (four ++ each (λ vpn. each (join number vpn) edges) vpns ++ (events.Settle ∷ events.State ∷ [])) (all (send number 1) vpns),
+        length-append (four ++ each (λ vpn. each (join number vpn) edges) vpns ++ (events.Settle ∷ events.State ∷ []) ++ all (send number 1) vpns) (events.Drain ∷ []),
+      )
 
   few_last : (number : ℕ) → length (last_told vpns number) ≤ 100
   few_last number =
-      omega (arith, few_selections number, few_sends number 2, few_sends number 3,
-      length-append (each (selection number) vpns) (events.Settle ∷ events.State ∷ []),
-      length-append (each (selection number) vpns ++ (events.Settle ∷ events.State ∷ [])) (all (send number 2) vpns),
-      length-append (each (selection number) vpns ++ (events.Settle ∷ events.State ∷ []) ++ all (send number 2) vpns) (events.Drain ∷ events.Tick 3 ∷ events.Settle ∷ events.State ∷ []),
-      length-append (each (selection number) vpns ++ (events.Settle ∷ events.State ∷ []) ++ all (send number 2) vpns ++ (events.Drain ∷ events.Tick 3 ∷ events.Settle ∷ events.State ∷ [])) (all (send number 3) vpns),
-      length-append (each (selection number) vpns ++ (events.Settle ∷ events.State ∷ []) ++ all (send number 2) vpns ++ (events.Drain ∷ events.Tick 3 ∷ events.Settle ∷ events.State ∷ []) ++ all (send number 3) vpns) (events.Drain ∷ events.State ∷ []))
+      omega (
+        arith,
+        few_selections number,
+        few_sends number 2,
+        few_sends number 3,
+        length-append (each (selection number) vpns) (events.Settle ∷ events.State ∷ []),
+        length-append (each (selection number) vpns ++ (events.Settle ∷ events.State ∷ [])) (all (send number 2) vpns),
+        length-append (each (selection number) vpns ++ (events.Settle ∷ events.State ∷ []) ++ all (send number 2) vpns) (events.Drain ∷ events.Tick 3 ∷ events.Settle ∷ events.State ∷ []),
+        length-append (each (selection number) vpns ++ (events.Settle ∷ events.State ∷ []) ++ all (send number 2) vpns ++ (events.Drain ∷ events.Tick 3 ∷ events.Settle ∷ events.State ∷ [])) (all (send number 3) vpns),
+        length-append (each (selection number) vpns ++ (events.Settle ∷ events.State ∷ []) ++ all (send number 2) vpns ++ (events.Drain ∷ events.Tick 3 ∷ events.Settle ∷ events.State ∷ []) ++ all (send number 3) vpns) (events.Drain ∷ events.State ∷ []),
+      )
 
   -- ---- the whole
 

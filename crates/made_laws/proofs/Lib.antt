@@ -9,4 +9,3 @@ pub mod VpnBlocks
 pub mod Connected
 pub mod EventBlocks
 pub mod Whole
-pub mod GrowthLemmas

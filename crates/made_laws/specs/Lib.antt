@@ -1,2 +1,1 @@
 pub mod MadeScript
-pub mod Growth

@@ -3,4 +3,4 @@
 
 mod laws;
 
-pub use laws::{made_scripts_only_add_up, made_texts_are_read};
+pub use laws::made_texts_are_read;

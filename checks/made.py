@@ -1,5 +1,7 @@
 #!/usr/bin/env python3
-"""Compares what `./mvpn make N` writes with the text of that number as docs/FORMATS.md tells it, made here plainly.
+"""Compares what `./mvpn make N` writes with the text of that number as docs/FORMATS.md tells it, made here plainly; and what
+`./mvpn sweep N` writes with the numbers that are wanted, for 32 numbers in a row, which have all texts that there are. Of some
+of them the numbers are counted in what `./mvpn replay` writes, too.
 
     python3 checks/made.py [COMMAND]
 
@@ -12,6 +14,7 @@ import sys
 
 TOP = pathlib.Path(__file__).resolve().parent.parent
 NUMBERS = (1, 2, 7, 31, 32, 33, 999, 65536, 999_999, 1_000_000)
+SWEPT, COUNTED = range(1, 33), (1, 2, 7, 32)
 EDGES, CORES, VPNS = range(1, 33), range(1, 17), range(1, 9)
 
 
@@ -38,17 +41,50 @@ def script(number):
     yield from ('settle', 'state', *sends['02'], 'tick 3', 'settle', 'state', *sends['03'], 'state')
 
 
+def text_of(number):
+    return ''.join(line + '\n' for line in [*scenario(), *script(number)])
+
+
+def run(command, *words, text=''):
+    """What the command writes for this input, and its status."""
+    done = subprocess.run([*command, *words], input=text, capture_output=True, text=True)
+    return done.stdout, done.returncode
+
+
+def counted(number, text, report):
+    """The line of a sweep, counted in the report of the text."""
+    lines = report.splitlines()
+    refused = {int(line.split()[1]) for line in lines if line.startswith('refused ')}
+    sends = [place for place, line in enumerate(text.splitlines(), 1) if line.startswith('send ') and place not in refused]
+    outs = sum(line.startswith('out ') for line in lines)
+    return f'sweep {number} sends {len(sends)} outs {outs} refused {len(refused)} calm {lines.count("state 0 0 0 0 0")}\n'
+
+
+def differences(command):
+    """For each comparison nothing, or what differs."""
+    for number in NUMBERS:
+        wanted = text_of(number)
+        came, status = run(command, 'make', str(number))
+        yield '' if (came, status) == (wanted, 0) else f'make {number}: status {status}, {len(came):,} octets, and not {len(wanted):,}'
+    for number in SWEPT:
+        wanted = f'sweep {number} sends 24 outs 192 refused 0 calm 4\n'
+        came = run(command, 'sweep', str(number))
+        yield '' if came == (wanted, 0) else f'sweep {number}: {came!r}'
+        if number in COUNTED:
+            text = text_of(number)
+            report, status = run(command, 'replay', text=text)
+            told = counted(number, text, report), status
+            yield '' if told == came else f'replay of {number}: {told!r}, where sweep tells {came!r}'
+
+
 def main():
     command = sys.argv[1:] or [str(TOP / 'mvpn')]
-    failed = 0
-    for number in NUMBERS:
-        wanted = ''.join(line + '\n' for line in [*scenario(), *script(number)])
-        run = subprocess.run([*command, 'make', str(number)], stdin=subprocess.DEVNULL, capture_output=True, text=True)
-        if (run.stdout, run.returncode) != (wanted, 0):
-            failed += 1
-            print(f'make {number}: status {run.returncode}, {len(run.stdout):,} octets where {len(wanted):,} are wanted')
-    print(f'{len(NUMBERS) - failed} passed, {failed} failed')
-    return 1 if failed else 0
+    told = list(differences(command))
+    differing = [line for line in told if line]
+    for line in differing:
+        print(line)
+    print(f'{len(told) - len(differing)} passed, {len(differing)} failed')
+    return 1 if differing else 0
 
 
 if __name__ == '__main__':

@@ -21,9 +21,9 @@ use Rattle.wire_laws.specs.AnyNodes as any
 use Rattle.wire_laws.specs.AnyNodes.{AnyNode, IsElsewhere, IsNodeAt, IsNodeBefore}
 use Rattle.wire_laws.specs.Edges.{begins}
 use Rattle.wire_laws.proofs.AnyNodeLemmas.{call_lacks, call_made}
-use Rattle.edge_core.specs.declared.fault.EdgeFault.{EdgeFault}
-use Rattle.edge_core.specs.declared.fault.EdgeFault.TheVariants as faults
 use Rattle.network_nodes.specs.Answers.{Answers, Makes, Stands, after}
+use Rattle.network_nodes.specs.Faults as faults
+use Rattle.network_nodes.specs.Faults.{EdgeFault}
 use Rattle.network_nodes.specs.NodeView.{IsPlacedAt, spent_in}
 use Rattle.network_nodes.specs.declared.node.NetworkNode.{NetworkNode}
 use Rattle.control_plane.specs.Acted.{Acts, IsIn, IsSome, IsSomeMidway, Settles, Standing, no_lines}

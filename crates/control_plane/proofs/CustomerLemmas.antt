@@ -32,10 +32,10 @@ use Rattle.network_laws.specs.Honest.{IsSoundCall}
 use Rattle.wire_laws.specs.AnyNodes as any
 use Rattle.wire_laws.specs.AnyNodes.{AnyNode, IsNodeAt}
 use Rattle.wire_laws.specs.Edges.{begins}
-use Rattle.edge_core.specs.Answers.{OnTaken}
-use Rattle.edge_core.specs.declared.fault.EdgeFault.{EdgeFault}
-use Rattle.edge_core.specs.declared.fault.EdgeFault.TheVariants as faults
 use Rattle.network_nodes.specs.Answers.{Answers, after}
+use Rattle.network_nodes.specs.Edges.{OnTaken}
+use Rattle.network_nodes.specs.Faults as faults
+use Rattle.network_nodes.specs.Faults.{EdgeFault}
 use Rattle.network_nodes.specs.NodeView.{HasIface, HasVrf, IsNode, IsPlacedAt, data_in, spent_in}
 use Rattle.network_nodes.specs.declared.node.NetworkNode.{NetworkNode}
 use Rattle.network_nodes.specs.declared.node.NetworkNode.TheVariants as nodes

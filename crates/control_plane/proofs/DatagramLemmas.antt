@@ -13,9 +13,9 @@ use Rattle.scenario_defs.specs.declared.scenario.Vrf.{Vrf}
 use Rattle.edge_defs.specs.Edge.{EdgeData}
 use Rattle.edge_defs.specs.Place.{OwnVrf, own_vrfs, vrfs_from}
 use Rattle.edge_home.specs.Home.{Home}
-use Rattle.edge_core.specs.State.{data_of}
 use Rattle.network_defs.specs.Nodes as world
 use Rattle.network_defs.specs.Nodes.{place_of}
+use Rattle.network_nodes.specs.Edges.{data_of}
 use Rattle.network_nodes.specs.NodeView.{HasVrf, IsPlacedAt, data_in}
 use Rattle.network_nodes.specs.declared.node.NetworkNode.{NetworkNode}
 use Rattle.network_nodes.specs.declared.node.NetworkNode.TheVariants as nodes

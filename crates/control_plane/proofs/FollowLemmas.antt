@@ -21,9 +21,9 @@ use Rattle.wire_laws.specs.AnyNodes as any
 use Rattle.wire_laws.specs.AnyNodes.{AnyNode, IsElsewhere, IsNodeAt, node_after, with_known}
 use Rattle.wire_laws.proofs.AnyNodeLemmas.{follow_lacks, follow_made}
 use Rattle.wire_laws.proofs.EndLemmas.{follows_ends}
-use Rattle.edge_core.specs.declared.fault.EdgeFault.{EdgeFault}
-use Rattle.edge_core.specs.declared.fault.EdgeFault.TheVariants as faults
 use Rattle.network_nodes.specs.Answers.{Answers, Stands, after}
+use Rattle.network_nodes.specs.Faults as faults
+use Rattle.network_nodes.specs.Faults.{EdgeFault}
 use Rattle.network_nodes.specs.NodeView.{IsNode, IsPlacedAt, spent_in}
 use Rattle.network_nodes.specs.declared.node.NetworkNode.{NetworkNode}
 use Rattle.control_plane.specs.Acted.{Acts, IsIn, IsSome, IsSomeMidway, IsWithin, Settles, Standing, no_lines, with_current}

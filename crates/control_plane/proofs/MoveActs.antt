@@ -14,9 +14,9 @@ use Rattle.network_defs.specs.Costs.{Cores}
 use Rattle.network_defs.specs.Counts.{is_end_up}
 use Rattle.network_defs.specs.Nodes.{Nodes}
 use Rattle.network_defs.specs.System.{system}
-use Rattle.edge_core.specs.Answers.{IsOneOf}
-use Rattle.edge_core.specs.declared.fault.EdgeFault.{EdgeFault}
 use Rattle.network_nodes.specs.Answers.{AnswersOctets}
+use Rattle.network_nodes.specs.Edges.{IsOneOf}
+use Rattle.network_nodes.specs.Faults.{EdgeFault}
 use Rattle.network_nodes.specs.NodeView.{MayBePeer, data_in}
 use Rattle.network_nodes.specs.declared.node.NetworkNode.{NetworkNode}
 use Rattle.control_plane.specs.Acted.{Acted, Acts, IsIn, IsSome, IsSomeMidway, Standing, same_moment}

@@ -29,10 +29,10 @@ use Rattle.wire_laws.specs.Edges.{IsWay}
 use Rattle.wire_laws.proofs.AnyNodeLemmas.{move_lacks, move_made}
 use Rattle.wire_laws.proofs.EndLemmas.{moves_ends}
 use Rattle.wire_laws.proofs.WayLemmas.{reversed}
-use Rattle.edge_core.specs.Answers.{spent_by}
-use Rattle.edge_core.specs.declared.fault.EdgeFault.{EdgeFault}
-use Rattle.edge_core.specs.declared.fault.EdgeFault.TheVariants as faults
 use Rattle.network_nodes.specs.Answers.{AnswersOctets, IsSessionFault, Makes, Stands, taking}
+use Rattle.network_nodes.specs.Edges.{spent_by}
+use Rattle.network_nodes.specs.Faults as faults
+use Rattle.network_nodes.specs.Faults.{EdgeFault}
 use Rattle.network_nodes.specs.NodeView.{IsNode, IsPlacedAt, MayBePeer, data_in, spent_in, stream_fault}
 use Rattle.network_nodes.specs.declared.node.NetworkNode.{NetworkNode}
 use Rattle.control_plane.specs.Plane.{HasNode, IsMidway, IsPlane, IsSteady, Moment}

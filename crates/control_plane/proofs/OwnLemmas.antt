@@ -29,9 +29,9 @@ use Rattle.wire_laws.specs.Ends.{HasCall}
 use Rattle.wire_laws.proofs.AnyNodeLemmas.{call_lacks, call_made}
 use Rattle.wire_laws.proofs.SessionPairs.{is_peer}
 use Rattle.wire_laws.proofs.WayLemmas.{way_has}
-use Rattle.edge_core.specs.declared.fault.EdgeFault.{EdgeFault}
-use Rattle.edge_core.specs.declared.fault.EdgeFault.TheVariants as faults
 use Rattle.network_nodes.specs.Answers.{Answers, Stands, after}
+use Rattle.network_nodes.specs.Faults as faults
+use Rattle.network_nodes.specs.Faults.{EdgeFault}
 use Rattle.network_nodes.specs.NodeView.{IsNode, IsPlacedAt, MayBePeer, count_around, spent_in}
 use Rattle.network_nodes.specs.declared.node.NetworkNode.{NetworkNode}
 use Rattle.network_nodes.specs.declared.node.NetworkNode.TheVariants as nodes

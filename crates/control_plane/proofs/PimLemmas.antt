@@ -12,13 +12,10 @@ use Rattle.scenario_defs.specs.declared.scenario.Scenario.{Scenario}
 use Rattle.edge_defs.specs.Steps.{Pim}
 use Rattle.edge_home.specs.Home.{Home}
 use Rattle.network_defs.specs.Refusals.{control_of}
-use Rattle.edge_core.specs.Answers.{IsOneOf, OnTaken, spent_by}
-use Rattle.edge_core.specs.Pim.{AnswersPim, is_ours, is_over, refusal}
-use Rattle.edge_core.specs.State.{home_of}
-use Rattle.edge_core.specs.View.{EdgeView}
-use Rattle.edge_core.specs.declared.fault.EdgeFault.{EdgeFault}
-use Rattle.edge_core.specs.declared.fault.EdgeFault.TheVariants as faults
 use Rattle.network_nodes.specs.Answers.{Answers, OfEdges, after}
+use Rattle.network_nodes.specs.Edges.{AnswersPim, EdgeView, IsOneOf, OnTaken, home_in as home_of, is_ours, is_over, refusal, spent_by}
+use Rattle.network_nodes.specs.Faults as faults
+use Rattle.network_nodes.specs.Faults.{EdgeFault}
 use Rattle.network_nodes.specs.NodeView.{IsPlacedAt, data_in, spent_in}
 use Rattle.network_nodes.specs.declared.node.NetworkNode.{NetworkNode}
 use Rattle.network_nodes.specs.declared.node.NetworkNode.TheVariants as nodes

@@ -1,21 +1,24 @@
 -- What the nodes of the control plane keep, in the words of the network, and what is counted over nodes and sessions.
 use Rattle.std.specs.Prelude.{count_by, sum_by}
-use Rattle.std.proofs.Common.{◌≡◌, ◌∙◌, sym, ap, subst, arith, ℕ, ◌+◌, ◌<◌, min, not, List, [], ◌∷◌, ◌++◌, length, take, slice_get, get_or, Some, None}
-use Rattle.std.proofs.lemmas.Option.{same_Some}
+use Rattle.std.specs.Slice.{IsItemAt}
+use Rattle.std.proofs.Common.{◌≡◌, ◌∙◌, refl, sym, ap, subst, arith, ℕ, ◌+◌, ◌<◌, ◌≤◌, min, not, List, [], ◌∷◌, ◌++◌, length, take, slice_get, get_or, Option, Some, None, IfSome, Bor}
+use Rattle.std.proofs.lemmas.Option.{same_Some, slice_get_read, slice_get_within}
 use Rattle.std.proofs.lemmas.List.{map-id}
 use Rattle.std.proofs.lemmas.List.Sums.{sum_by-append, sum_by-cons}
 use Rattle.mv_base.specs.declared.ids.NodeId.{NodeId}
+use Rattle.scenario_defs.specs.declared.scenario.Scenario.{Scenario}
 use Rattle.session_transit.proofs.Totals.{most}
 use Rattle.session_ways.proofs.WayLemmas.{made_of_more}
 use Rattle.mvpn_model.specs.declared.session.Session.{Session}
 use Rattle.network_defs.specs.Counts.{all_nodes, is_ready, node_due, node_ids}
-use Rattle.network_defs.specs.Nodes.{Nodes}
+use Rattle.network_defs.specs.Nodes.{CoreNode, Edge, NodeState, Nodes}
+use Rattle.network_laws.specs.Sound.{IsBare}
 use Rattle.network_nodes.specs.NodeView.{IsPlacedAt, data_in, spent_in}
 use Rattle.network_nodes.specs.declared.node.NetworkNode.{NetworkNode}
 use Rattle.control_plane.specs.Acted.{IsIn, IsSome, IsWithin, Standing}
 use Rattle.control_plane.specs.Plane.{HasNode}
 use Rattle.control_plane.specs.PlaneView.{PlaneView}
-use Rattle.control_plane.specs.Queries.{HasEnds, HaveEnds, IsNodeThere, without_copies}
+use Rattle.control_plane.specs.Queries.{HasEnds, HaveEnds, IsNoEdge, IsNodeThere, without_copies}
 use Rattle.control_plane.proofs.DataLemmas.{data_same}
 use Rattle.control_plane.proofs.ListLemmas.{found}
 
@@ -27,6 +30,25 @@ there at n plane node within is place =
     let has : HasNode at.network plane.nodes n [] = is.nodes n within in
     subst (IsNodeThere at n) (same_Some has.node node (sym has.at ∙ place))
     (record { placed = has.placed; unspent = has.unspent; keeps = data_same n at.network [] has.node has.is })
+
+-- what stands at a place of the plane, if anything does, is the node of that number
+pub found_at : (own now : PlaneView) → own ≡ now → (n : NodeId) (nodes : List NetworkNode) → nodes ≡ own.nodes → (place : ℕ) → place ≡ n.0 → (r : Option (Bor NetworkNode)) → IsItemAt nodes place r
+    → IfSome r (λ node. (at : Standing) → IsIn at now → IsNodeThere at n node.now)
+found_at own now same n nodes are place number None item = tt
+found_at own now same n nodes are place number (Some node) item = λ at is.
+    let in_own : IsIn at own = subst (IsIn at) (sym same) is in
+    let here : slice_get own.nodes n.0 ≡ Some node.now =
+    (λ i. slice_get (sym are i) (sym number i)) ∙ slice_get_read nodes (length nodes) place node.now refl item.3.0 item.1 in
+    there at n own node.now (subst (λ (k : ℕ). n.0 < k) in_own.around.count (slice_get_within own.nodes n.0 node.now here)) in_own here
+
+-- a node that the scenario does not have is a core node
+pub outside_no_edge : (at : Standing) (n : NodeId) (plane : PlaneView) → IsIn at plane → length at.scenario.nodes ≤ n.0 → IsNoEdge at n
+outside_no_edge at n plane is past =
+    by (at.network.state.node n) refl (is.around.steady.sound.outside n (subst (λ (s : Scenario). length s.nodes ≤ n.0) (sym is.around.scenario_is) past))
+  where
+    by : (state : NodeState) → at.network.state.node n ≡ state → IsBare state → IsNoEdge at n
+    by (CoreNode part) e bare = (part, e)
+    by (Edge edge) e bare = absurd bare
 
 -- ---- timers
 

@@ -8,12 +8,12 @@ use Rattle.session_defs.specs.Octets.{OctetAct, OctetNetwork, octet_run}
 use Rattle.session_defs.specs.System.{Behind, Put}
 use Rattle.mldp_node.specs.declared.fault.NodeFault.{NodeFault}
 use Rattle.mldp_node.specs.declared.fault.NodeFault.TheVariants as halts
-use Rattle.edge_core.specs.declared.fault.EdgeFault.{EdgeFault}
-use Rattle.edge_core.specs.declared.fault.EdgeFault.TheVariants as faults
 use Rattle.network_defs.specs.Acts.{put_lines}
 use Rattle.network_defs.specs.Costs.{Cores}
 use Rattle.network_defs.specs.Nodes.{Nodes}
 use Rattle.network_defs.specs.System.{NodeCall, system}
+use Rattle.network_nodes.specs.Faults as faults
+use Rattle.network_nodes.specs.Faults.{EdgeFault}
 use Rattle.control_plane.specs.Plane.{IsMidway, IsPlane, Moment}
 use Rattle.control_plane.specs.PlaneView.{PlaneView}
 

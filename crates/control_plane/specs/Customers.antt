@@ -17,12 +17,12 @@ use Rattle.edge_defs.specs.Edge.{Control, Note}
 use Rattle.edge_defs.specs.Steps.{Call}
 use Rattle.mldp_node.specs.declared.fault.NodeFault.{NodeFault}
 use Rattle.mldp_node.specs.declared.fault.NodeFault.TheVariants as halts
-use Rattle.edge_core.specs.Pim.{is_ours}
-use Rattle.edge_core.specs.declared.fault.EdgeFault.{EdgeFault}
-use Rattle.edge_core.specs.declared.fault.EdgeFault.TheVariants as faults
 use Rattle.network_defs.specs.Refusals.{control_of, edge_of_vrf, note_limit, selection_limit}
 use Rattle.network_defs.specs.System.{Own, system}
 use Rattle.network_laws.specs.Honest.{SoundMessage}
+use Rattle.network_nodes.specs.Edges.{is_ours}
+use Rattle.network_nodes.specs.Faults as faults
+use Rattle.network_nodes.specs.Faults.{EdgeFault}
 use Rattle.control_plane.specs.Acted.{Acted, IsCurrent, IsIn, Settles, Standing}
 use Rattle.control_plane.specs.PlaneView.{PlaneView}
 use Rattle.control_plane.specs.declared.customers.Verdict.{Verdict}

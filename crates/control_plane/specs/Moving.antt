@@ -8,11 +8,11 @@ use Rattle.session_defs.specs.System.{Put}
 use Rattle.session_defs.specs.declared.direction.Direction.{Direction}
 use Rattle.mldp_node.specs.declared.fault.NodeFault.{NodeFault}
 use Rattle.mldp_node.specs.declared.fault.NodeFault.TheVariants as halts
-use Rattle.edge_core.specs.declared.fault.EdgeFault.{EdgeFault}
-use Rattle.edge_core.specs.declared.fault.EdgeFault.TheVariants as faults
 use Rattle.network_defs.specs.Acts.{put_lines}
 use Rattle.network_defs.specs.Costs.{Cores}
 use Rattle.network_defs.specs.Nodes.{Nodes}
+use Rattle.network_nodes.specs.Faults as faults
+use Rattle.network_nodes.specs.Faults.{EdgeFault}
 use Rattle.control_plane.specs.Acted.{Standing}
 use Rattle.control_plane.specs.Plane.{IsMidway, IsPlane, Moment}
 use Rattle.control_plane.specs.PlaneView.{PlaneView}

@@ -3,14 +3,14 @@ ghost use Rattle.std.specs.Prelude.{[], ◌∷◌, Ok, OnOk};
 ghost use Rattle.session_defs.specs.Octets.{Call};
 ghost use Rattle.edge_defs.specs.Steps.{Timers};
 ghost use Rattle.network_defs.specs.System.{Follow, Own};
-ghost use Rattle.edge_core.specs.Answers.{IsOneOf};
+ghost use Rattle.network_nodes.specs.Edges.{IsOneOf};
 ghost use Rattle.control_plane.specs.Acted.{Acts, HandsOutAt, IsCurrent, IsSome, IsSomeMidway, IsWithin, Settles, no_lines, same_moment, with_current};
 
 use crate::handing;
 use crate::plane::{ControlPlane, halt_of};
-use edge_core::EdgeFault;
 use mldp_node::NodeFault;
 use mv_base::{NoMemory, NodeId};
+use network_nodes::EdgeFault;
 use scenario_defs::Lines;
 
 impl ControlPlane {

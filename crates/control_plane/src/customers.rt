@@ -6,15 +6,15 @@ ghost use Rattle.session_defs.specs.Octets.{Call};
 ghost use Rattle.edge_defs.specs.Steps.{Active, Idle, Pim, Select, Unselect};
 ghost use Rattle.network_defs.specs.System.{Own};
 ghost use Rattle.network_laws.specs.Sound.{IsFlow, SoundPattern};
-ghost use Rattle.edge_core.specs.Answers.{IsOneOf};
-ghost use Rattle.edge_core.specs.declared.fault.EdgeFault.TheVariants as faults;
+ghost use Rattle.network_nodes.specs.Edges.{IsOneOf};
+ghost use Rattle.network_nodes.specs.Faults as faults;
 ghost use Rattle.control_plane.specs.Acted.{Acts, IsSome, IsSomeMidway, no_lines, same_moment};
 ghost use Rattle.control_plane.specs.Customers.{CustomerActs, IsIfaceEdge, IsMessageTo, IsUnselected, IsVrfEdge, SettlesCustomer, is_message_full, is_note_full, is_selection_full};
 
 use crate::plane::ControlPlane;
-use edge_core::EdgeFault;
 use mldp_node::NodeFault;
 use mv_base::{Addr, IfaceId, NodeId, Pattern, VrfId};
+use network_nodes::EdgeFault;
 use scenario_defs::Lines;
 
 /// What became of a call for which there may be no room.

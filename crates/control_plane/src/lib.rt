@@ -12,5 +12,6 @@ mod sessions;
 mod start;
 
 pub use customers::Verdict;
-pub use edge_core::Fate;
+pub use network_nodes::{Edge, Fate};
 pub use plane::ControlPlane;
+pub use session_ways::{Directions, directions_of, sessions_of};

@@ -1,14 +1,14 @@
 //! Octets that are moved over a session, from what is in transit to the node at its end (RFC 4271 section 4, RFC 5036 section 3.1).
 ghost use Rattle.std.specs.Prelude.{◌++◌, [], ◌∷◌, OnOk};
 ghost use Rattle.session_defs.specs.Octets.{Move};
-ghost use Rattle.edge_core.specs.Answers.{IsOneOf};
+ghost use Rattle.network_nodes.specs.Edges.{IsOneOf};
 ghost use Rattle.control_plane.specs.Acted.{Acts, HandsOutAt, IsSome, IsSomeMidway, same_moment};
 ghost use Rattle.control_plane.specs.Moving.{IsMovable, SettlesTaken, line_of, taken_line};
 
 use crate::plane::{ControlPlane, halt_of};
-use edge_core::EdgeFault;
 use mldp_node::NodeFault;
 use mv_base::{Bytes, NoMemory};
+use network_nodes::EdgeFault;
 use scenario_defs::{Lines, ReportLine};
 use session_defs::Direction;
 

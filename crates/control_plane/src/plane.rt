@@ -1,13 +1,12 @@
 //! The control plane of a network, as its callers have it.
 ghost use Rattle.std.specs.Prelude.{◌≡◌, [], ◌∷◌};
 ghost use Rattle.mv_base.specs.Lists.{Among};
-ghost use Rattle.edge_core.specs.declared.fault.EdgeFault.TheVariants as EdgeFault;
+ghost use Rattle.network_nodes.specs.Faults as EdgeFault;
 ghost use Rattle.control_plane.specs.Acted.{halt_of};
 
 use core_paths::Core;
-use edge_core::EdgeFault;
 use mldp_node::NodeFault;
-use network_nodes::NetworkNode;
+use network_nodes::{EdgeFault, NetworkNode};
 use session_transit::Transit;
 use session_ways::Ways;
 use std::marker::Model;

@@ -1,26 +1,26 @@
 //! What is asked of the control plane. Nothing changes.
-ghost use Rattle.std.specs.Prelude.{◌≡◌, count_by, false, length, min, not, sum_by, IfOk, IfSome, None};
+ghost use Rattle.std.specs.Prelude.{◌≡◌, ◌≤◌, count_by, length, min, not, sum_by, IfOk, IfSome, None};
 ghost use Rattle.std.specs.FinMap as maps;
 ghost use Rattle.label_defs.specs.LabelData as labels;
 ghost use Rattle.edge_defs.specs.Datagrams.{entering_fate};
 ghost use Rattle.edge_defs.specs.Edge.{EdgeData};
 ghost use Rattle.network_defs.specs.Counts as counts;
 ghost use Rattle.network_defs.specs.Counts.{all_nodes, direction, is_end_up, node_due, octets_in_transit};
-ghost use Rattle.network_defs.specs.Nodes.{is_edge, part_of, place_of};
+ghost use Rattle.network_defs.specs.Nodes.{part_of, place_of};
 ghost use Rattle.network_defs.specs.Nodes as world;
-ghost use Rattle.edge_core.specs.State.{IsFate};
+ghost use Rattle.network_nodes.specs.Edges.{IsFate};
 ghost use Rattle.network_nodes.specs.Network.{landing_fate};
-ghost use Rattle.network_nodes.specs.declared.node.NetworkNode.TheVariants as nodes;
 ghost use Rattle.control_plane.specs.Acted.{IsCurrent, IsIn, IsSome, IsWithin, Standing};
 ghost use Rattle.control_plane.specs.Customers.{IsVrfEdge, control_at};
 ghost use Rattle.control_plane.specs.Queries.{HasEnds, HaveEnds, IsEdgeOf, IsNodeThere, without_copies};
+ghost use Rattle.control_plane.specs.Queries.{IsCoreThere, IsEdgeThere, IsNoCore, IsNoEdge};
 
 use crate::plane::ControlPlane;
-use edge_core::{Edge, Fate};
 use label_forwarding::Datagram;
+use mldp_node::LdpNode;
 use mv_base::{NoMemory, NodeId, Pattern, SiteId, VrfId};
 use mvpn_model::Session;
-use network_nodes::NetworkNode;
+use network_nodes::{Edge, Fate, NetworkNode};
 use scenario_defs::Kind;
 use session_defs::Direction;
 use std::alloc::Global;
@@ -88,15 +88,35 @@ impl ControlPlane {
         self.node(n).is_selected(vrf, pattern)
     }
 
-    /// Node n, where it is an edge.
-    pub fn edge(&self, n: NodeId) -> Option<&Edge>
-        requires plane { IsSome (IsWithin n) self.now }
-        ensures is { IfSome result (λ edge. (at : Standing) → IsWithin n at → IsIn at self.now → IsNodeThere at n (nodes.Edge edge.now)) }
-        ensures none { result ≡ None → (at : Standing) → IsWithin n at → IsIn at self.now → is_edge at.scenario n ≡ false }
+    /// The node of that number, where the scenario has it.
+    fn found(&self, n: NodeId) -> Option<&NetworkNode>
+        ensures is { IfSome result (λ node. (at : Standing) → IsIn at self.now → IsNodeThere at n node.now) }
+        ensures none { result ≡ None → (at : Standing) → IsIn at self.now → length at.scenario.nodes ≤ n.0 }
     {
-        match self.node(n) {
-            NetworkNode::Edge(edge) => Some(edge),
-            NetworkNode::CoreNode(_) => None,
+        self.nodes.as_slice().get(usize::from(n.0))
+    }
+
+    /// The node of that number, where it is an edge.
+    pub fn edge(&self, n: NodeId) -> Option<&Edge>
+        ensures is { IfSome result (λ edge. (at : Standing) → IsIn at self.now → IsEdgeThere at n edge.now) }
+        ensures none { result ≡ None → (at : Standing) → IsIn at self.now → IsNoEdge at n }
+    {
+        match self.found(n) {
+            Some(NetworkNode::Edge(edge)) => Some(edge),
+            Some(NetworkNode::CoreNode(_)) => None,
+            None => None,
+        }
+    }
+
+    /// The label part of the node of that number, where it is a core node.
+    pub fn core_node(&self, n: NodeId) -> Option<&LdpNode>
+        ensures is { IfSome result (λ labels. (at : Standing) → IsIn at self.now → IsCoreThere at n labels.now) }
+        ensures none { result ≡ None → (at : Standing) → IsIn at self.now → IsNoCore at n }
+    {
+        match self.found(n) {
+            Some(NetworkNode::CoreNode(core)) => Some(core.label_node()),
+            Some(NetworkNode::Edge(_)) => None,
+            None => None,
         }
     }
 

@@ -23,7 +23,7 @@ module _ (world : World) (d : CopiesData) (stores : Stores world d) where
   on_links i = flat_map (λ way. stores.copies way.0 way.1 i) (link_ways (scenario_of world))
 
   module _ (linked : AreLinked world) where
-    has_ways : HasWays (link_ways (scenario_of world)) d
+    pub has_ways : HasWays (link_ways (scenario_of world)) d
     has_ways = record { once = linked.once; all = λ u n none. none_mapped (λ (k : KeptCopy). k.copy) (kept_at d u n) (stores.copies u n ∙ linked.apart u n none) }
 
     pub as_many_copies : length (all_kept d) ≡ length (all_copies world)

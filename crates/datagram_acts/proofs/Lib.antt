@@ -3,3 +3,4 @@ pub mod Numbers
 pub mod Stores
 pub mod Counts
 pub mod Told
+pub mod Pooled

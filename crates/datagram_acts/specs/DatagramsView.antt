@@ -10,4 +10,5 @@ pub record DatagramsView : Type 0 where
 
 -- the code, by which one is told from another
 abbrev pub view_code : Coded DatagramsView
-view_code = code_by (CopiesData × ℕ) (coded× copies_code coded_ℕ) (λ v. (v.copies, v.count)) (λ p. record { copies = p.0; count = p.1 }) (λ _. refl)
+view_code = code_by (CopiesData × ℕ) (coded× copies_code coded_ℕ)
+    (λ v. (v.copies, v.count)) (λ p. record { copies = p.0; count = p.1 }) (λ _. refl)

@@ -3,7 +3,7 @@ use Rattle.std.specs.Prelude.{◌≡◌, ◌-◌, ◌++◌, ℕ, false, List, []
 use Rattle.std.specs.declared.option.Option.{Option}
 use Rattle.std.specs.List.{AllByRecursion, IsDistinct, list_any}
 use Rattle.mv_base.specs.declared.ids.NodeId.{NodeId}
-use Rattle.buf_pool.specs.Held.{Buffers}
+pub use Rattle.buf_pool.specs.Held.{Buffers, Held, IsLive, held}
 use Rattle.network_defs.specs.Acts.{without_copy}
 use Rattle.network_defs.specs.Counts.{link_ways}
 use Rattle.network_defs.specs.World.{Datagram, LinkCopy, World, numbered, scenario_of}

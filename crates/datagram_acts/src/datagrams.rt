@@ -14,6 +14,7 @@ ghost use Rattle.link_copies.specs.CopiesData.{IsShared};
 ghost use Rattle.datagram_acts.specs.Stored.{AreLinked, Handles, HasLanded, IsHandling, IsIdle, with_datagram};
 
 use crate::leaving;
+use buf_pool::Pool;
 use edge_core::Fate;
 use link_copies::{Landed, LinkCopies};
 use mv_base::{NoMemory, NodeId};
@@ -70,8 +71,8 @@ impl Datagrams {
         requires room { self.old.count + 1 < 2 ^ 64 }
         ensures number { IfOk result (λ number. number ≡ self.old.count + 1) }
         ensures accepted { OnOk result ((world : World) (site : SiteId) (source group : Addr) → IsIdle world self.old →
-            Handles (with_datagram (record { site = site; source = source; group = group; octets = octets.now }) world) (self.old.count + 1)
-            (record { site = site; source = source; group = group; octets = octets.now }) self.new) }
+            Handles (with_datagram (record { site = site; source = source; group = group; octets = octets.now }) world)
+            (self.old.count + 1) (record { site = site; source = source; group = group; octets = octets.now }) self.new) }
         ensures unchanged { OnErr result (self.new ≡ self.old) }
     {
         let number = self.count + 1;
@@ -92,11 +93,13 @@ impl Datagrams {
         lines: &mut Lines,
     ) -> Result<(), NoMemory>
         requires handling { IsHandling self.old }
-        ensures left { OnOk result ((world : World) (number : ℕ) (datagram : Datagram) (own : definitions.Fate) → Handles world number datagram self.old →
-            clock_of world ≡ now → IsFate own fate.now → Handles (with_branches node ttl number own.branches world) number datagram self.new) }
-        ensures lines { OnOk result ((world : World) (number : ℕ) (datagram : Datagram) (own : definitions.Fate) → Handles world number datagram self.old →
-            IsFate own fate.now →
-            lines.new ≡ lines.old ++ (map (λ iface. told.Out number iface datagram.octets) own.outs ++ map (hop_line node ttl number) own.branches)) }
+        ensures left { OnOk result ((world : World) (number : ℕ) (datagram : Datagram) (own : definitions.Fate) →
+            Handles world number datagram self.old → clock_of world ≡ now → IsFate own fate.now →
+            Handles (with_branches node ttl number own.branches world) number datagram self.new) }
+        ensures lines { OnOk result ((world : World) (number : ℕ) (datagram : Datagram) (own : definitions.Fate) →
+            Handles world number datagram self.old → IsFate own fate.now →
+            lines.new ≡ lines.old
+            ++ (map (λ iface. told.Out number iface datagram.octets) own.outs ++ map (hop_line node ttl number) own.branches)) }
     {
         leaving::leave_at(self.number, fate.outs.as_slice(), self.octets(), lines)?;
         leaving::tell_hops(node, ttl, self.number, fate.branches.as_slice(), lines)?;
@@ -119,7 +122,8 @@ impl Datagrams {
 
     /// The octets of the datagram that is being handled.
     pub fn octets(&self) -> &[u8]
-        ensures { (world : World) (number : ℕ) (datagram : Datagram) → Handles world number datagram self.now → result.now ≡ datagram.octets }
+        ensures { (world : World) (number : ℕ) (datagram : Datagram) → Handles world number datagram self.now →
+            result.now ≡ datagram.octets }
     {
         self.copies.current_octets()
     }
@@ -143,7 +147,8 @@ impl Datagrams {
 
     /// The copies that have been on their link for longer than `life` are dropped.
     pub fn age(&mut self, now: u64, life: u64)
-        ensures { (world : World) → IsIdle world self.old → clock_of world ≡ now → (scenario_of world).life ≡ life → IsIdle (aged world) self.new }
+        ensures { (world : World) → IsIdle world self.old → clock_of world ≡ now → (scenario_of world).life ≡ life →
+            IsIdle (aged world) self.new }
     {
         self.copies.age(now, life);
         buffers_count_copies(&self.copies);
@@ -177,5 +182,13 @@ impl Datagrams {
         ensures { result ≡ self.now.count }
     {
         self.count
+    }
+
+    /// The buffers of the copies and of the datagram that is being handled.
+    pub fn pool(&self) -> &Pool
+        ensures now { result.now ≡ self.now.copies.buffers }
+        ensures shared { IsShared self.now.copies }
+    {
+        self.copies.pool()
     }
 }

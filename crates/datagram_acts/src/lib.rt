@@ -4,4 +4,5 @@
 mod datagrams;
 mod leaving;
 
+pub use buf_pool::Pool;
 pub use datagrams::Datagrams;

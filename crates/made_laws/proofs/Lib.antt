@@ -1,3 +1,5 @@
+pub mod HomeLemmas
+pub mod GrowLemmas
 pub mod RowLemmas
 pub mod ListLemmas
 pub mod NumeralLemmas

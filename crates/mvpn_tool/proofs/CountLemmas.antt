@@ -41,10 +41,14 @@ calm_of [] old = refl
 calm_of (line ∷ more) old = calm_of more (with_line old line)
 
 counts_by : (a b : Counts) → a.outs ≡ b.outs → a.refused ≡ b.refused → a.calm ≡ b.calm → a ≡ b
-counts_by a b outs refused calm = cc
+counts_by a b outs refused calm = λ i. record { outs = outs i; refused = refused i; calm = calm i }
+
+-- a number that is counted from 0 on
+from_none : (p : ReportLine → Bool) (all : List ReportLine) → fold (bumped p) 0 all ≡ counted (count_by p all)
+from_none p all = let none : 0 + count_by p all ≡ count_by p all = omega arith in bumped_all p all 0 (omega arith) ∙ ap counted none
 
 -- All lines of a report, one by one.
 pub counted_all : (all : List ReportLine) → fold with_line no_counts all ≡ counts_in all
 counted_all all =
-    counts_by (fold with_line no_counts all) (counts_in all) (outs_of all no_counts ∙ bumped_all is_out all 0 (omega arith)) (refused_of all no_counts ∙ bumped_all is_refused all 0 (omega arith))
-    (calm_of all no_counts ∙ bumped_all is_calm all 0 (omega arith))
+    counts_by (fold with_line no_counts all) (counts_in all) (outs_of all no_counts ∙ from_none is_out all) (refused_of all no_counts ∙ from_none is_refused all)
+    (calm_of all no_counts ∙ from_none is_calm all)

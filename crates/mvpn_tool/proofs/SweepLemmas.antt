@@ -1,6 +1,6 @@
 -- Laws of the run of a made network, whose lines are counted.
-use Rattle.std.proofs.Common.{◌≡◌, ◌≢◌, ◌∙◌, ℕ, ◌+◌, ◌⊎◌, inl, inr, List, [], ◌++◌, length, take, slice_get, refl, sym, ap, subst, absurd, arith}
-use Rattle.std.specs.Prelude.{Option, None, Some, Result, Ok, Err, MatchResult, OnOk, OnErr, IfErr, fold}
+use Rattle.std.proofs.Common.{◌≡◌, ◌∙◌, ℕ, ◌+◌, ◌⊎◌, inl, inr, List, [], ◌++◌, length, take, slice_get, refl, sym, ap, subst, arith}
+use Rattle.std.specs.Prelude.{Option, Some, Result, Ok, Err, IsErrOf, fold}
 use Rattle.std.proofs.lemmas.List.{take_all}
 use Rattle.std.proofs.lemmas.List.Sums.{fold-append}
 use Rattle.mv_base.specs.declared.ids.NodeId.{NodeId}
@@ -10,14 +10,14 @@ use Rattle.scenario_defs.specs.Rules.{ScriptRules}
 use Rattle.scenario_defs.specs.declared.event.Script.{Script}
 use Rattle.scenario_defs.specs.declared.event.Timed.{Timed}
 use Rattle.scenario_defs.specs.declared.report.ReportLine.{ReportLine}
-use Rattle.line_words.specs.FaultText.{fault_text}
 use Rattle.line_words.specs.declared.fault.TextFault.{TextFault}
 use Rattle.scenario_text.specs.Grammar.{script_of}
 use Rattle.generator.specs.Made.{made}
-use Rattle.mvpn_model.specs.Report.{lines_of}
+use Rattle.made_laws.specs.MadeScript.{made_script}
+use Rattle.mvpn_model.specs.Report.{Entry, lines_of}
 use Rattle.network_defs.specs.Costs.{Cores}
 use Rattle.network_defs.specs.Events.{Happened}
-use Rattle.network_defs.specs.Run.{Run, Traced, report_of, traced}
+use Rattle.network_defs.specs.Run.{Halts, Run, Traced, report_of, traced}
 use Rattle.network_defs.specs.World.{World, start}
 use Rattle.delivery_laws.specs.Flood.{lines_in}
 use Rattle.run_laws.specs.Octets.{ScriptHasOctets}
@@ -25,7 +25,7 @@ use Rattle.network_events.specs.Behind.{IsBegun, IsBehind, IsReached, Steps}
 use Rattle.network_events.specs.WorldView.{WorldView}
 use Rattle.network_events.specs.declared.halt.Halt.TheVariants as halts
 use Rattle.mvpn_tool.specs.Known.{KnownRuns}
-use Rattle.mvpn_tool.specs.Sweep.{CountsOn, EventCounts, IsMade, LacksLabel, SweepEnds, Sweeps, SweepsFaulty, SweepsHalted, SweepsPart, SweepsUpToHalt, SweepsWell, SweepsWhole, TellsNumbers, counts_of, no_counts, sweep_text, with_line}
+use Rattle.mvpn_tool.specs.Sweep.{EventCounts, NeverHalts, SweepEnds, SweepsWell, SweepsWhole, TellsNumbers, no_counts, sweep_text, with_line}
 use Rattle.mvpn_tool.specs.declared.counts.Counts.{Counts}
 use Rattle.mvpn_tool.specs.declared.stop.Stop.{Stop}
 use Rattle.mvpn_tool.specs.declared.stop.Stop.TheVariants as stops
@@ -97,10 +97,10 @@ more_counts counts after trace number acts told more =
 
 module _ (known : KnownRuns) (script : Script) (rules : ScriptRules script) (octets : ScriptHasOctets script) where
   -- No event ran yet.
-  pub swept_none : (view : WorldView) → IsBegun script.scenario view → SweptSoFar script 0 view no_counts
-  swept_none view begun =
+  pub swept_none : (view : WorldView) (counts : Counts) → IsBegun script.scenario view → counts ≡ no_counts → SweptSoFar script 0 view counts
+  swept_none view counts begun none =
       let own = known.cores script.scenario rules.scenario in
-      record { cores = own.0; trace = []; state = start script.scenario own.0; behind = begun.behind own.0 script refl rules own.1; told = refl }
+      record { cores = own.0; trace = []; state = start script.scenario own.0; behind = begun.behind own.0 script refl rules own.1; told = none }
 
   module _ (count : ℕ) (timed : Timed) (view : WorldView) (counts : Counts) (at : slice_get script.events count ≡ Some timed) (so_far : SweptSoFar script count view counts) where
     -- where the next event is met
@@ -119,19 +119,14 @@ module _ (known : KnownRuns) (script : Script) (rules : ScriptRules script) (oct
           told = more_counts counts after so_far.trace count on.acts so_far.told on.told;
         }
 
-    swept_halts : LacksLabel timed view swept_to → SweepsUpToHalt script
-    swept_halts lacks =
-        let report = halted_report so_far.trace count timed.line lacks.acts lacks.node in
-        let halt = halts_at so_far.cores script count so_far.trace so_far.state timed lacks.acts lacks.node so_far.behind.of_scenario so_far.behind.run at lacks.is in
-        record { cores = so_far.cores; report = report; node = lacks.node; halted = known.halted so_far.cores script report lacks.node rules octets halt }
-
-    -- The event stops the run.
-    pub swept_stops : (now : WorldView) (after : Counts) (stop : Stop) → EventCounts timed view now counts after (Err stop) → Sweeps script (Err stop)
-    swept_stops now after stops.Label ends = swept_halts (ends.lacks refl swept_to)
-    swept_stops now after stops.Text ends = tt
-    swept_stops now after stops.Source ends = tt
-    swept_stops now after stops.Sink ends = tt
-    swept_stops now after stops.Memory ends = tt
+    -- The event lacks memory.
+    pub swept_stops : (now : WorldView) (after : Counts) (stop : Stop) → NeverHalts script → EventCounts timed view now counts after (Err stop) → (stop ≡ stops.Label) ⊎ (stop ≡ stops.Memory) → stop ≡ stops.Memory
+    swept_stops now after stop never ends (inl label) =
+        let lacks = ends.lacks (ap stopped label) swept_to in
+        absurd
+        (never so_far.cores (halted_report so_far.trace count timed.line lacks.acts lacks.node) lacks.node
+        (halts_at so_far.cores script count so_far.trace so_far.state timed lacks.acts lacks.node so_far.behind.of_scenario so_far.behind.run at lacks.is))
+    swept_stops now after stop never ends (inr memory) = memory
 
   -- All events ran.
   pub swept_all : (count : ℕ) (view : WorldView) (counts : Counts) → count ≡ length script.events → SweptSoFar script count view counts → SweepsWhole script (record { world = view; counts = counts })
@@ -146,10 +141,6 @@ module _ (known : KnownRuns) (script : Script) (rules : ScriptRules script) (oct
             (subst (λ (l : List Timed). Run whole.cores script l whole.trace whole.state) (take_all (length script.events) script.events (omega arith)) whole.behind.run);
         counts = whole.told ∙ counted_all (lines_of (report_of whole.trace));
       }
-
--- There was no memory to begin with.
-pub swept_nothing : (script : Script) (result : Result Swept Stop) (stop : Stop) → result ≡ Err stop → stop ≡ stops.Memory → Sweeps script result
-swept_nothing script result stop is memory = subst (Sweeps script) (sym (is ∙ ap (λ (s : Stop). Err s) memory)) tt
 
 -- ---- a number
 
@@ -167,41 +158,37 @@ module _ (number : ℕ) (script : Script) (said : script_of (made number) ≡ Ok
       SweepsWell number old new swept.world
   number_swept old new swept whole text = record { script = script; said = said; holds = numbers_of (Appended old new) swept whole text }
 
-  part_of : (old new : Option (List ℕ)) (swept : Swept) → SweepsWhole script swept → AppendedPart old new (sweep_text number swept.world.network.datagrams.count swept.counts) → SweepsPart number old new
-  part_of old new swept whole text =
-      subst (λ (r : Result Script TextFault). MatchResult r (λ script. (view : WorldView) × TellsNumbers (AppendedPart old new) number view script) (λ fault. AppendedPart old new (fault_text fault)))
-      (sym said) (swept.world, numbers_of (AppendedPart old new) swept whole text)
-
   -- It was not, or a part of it.
   pub number_cut : (old new : Option (List ℕ)) (swept : Swept) (stop : Stop) → SweepsWhole script swept → AppendedPart old new (sweep_text number swept.world.network.datagrams.count swept.counts) →
-      (stop ≡ stops.Sink) ⊎ (stop ≡ stops.Memory) → SweepEnds number (Err stop) old new
-  number_cut old new swept stop whole text (inl sink) = subst (λ (s : Stop). SweepEnds number (Err s) old new) (sym sink) (part_of old new swept whole text)
-  number_cut old new swept stop whole text (inr memory) = subst (λ (s : Stop). SweepEnds number (Err s) old new) (sym memory) (inr (part_of old new swept whole text))
-
-  -- The run stopped, and nothing was written.
-  pub number_stopped : (old : Option (List ℕ)) (stop : Stop) → Sweeps script (Err stop) → (stop ≡ stops.Label) ⊎ (stop ≡ stops.Memory) → SweepEnds number (Err stop) old old
-  number_stopped old stop sweeps (inl label) =
-      subst (λ (s : Stop). SweepEnds number (Err s) old old) (sym label)
-      (record { script = script; said = said; holds = subst (λ (s : Stop). Sweeps script (Err s)) label sweeps }, appended-nil old)
-  number_stopped old stop sweeps (inr memory) = subst (λ (s : Stop). SweepEnds number (Err s) old old) (sym memory) (inl (appended-nil old))
+      (IsErrOf (stopped stop) stops.Memory → Appended old new []) → (stop ≡ stops.Sink) ⊎ (stop ≡ stops.Memory) → SweepEnds number (Err stop) old new
+  number_cut old new swept stop whole text nothing (inl sink) =
+      subst (λ (s : Stop). SweepEnds number (Err s) old new) (sym sink) (record { script = script; said = said; holds = (swept.world, numbers_of (AppendedPart old new) swept whole text) })
+  number_cut old new swept stop whole text nothing (inr memory) = subst (λ (s : Stop). SweepEnds number (Err s) old new) (sym memory) (nothing (ap stopped memory))
 
 -- There was no memory, and nothing was written.
 pub number_unmade : (number : ℕ) (old : Option (List ℕ)) (stop : Stop) → stop ≡ stops.Memory → SweepEnds number (Err stop) old old
-number_unmade number old stop memory = subst (λ (s : Stop). SweepEnds number (Err s) old old) (sym memory) (inl (appended-nil old))
+number_unmade number old stop memory = subst (λ (s : Stop). SweepEnds number (Err s) old old) (sym memory) (appended-nil old)
 
--- The text has a fault, and a part of the line that tells it was written.
-faulty_part : (number : ℕ) (fault : TextFault) (old new : Option (List ℕ)) → script_of (made number) ≡ Err fault → AppendedPart old new (fault_text fault) → SweepsPart number old new
-faulty_part number fault old new said text =
-    subst (λ (r : Result Script TextFault). MatchResult r (λ script. (view : WorldView) × TellsNumbers (AppendedPart old new) number view script) (λ fault. AppendedPart old new (fault_text fault)))
-    (sym said) text
+-- ---- the laws of generated networks
 
--- The line that tells the fault was written, or a part of it.
-pub number_faulty : (number : ℕ) (fault : TextFault) (old new : Option (List ℕ)) (stop : Stop) → script_of (made number) ≡ Err fault → (stop ≡ stops.Text → Appended old new (fault_text fault)) →
-    (stop ≡ stops.Text) ⊎ AppendedPart old new (fault_text fault) → (stop ≢ stops.Source) × (stop ≢ stops.Label) → SweepEnds number (Err stop) old new
-number_faulty number fault old new stops.Text said whole part others = (fault, said, whole refl)
-number_faulty number fault old new stops.Source said whole part others = absurd (others.0 refl)
-number_faulty number fault old new stops.Label said whole part others = absurd (others.1 refl)
-number_faulty number fault old new stops.Sink said whole (inl text) others = absurd cc
-number_faulty number fault old new stops.Sink said whole (inr part) others = faulty_part number fault old new said part
-number_faulty number fault old new stops.Memory said whole (inl text) others = absurd cc
-number_faulty number fault old new stops.Memory said whole (inr part) others = inr (faulty_part number fault old new said part)
+abbrev pub AreRead : Type 0
+AreRead = (number : ℕ) → script_of (made number) ≡ Ok (made_script number)
+
+abbrev pub AreNeverHalting : Type 0
+AreNeverHalting = (cores : Cores) (number : ℕ) (report : List Entry) (node : NodeId) → ScriptRules (made_script number) → ScriptHasOctets (made_script number) → Halts cores (made_script number) report node → ⊥
+
+abbrev said_as : Script → Result Script TextFault
+said_as script = Ok script
+
+one_script : (x y : Script) (r : Result Script TextFault) → r ≡ Ok x → r ≡ Ok y → x ≡ y
+one_script x y r one other = cc
+
+-- The script that the text of a number says never halts.
+pub made_never_halts : AreRead → AreNeverHalting → (number : ℕ) (script : Script) → script_of (made number) ≡ Ok script → ScriptRules script → ScriptHasOctets script → NeverHalts script
+made_never_halts are_read never number script said rules octets =
+    let same : made_script number ≡ script = one_script (made_script number) script (script_of (made number)) (are_read number) said in
+    subst NeverHalts same (λ cores report node. never cores number report node (subst ScriptRules (sym same) rules) (subst ScriptHasOctets (sym same) octets))
+
+-- It says no fault.
+pub made_not_faulty : AreRead → (number : ℕ) (fault : TextFault) → script_of (made number) ≡ Err fault → ⊥
+made_not_faulty are_read number fault says = (let both : said_as (made_script number) ≡ Err fault = sym (are_read number) ∙ says in absurd cc)

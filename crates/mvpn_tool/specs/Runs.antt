@@ -15,7 +15,7 @@ use Rattle.mvpn_tool.specs.Input.{Taken}
 use Rattle.mvpn_tool.specs.Report.{AllRun, OneHalts}
 use Rattle.mvpn_tool.specs.Outcome.{EndsFaulty, EndsEarly, EndsHalted, EndsWellSome}
 use Rattle.mvpn_tool.specs.DecodeOutcome.{Decoded, DecodesFaulty, DecodesEarly}
-use Rattle.mvpn_tool.specs.Sweep.{SweepsFaulty, SweepsHalted, SweepsPart, SweepsWellSome}
+use Rattle.mvpn_tool.specs.Sweep.{SweepsPart, SweepsWellSome}
 use Rattle.mvpn_tool.specs.declared.command.Command.{Command}
 use Rattle.mvpn_tool.specs.declared.command.Command.TheVariants as commands
 use Rattle.mvpn_tool.specs.declared.command.Detail.{Detail}
@@ -129,28 +129,17 @@ pub record MakeRun (number : ℕ) (e : Ending) : Type 0 where
   pub untouched : e.rest ≡ e.left
   pub worldless : e.world ≡ None
 
--- the statuses by which a call that has no source may end where its sink fails, or it has no memory
-abbrev pub IsCut : ℕ → Type 0
-IsCut status = (status ≡ 5) ⊎ (status ≡ 6)
-
 -- `sweep` and a number: the script of that number is replayed as by `replay`, with one line for its report, and the source is not touched
 pub record SweepRun (number : ℕ) (e : Ending) : Type 0 where
   -- all was replayed, the line of the numbers was written, and there is a world exactly there
   pub zero : e.status ≡ 0 → SweepsWellSome number e.old e.new e.world
-  pub zero_always : (script : Script) → script_of (made number) ≡ Ok script → AllRun script → (e.status ≡ 0) ⊎ IsCut e.status
   pub worldless : (e.status ≡ 0 → ⊥) → e.world ≡ None
-  -- the text has a fault, and the line that tells it is written alone
-  pub three : e.status ≡ 3 → SweepsFaulty number e.old e.new
-  pub three_always : (fault : TextFault) → script_of (made number) ≡ Err fault → (e.status ≡ 3) ⊎ IsCut e.status
   -- the sink failed, with a prefix of the line written
   pub five : e.status ≡ 5 → SweepsPart number e.old e.new
   pub five_cause : e.status ≡ 5 → SinkFailed e
-  -- there was no memory, and nothing or a prefix of the line is written
-  pub six : e.status ≡ 6 → Wrote e [] ⊎ SweepsPart number e.old e.new
-  -- an event lacks a label, and nothing is written
-  pub seven : e.status ≡ 7 → SweepsHalted number e.old e.new
-  pub seven_always : (script : Script) → script_of (made number) ≡ Ok script → OneHalts script → (e.status ≡ 7) ⊎ IsCut e.status
-  pub only : (e.status ≡ 0) ⊎ (e.status ≡ 3) ⊎ (e.status ≡ 7) ⊎ IsCut e.status
+  -- there was no memory, and nothing is written
+  pub six : e.status ≡ 6 → Wrote e []
+  pub only : (e.status ≡ 0) ⊎ (e.status ≡ 5) ⊎ (e.status ≡ 6)
   pub untouched : e.rest ≡ e.left
 
 -- how a call ends whose words name that command, or none

@@ -1,6 +1,6 @@
 -- The numbers of the run of a made network, and what `sweep` writes of them.
-use Rattle.std.specs.Prelude.{◌≡◌, ◌⊎◌, ⊤, ⊥, ℕ, ◌+◌, ◌==◌, ◌&&◌, ◌++◌, min, Bool, true, false, codes, fold, if◌then◌else◌}
-use Rattle.std.specs.Prelude.{List, [], length, count_by, slice_get, Option, None, Some, Result, Ok, Err, MatchResult, OnOk, IsErrOf}
+use Rattle.std.specs.Prelude.{◌≡◌, ℕ, ◌+◌, ◌==◌, ◌&&◌, ◌++◌, min, Bool, true, false, codes, fold, if◌then◌else◌}
+use Rattle.std.specs.Prelude.{List, [], length, count_by, slice_get, Option, None, Some, Result, Ok, Err, OnOk, IsErrOf}
 use Rattle.std.specs.Fmt.{decimal}
 use Rattle.mv_base.specs.declared.ids.NodeId.{NodeId}
 use Rattle.mv_io.specs.Octets.{Appended, AppendedPart}
@@ -8,19 +8,17 @@ use Rattle.scenario_defs.specs.declared.event.Script.{Script}
 use Rattle.scenario_defs.specs.declared.event.Timed.{Timed}
 use Rattle.scenario_defs.specs.declared.report.ReportLine.{ReportLine}
 use Rattle.scenario_defs.specs.declared.report.ReportLine.TheVariants as lines
-use Rattle.line_words.specs.FaultText.{fault_text}
-use Rattle.line_words.specs.declared.fault.TextFault.{TextFault}
 use Rattle.scenario_text.specs.Grammar.{script_of}
 use Rattle.generator.specs.Made.{made}
 use Rattle.mvpn_model.specs.Report.{Entry, lines_of}
 use Rattle.network_defs.specs.Costs.{Cores}
 use Rattle.network_defs.specs.Events.{Happened, Done, Halted}
-use Rattle.network_defs.specs.Run.{Traced, outcome, report_of, traced}
+use Rattle.network_defs.specs.Run.{Halts, Traced, outcome, report_of, traced}
 use Rattle.network_defs.specs.World.{World}
 use Rattle.delivery_laws.specs.Flood.{lines_in}
 use Rattle.network_events.specs.Behind.{IsBehind, IsReached}
 use Rattle.network_events.specs.WorldView.{WorldView}
-use Rattle.mvpn_tool.specs.Report.{IsHaltedRun, IsWholeRun}
+use Rattle.mvpn_tool.specs.Report.{IsWholeRun}
 use Rattle.mvpn_tool.specs.declared.counts.Counts.{Counts}
 use Rattle.mvpn_tool.specs.declared.stop.Stop.{Stop}
 use Rattle.mvpn_tool.specs.declared.stop.Stop.TheVariants as stops
@@ -110,18 +108,9 @@ pub record SweepsWhole (script : Script) (swept : Swept) : Type 0 where
   pub whole : IsWholeRun cores script trace state
   pub counts : swept.counts ≡ counts_of (report_of trace)
 
--- An event lacks a label.
-pub record SweepsUpToHalt (script : Script) : Type 0 where
-  pub cores : Cores
-  pub report : List Entry
-  pub node : NodeId
-  pub halted : IsHaltedRun cores script report node
-
--- how the run of a script ends
-abbrev pub Sweeps : Script → Result Swept Stop → Type 0
-Sweeps script (Ok swept) = SweepsWhole script swept
-Sweeps script (Err stops.Label) = SweepsUpToHalt script
-Sweeps script (Err other) = ⊤
+-- None of its events lacks a label.
+abbrev pub NeverHalts : Script → Type 0
+NeverHalts script = (cores : Cores) (report : List Entry) (node : NodeId) → Halts cores script report node → ⊥
 
 -- ---- a number
 
@@ -141,28 +130,16 @@ pub record TellsNumbers (Written : List ℕ → Type 0) (number : ℕ) (view : W
 abbrev pub SweepsWell : ℕ → Option (List ℕ) → Option (List ℕ) → WorldView → Type 0
 SweepsWell number old new view = IsMade (TellsNumbers (Appended old new) number view) number
 
--- An event lacks a label, and nothing was written.
-abbrev pub SweepsHalted : ℕ → Option (List ℕ) → Option (List ℕ) → Type 0
-SweepsHalted number old new = IsMade SweepsUpToHalt number × Appended old new []
-
--- The text has a fault, and the line that tells it was written.
-abbrev pub SweepsFaulty : ℕ → Option (List ℕ) → Option (List ℕ) → Type 0
-SweepsFaulty number old new = (fault : TextFault) × (script_of (made number) ≡ Err fault) × Appended old new (fault_text fault)
-
--- A prefix of the line of the numbers, or of the one that tells a fault, was written.
+-- A prefix of it was written.
 abbrev pub SweepsPart : ℕ → Option (List ℕ) → Option (List ℕ) → Type 0
-SweepsPart number old new =
-    MatchResult (script_of (made number)) (λ script. (view : WorldView) × TellsNumbers (AppendedPart old new) number view script)
-    (λ fault. AppendedPart old new (fault_text fault))
+SweepsPart number old new = IsMade (λ script. (view : WorldView) × TellsNumbers (AppendedPart old new) number view script) number
 
 -- how it ends
 abbrev pub SweepEnds : ℕ → Result WorldView Stop → Option (List ℕ) → Option (List ℕ) → Type 0
 SweepEnds number (Ok view) old new = SweepsWell number old new view
-SweepEnds number (Err stops.Label) old new = SweepsHalted number old new
-SweepEnds number (Err stops.Text) old new = SweepsFaulty number old new
-SweepEnds number (Err stops.Source) old new = ⊥
 SweepEnds number (Err stops.Sink) old new = SweepsPart number old new
-SweepEnds number (Err stops.Memory) old new = Appended old new [] ⊎ SweepsPart number old new
+SweepEnds number (Err stops.Memory) old new = Appended old new []
+SweepEnds number (Err other) old new = ⊥
 
 -- There is a world, and the line of the numbers was written.
 abbrev pub SweepsWellSome : ℕ → Option (List ℕ) → Option (List ℕ) → Option WorldView → Type 0

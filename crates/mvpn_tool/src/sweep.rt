@@ -1,19 +1,19 @@
 //! Replays the network of a number, and tells the numbers of its run.
-ghost use Rattle.std.specs.Prelude.{◌≡◌, ◌≤◌, ◌⊎◌, OnOk, OnErr, IfOk, IfErr, IsErrOf, Ok};
+ghost use Rattle.std.specs.Prelude.{◌≡◌, ◌⊎◌, [], OnOk, OnErr, IfOk, IfErr, IsErrOf, Ok};
 ghost use Rattle.mv_io.specs.Causes.{Rose};
 ghost use Rattle.mv_io.specs.Octets.{Appended, AppendedPart};
 ghost use Rattle.scenario_defs.specs.Rules.{ScriptRules};
 ghost use Rattle.scenario_text.specs.Grammar.{script_of};
 ghost use Rattle.generator.specs.Made.{made};
 ghost use Rattle.network_events.specs.Behind.{IsReached};
-ghost use Rattle.mvpn_tool.specs.Sweep.{EventCounts, SweepEnds, Sweeps, sweep_text};
+ghost use Rattle.mvpn_tool.specs.Sweep.{EventCounts, NeverHalts, SweepEnds, SweepsWhole, sweep_text};
 ghost use Rattle.mvpn_tool.specs.declared.stop.Stop.TheVariants as stops;
 
 use crate::counts::Counts;
 use crate::laws::{runs_are_known, script_has_octets};
-use crate::replay::write_fault;
 use crate::stop::Stop;
 use generator::put_made;
+use made_laws::{made_runs_never_halt, made_texts_are_read};
 use mv_base::{Bytes, NoMemory};
 use mv_io::{Sink, write_all};
 use network_events::{Halt, World};
@@ -50,11 +50,12 @@ fn sweep_event(
     }
 }
 
-/// All events of the script, or those up to one that lacks a label.
+/// All events of the script, of which none lacks a label.
 fn sweep_script(alloc: Global, script: Script) -> Result<Swept, Stop>
-    requires { ScriptRules script }
-    ensures sweeps { Sweeps script result }
-    ensures others { IfErr result (λ stop. (stop ≡ stops.Label) ⊎ (stop ≡ stops.Memory)) }
+    requires rules { ScriptRules script }
+    requires labels { NeverHalts script }
+    ensures sweeps { IfOk result (SweepsWhole script) }
+    ensures others { IfErr result (λ stop. stop ≡ stops.Memory) }
 {
     runs_are_known();
     script_has_octets(&script);
@@ -113,8 +114,8 @@ fn write_numbers<K: Sink>(
         (sweep_text number swept.now.world.network.datagrams.count swept.now.counts)) }
     ensures part { OnErr result (AppendedPart (K.written sink.old) (K.written sink.new)
         (sweep_text number swept.now.world.network.datagrams.count swept.now.counts)) }
-    ensures later { K.faults sink.old ≤ K.faults sink.new }
     ensures failed { IsErrOf result stops.Sink → Rose (K.faults sink.old) (K.faults sink.new) }
+    ensures nothing { IsErrOf result stops.Memory → Appended (K.written sink.old) (K.written sink.new) [] }
     ensures others { IfErr result (λ stop. (stop ≡ stops.Sink) ⊎ (stop ≡ stops.Memory)) }
 {
     let text = text_of_numbers(alloc, number, swept.world.accepted(), swept.counts)?;
@@ -132,9 +133,12 @@ fn sweep_read<K: Sink>(
     requires rules { ScriptRules script }
     requires said { script_of (made number) ≡ Ok script }
     ensures ends { SweepEnds number result (K.written sink.old) (K.written sink.new) }
-    ensures later { K.faults sink.old ≤ K.faults sink.new }
     ensures failed { IsErrOf result stops.Sink → Rose (K.faults sink.old) (K.faults sink.new) }
+    ensures others { IfErr result (λ stop. (stop ≡ stops.Sink) ⊎ (stop ≡ stops.Memory)) }
 {
+    made_texts_are_read();
+    made_runs_never_halt();
+    script_has_octets(&script);
     let swept = sweep_script(alloc, script)?;
     match write_numbers(alloc, number, &swept, sink) {
         Ok(()) => {
@@ -153,14 +157,15 @@ fn sweep_read<K: Sink>(
 /// how often one left at an interface, how many events were refused, and how many states were calm.
 pub fn sweep<K: Sink>(alloc: Global, number: u32, sink: &mut K) -> Result<World, Stop>
     ensures ends { SweepEnds number result (K.written sink.old) (K.written sink.new) }
-    ensures later { K.faults sink.old ≤ K.faults sink.new }
     ensures failed { IsErrOf result stops.Sink → Rose (K.faults sink.old) (K.faults sink.new) }
+    ensures others { IfErr result (λ stop. (stop ≡ stops.Sink) ⊎ (stop ≡ stops.Memory)) }
 {
+    made_texts_are_read();
     let mut text = Bytes::new(alloc);
     put_made(&mut text, number)?;
     match read(alloc, text.as_slice()) {
         Err(ReadFault::NoMemory) => Err(Stop::Memory),
-        Err(ReadFault::Text(fault)) => Err(write_fault(alloc, fault, sink)),
+        Err(ReadFault::Text(_)) => unreachable!(),
         Ok(script) => sweep_read(alloc, number, script, sink),
     }
 }

@@ -90,17 +90,13 @@ fn run_sweep<K: Sink>(alloc: Global, number: u32, sink: &mut K) -> End
       sink_now = K.faults sink.new;
     }) }
 {
-    one_run_or_one_halt();
     match sweep(alloc, number, sink) {
         Ok(world) => End {
             status: 0,
             world: Some(world),
         },
-        Err(Stop::Text) => ended(3),
-        Err(Stop::Source) => unreachable!(),
         Err(Stop::Sink) => ended(5),
-        Err(Stop::Memory) => ended(6),
-        Err(Stop::Label) => ended(7),
+        Err(_) => ended(6),
     }
 }
 

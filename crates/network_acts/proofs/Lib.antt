@@ -1,3 +1,4 @@
 mod PlaneActs
 mod CopyActs
 mod Told
+pub mod Handed

@@ -9,5 +9,6 @@ mod queries;
 mod sessions;
 mod telling;
 
-pub use control_plane::Verdict;
+pub use control_plane::{Directions, Edge, Verdict, directions_of, sessions_of};
+pub use datagram_acts::Pool;
 pub use network::Network;

@@ -1,13 +1,18 @@
 //! What is asked of a network. Nothing changes.
-ghost use Rattle.std.specs.Prelude.{◌≡◌, length};
+ghost use Rattle.std.specs.Prelude.{◌≡◌, length, IfSome, None};
 ghost use Rattle.std.specs.FinMap as maps;
 ghost use Rattle.network_defs.specs.Counts.{all_copies, direction, is_end_up, octets_in_transit};
 ghost use Rattle.control_plane.specs.Acted.{IsWithin};
 ghost use Rattle.control_plane.specs.Customers.{IsVrfEdge, control_at};
+ghost use Rattle.control_plane.specs.Queries.{IsCoreThere, IsEdgeThere, IsNoCore, IsNoEdge};
+ghost use Rattle.link_copies.specs.CopiesData.{IsShared};
 ghost use Rattle.datagram_acts.specs.Stored.{AreLinked};
 ghost use Rattle.network_acts.specs.Instant.{Instant, IsSome, IsWorld, OfPlane, standing_of};
 
 use crate::network::Network;
+use control_plane::Edge;
+use datagram_acts::Pool;
+use mldp_node::LdpNode;
 use mv_base::{NodeId, Pattern, VrfId};
 use scenario_defs::Kind;
 use session_defs::Direction;
@@ -58,6 +63,30 @@ impl Network {
             result ≡ maps.contains_key (control_at n (standing_of at)).selections (record { vrf = vrf; pattern = pattern }) }
     {
         self.plane.is_selected(n, vrf, pattern)
+    }
+
+    /// The node of that number, where it is an edge.
+    pub fn edge(&self, n: NodeId) -> Option<&Edge>
+        ensures is { IfSome result (λ edge. (at : Instant) → IsWorld at self.now → IsEdgeThere (standing_of at) n edge.now) }
+        ensures none { result ≡ None → (at : Instant) → IsWorld at self.now → IsNoEdge (standing_of at) n }
+    {
+        self.plane.edge(n)
+    }
+
+    /// The label part of the node of that number, where it is a core node.
+    pub fn core_node(&self, n: NodeId) -> Option<&LdpNode>
+        ensures is { IfSome result (λ labels. (at : Instant) → IsWorld at self.now → IsCoreThere (standing_of at) n labels.now) }
+        ensures none { result ≡ None → (at : Instant) → IsWorld at self.now → IsNoCore (standing_of at) n }
+    {
+        self.plane.core_node(n)
+    }
+
+    /// The buffers of the copies and of the datagram that is being handled.
+    pub fn pool(&self) -> &Pool
+        ensures now { result.now ≡ self.now.datagrams.copies.buffers }
+        ensures shared { IsShared self.now.datagrams.copies }
+    {
+        self.datagrams.pool()
     }
 
     /// How many copies are on the way.

@@ -12,11 +12,9 @@ use Rattle.network_defs.specs.Events.{Happened, Done, and_then, cost_acts, row}
 use Rattle.network_defs.specs.World.{World, scenario_of}
 use Rattle.network_defs.proofs.Kept.{Comes, Gives, row_keeps}
 use Rattle.network_laws.proofs.Lists.{each_of}
-use Rattle.control_plane.specs.Acted.{IsWithin, same_moment, with_current}
-use Rattle.control_plane.specs.Passing.{all_late}
-use Rattle.control_plane.specs.Plane.{Moment, at_rest}
 use Rattle.network_acts.specs.Instant.{Instant, IsSome, IsWorld, OfPlane}
 use Rattle.network_acts.specs.NetworkView.{NetworkView}
+use Rattle.network_acts.specs.Words.{IsWithin, Moment, all_late, at_rest, same_moment, with_current}
 use Rattle.network_events.specs.Doing.{Does}
 use Rattle.network_events.specs.Meeting.{IsResting}
 use Rattle.network_events.specs.Parts.{IsRepriced}

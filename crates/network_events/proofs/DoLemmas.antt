@@ -9,10 +9,10 @@ use Rattle.mldp_node.specs.declared.fault.NodeFault.TheVariants as faults
 use Rattle.network_defs.specs.Acts.{Act, Acted, act}
 use Rattle.network_defs.specs.Events.{Happened, Outcome, Done, Halted, and_then, row}
 use Rattle.network_defs.specs.World.{World}
-use Rattle.control_plane.specs.Plane.{Moment}
 use Rattle.network_acts.specs.Acting.{ActsAs, Made}
 use Rattle.network_acts.specs.Instant.{Instant, IsSome, IsWorld}
 use Rattle.network_acts.specs.NetworkView.{NetworkView}
+use Rattle.network_acts.specs.Words.{Moment}
 use Rattle.network_events.specs.Doing.{Did, Does, Lacked, answer_at, lines_in}
 use Rattle.network_events.specs.declared.halt.Halt.{Halt}
 use Rattle.network_events.specs.declared.halt.Halt.TheVariants as halts

@@ -30,13 +30,11 @@ use Rattle.wire_laws.specs.Ends.{HasCall, end_behind, is_raise}
 use Rattle.wire_laws.specs.Ways.{IsFound}
 use Rattle.wire_laws.proofs.EndLemmas.{calls_ends}
 use Rattle.wire_laws.proofs.WayLemmas.{reversed, session_found, two_ends, way_has}
-use Rattle.control_plane.specs.Acted.{same_moment}
-use Rattle.control_plane.specs.Plane.{Moment}
-use Rattle.control_plane.specs.Sessions.{IsDown, IsHalfUp, none_rising, with_rising}
-use Rattle.control_plane.proofs.EndLemmas.{raise_has, session_itself}
 use Rattle.network_acts.specs.Acting.{ActsAs}
 use Rattle.network_acts.specs.Instant.{Instant, IsSome, IsWorld, OfPlane, standing_of}
 use Rattle.network_acts.specs.NetworkView.{NetworkView}
+use Rattle.network_acts.specs.Words.{IsDown, IsHalfUp, Moment, none_rising, same_moment, with_rising}
+use Rattle.network_acts.proofs.Handed.{raise_has, session_itself}
 use Rattle.network_events.specs.Doing.{Does, answer_at}
 use Rattle.network_events.specs.Meeting.{IsResting}
 use Rattle.network_events.specs.Parts.{IsRaisable}

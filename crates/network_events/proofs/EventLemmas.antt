@@ -11,9 +11,9 @@ use Rattle.network_defs.specs.Counts.{direction, is_up}
 use Rattle.network_defs.specs.Events.{Outcome, done}
 use Rattle.network_defs.specs.Refusals.{refusal, refused_if}
 use Rattle.network_defs.specs.World.{World}
-use Rattle.control_plane.specs.Acted.{same_moment}
 use Rattle.network_acts.specs.Instant.{Instant, IsWorld}
 use Rattle.network_acts.specs.NetworkView.{NetworkView}
+use Rattle.network_acts.specs.Words.{same_moment}
 use Rattle.network_events.specs.Doing.{Does}
 use Rattle.network_events.specs.Meeting.{IsReady, Meets, met}
 use Rattle.network_events.specs.declared.halt.Halt.{Halt}

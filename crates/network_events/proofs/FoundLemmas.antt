@@ -13,9 +13,9 @@ use Rattle.network_defs.specs.World.{World, scenario_of}
 use Rattle.wire_laws.specs.Edges.{IsWay}
 use Rattle.wire_laws.proofs.SessionPairs.{session_has}
 use Rattle.wire_laws.proofs.WayLemmas.{has_way}
-use Rattle.control_plane.specs.Acted.{same_moment}
 use Rattle.network_acts.specs.Instant.{Instant, IsSome, IsWorld}
 use Rattle.network_acts.specs.NetworkView.{NetworkView}
+use Rattle.network_acts.specs.Words.{same_moment}
 use Rattle.network_events.specs.Doing.{Does}
 use Rattle.network_events.specs.Meeting.{IsResting}
 use Rattle.network_events.specs.Parts.{IsRaisable}

@@ -14,10 +14,9 @@ use Rattle.network_defs.specs.World.{World, scenario_of}
 use Rattle.network_defs.proofs.Kept.{Comes, Gives, both_give}
 use Rattle.wire_laws.specs.Edges.{IsWay}
 use Rattle.wire_laws.proofs.WayLemmas.{reversed}
-use Rattle.control_plane.specs.Acted.{same_moment}
-use Rattle.control_plane.specs.Sessions.{IsLost}
 use Rattle.network_acts.specs.Instant.{Instant, IsSome, IsWorld, OfPlane, standing_of}
 use Rattle.network_acts.specs.NetworkView.{NetworkView}
+use Rattle.network_acts.specs.Words.{IsLost, same_moment}
 use Rattle.network_events.specs.Doing.{Does}
 use Rattle.network_events.specs.Meeting.{IsResting}
 use Rattle.network_events.specs.Parts.{IsRaisable}

@@ -22,9 +22,9 @@ use Rattle.network_laws.proofs.SteadyEvents.{steady_event}
 use Rattle.ready_laws.proofs.ActsStand as stand
 use Rattle.ready_laws.proofs.ActsStand.{WorldStands, act_gives, act_stand}
 use Rattle.ready_laws.proofs.Nodes.{end_of}
-use Rattle.control_plane.specs.Acted.{same_moment}
 use Rattle.network_acts.specs.Instant.{Instant, IsSome}
 use Rattle.network_acts.specs.NetworkView.{NetworkView}
+use Rattle.network_acts.specs.Words.{same_moment}
 use Rattle.network_events.specs.Doing.{Does}
 use Rattle.network_events.specs.Meeting.{AreAlike, IsResting}
 use Rattle.network_events.proofs.DoLemmas.{Leads}

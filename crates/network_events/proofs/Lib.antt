@@ -19,4 +19,6 @@ mod SettleLemmas
 mod TurnLemmas
 mod LinkLemmas
 mod RunLemmas
+mod BehindLemmas
 mod StepLemmas
+mod LendingLemmas

@@ -1,21 +1,19 @@
 -- In every run the copies are on links, and each way of a link is one way.
-use Rattle.std.proofs.Common.{◌≡◌, ◌∙◌, refl, sym, ap, subst, arith, ℕ, zero, suc, ◌+◌, ◌==◌, ◌&&◌, ◌||◌, Bool, true, false, cond, List, [], ◌∷◌, ◌⊎◌, inl, inr, All, AllPairs, length}
+use Rattle.std.proofs.Common.{◌≡◌, ◌∙◌, refl, sym, arith, ℕ, suc, ◌==◌, ◌||◌, Bool, true, false, List, [], ◌∷◌, inl, inr, All, AllPairs, length}
 use Rattle.std.specs.Prelude.{count_by}
 use Rattle.std.specs.List.{AllByRecursion, IsDistinct, flat_map, list_any}
 use Rattle.std.proofs.lemmas.Bool.{and_from, and_parts, cond-false, eq-eqb, eqb-true, false_from_ne_true}
 use Rattle.std.proofs.lemmas.List.Elements.{All-head, All-tail}
 use Rattle.mv_base.specs.declared.core_link.Link.{Link}
 use Rattle.mv_base.specs.declared.ids.NodeId.{NodeId}
-use Rattle.core_walks.specs.Topology.{HasEnds, IsTopology, JoinsSamePair}
+use Rattle.core_walks.specs.Topology.{HasEnds, JoinsSamePair}
 use Rattle.label_defs.proofs.MemberLemmas.{count-cons}
 use Rattle.scenario_defs.specs.Rules.{Rules}
-use Rattle.scenario_defs.specs.declared.scenario.Scenario.{Scenario}
 use Rattle.network_defs.specs.Counts.{link_ways}
 use Rattle.network_defs.specs.World.{LinkCopy, World, scenario_of}
-use Rattle.link_copies.specs.CopiesData.{is_way}
+use Rattle.network_acts.specs.Words.{AreLinked, is_way}
 use Rattle.delivery_laws.specs.Flood.{AreSound, SoundCopy}
 use Rattle.delivery_laws.specs.Flood as floods
-use Rattle.datagram_acts.specs.Stored.{AreLinked}
 
 true-ne-false : true ≡ false → ⊥
 true-ne-false t = cc

@@ -8,9 +8,9 @@ use Rattle.network_defs.specs.Acts.{Act}
 use Rattle.network_defs.specs.Counts.{node_ids}
 use Rattle.network_defs.specs.Events.{Outcome, Done, each, row, times}
 use Rattle.network_defs.specs.World.{World}
-use Rattle.control_plane.specs.Acted.{same_moment}
 use Rattle.network_acts.specs.Instant.{Instant, IsWorld}
 use Rattle.network_acts.specs.NetworkView.{NetworkView}
+use Rattle.network_acts.specs.Words.{same_moment}
 use Rattle.network_events.specs.Doing.{Does}
 use Rattle.network_events.specs.Meeting.{IsResting}
 use Rattle.network_events.specs.declared.halt.Halt.{Halt}

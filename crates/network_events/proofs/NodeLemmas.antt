@@ -12,11 +12,10 @@ use Rattle.network_defs.specs.Events.{row}
 use Rattle.network_defs.specs.World.{scenario_of}
 use Rattle.wire_laws.specs.Edges.{IsWay}
 use Rattle.wire_laws.proofs.WayLemmas.{has_way}
-use Rattle.control_plane.specs.Acted.{IsCurrent, same_moment}
-use Rattle.control_plane.specs.Sessions.{IsLost}
 use Rattle.network_acts.specs.Acting.{ActsAs}
 use Rattle.network_acts.specs.Instant.{Instant, IsSome, IsWorld, OfPlane, standing_of}
 use Rattle.network_acts.specs.NetworkView.{NetworkView}
+use Rattle.network_acts.specs.Words.{IsCurrent, IsLost, same_moment}
 use Rattle.network_events.specs.Doing.{Does, answer_at}
 use Rattle.network_events.specs.Meeting.{IsResting}
 use Rattle.network_events.proofs.DoLemmas.{act_does}

@@ -18,10 +18,9 @@ use Rattle.network_defs.specs.Refusals.{edge_of_vrf}
 use Rattle.network_defs.specs.World.{scenario_of}
 use Rattle.network_laws.proofs.RunNodes.{IsFoundNode, edge_within, vrf_within}
 use Rattle.network_laws.specs.Sound.{SoundScenario}
-use Rattle.control_plane.specs.Acted.{IsIn}
 use Rattle.network_acts.specs.Instant.{Instant, standing_of}
 use Rattle.network_acts.specs.NetworkView.{NetworkView}
-use Rattle.network_acts.specs.Words.{IsCurrent, IsEdgeOf, IsIfaceEdge, IsVrfEdge, Moment, at_rest}
+use Rattle.network_acts.specs.Words.{IsCurrent, IsEdgeOf, IsIfaceEdge, IsIn, IsVrfEdge, Moment, at_rest}
 use Rattle.network_events.specs.Places.{among_from, has_vrf, vrfs_of}
 
 -- ---- the VRFs of a site

@@ -7,11 +7,10 @@ use Rattle.network_defs.specs.Acts.{Act}
 use Rattle.network_defs.specs.Counts.{node_ids}
 use Rattle.network_defs.specs.Events.{Happened, Outcome, Done, Halted, and_then, each, one_act, row, times}
 use Rattle.network_defs.specs.World.{World}
-use Rattle.control_plane.specs.Acted.{same_moment}
-use Rattle.control_plane.specs.Plane.{Moment}
 use Rattle.network_acts.specs.Acting.{Passes}
 use Rattle.network_acts.specs.Instant.{Instant, IsWorld}
 use Rattle.network_acts.specs.NetworkView.{NetworkView}
+use Rattle.network_acts.specs.Words.{Moment, same_moment}
 use Rattle.network_events.specs.Doing.{Did, Does, lines_in}
 use Rattle.network_events.specs.declared.halt.Halt.{Halt}
 use Rattle.network_events.specs.declared.halt.Halt.TheVariants as halts

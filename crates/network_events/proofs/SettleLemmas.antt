@@ -10,11 +10,10 @@ use Rattle.network_defs.specs.Counts.{directions, node_ids, octets_in_transit}
 use Rattle.network_defs.specs.Events.{Outcome, Done, and_then, each, row, settled, times, turn}
 use Rattle.network_defs.specs.World.{World, scenario_of}
 use Rattle.wire_laws.specs.Edges.{IsWay}
-use Rattle.control_plane.specs.Acted.{same_moment}
-use Rattle.control_plane.specs.Moving.{IsMovable}
 use Rattle.network_acts.specs.Acting.{ActsAs}
 use Rattle.network_acts.specs.Instant.{Instant, IsSome, IsWorld, OfPlane, standing_of}
 use Rattle.network_acts.specs.NetworkView.{NetworkView}
+use Rattle.network_acts.specs.Words.{IsMovable, same_moment}
 use Rattle.network_events.specs.Doing.{Does, answer_at}
 use Rattle.network_events.specs.Meeting.{IsResting}
 use Rattle.network_events.specs.declared.halt.Halt.{Halt}

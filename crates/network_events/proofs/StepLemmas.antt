@@ -5,7 +5,7 @@ use Rattle.std.proofs.lemmas.Option.{none-some, same_Some}
 use Rattle.mv_base.specs.declared.ids.IfaceId.{IfaceId}
 use Rattle.mv_base.specs.declared.ids.NodeId.{NodeId}
 use Rattle.mv_base.specs.declared.addr.Addr.TheVariants.{V4}
-use Rattle.scenario_defs.specs.Rules.{IsEventOf, Rises, Rules}
+use Rattle.scenario_defs.specs.Rules.{IsEventOf, Rises}
 use Rattle.scenario_defs.specs.declared.event.Event.{Event}
 use Rattle.scenario_defs.specs.declared.event.Event.TheVariants as events
 use Rattle.scenario_defs.specs.declared.event.JoinEntry.{JoinEntry}
@@ -23,13 +23,10 @@ use Rattle.network_defs.specs.Events.{Done, Halted, Happened, Outcome, done}
 use Rattle.network_defs.specs.Refusals.{refusal}
 use Rattle.network_defs.specs.Run.{Run, Runs, Traced, outcome, traced}
 use Rattle.network_defs.specs.World.{Datagram, World, clock_of, scenario_of, start}
-use Rattle.delivery_laws.specs.Flood.{AreSound, lines_in}
+use Rattle.delivery_laws.specs.Flood.{lines_in}
 use Rattle.delivery_laws.specs.Once.{brought_by, past_of}
 use Rattle.delivery_laws.proofs.Copies.{all_take}
 use Rattle.delivery_laws.proofs.Delivery.{came, done_sends}
-use Rattle.delivery_laws.proofs.LinkedEvents.{run_is_linked}
-use Rattle.delivery_laws.proofs.LinkedRuns.{Linked}
-use Rattle.delivery_laws.proofs.LinksOnce.{links_once}
 use Rattle.once_laws.proofs.StandRuns.{entries_told}
 use Rattle.run_laws.specs.Octets.{EventHasOctets}
 use Rattle.run_laws.proofs.SoundEvents.{sound_event}
@@ -44,9 +41,9 @@ use Rattle.network_events.specs.Telling.{IsTold, Tells, refused_lines}
 use Rattle.network_events.specs.WorldView.{WorldView}
 use Rattle.network_events.specs.declared.halt.Halt.{Halt}
 use Rattle.network_events.specs.declared.halt.Halt.TheVariants as halts
+use Rattle.network_events.proofs.BehindLemmas.{links_behind, scenario_behind}
 use Rattle.network_events.proofs.FlowLemmas.{flows_behind}
 use Rattle.network_events.proofs.KeptLemmas.{alike_behind, start_alike}
-use Rattle.network_events.proofs.LinkLemmas.{are_linked}
 use Rattle.network_events.proofs.RunLemmas.{clock_few, length_next, next_within, runs_more, take_next}
 
 rises_first : (number count : ℕ) (all : List Timed) → Rises number all → Rises number (take count all)
@@ -75,11 +72,8 @@ module _ (cores : Cores) (script : Script) (count : ℕ) (trace : List Traced) (
   abbrev first : List Timed
   first = take count script.events
 
-  linked : Linked script.scenario world
-  linked = run_is_linked cores script first trace world (links_once script.scenario behind.rules.scenario) behind.run
-
   same_scenario : scenario_of world ≡ script.scenario
-  same_scenario = linked.network.nodes.place
+  same_scenario = scenario_behind cores script count trace world view behind
 
   less : count < length script.events
   less = next_within script.events count timed at
@@ -87,7 +81,7 @@ module _ (cores : Cores) (script : Script) (count : ℕ) (trace : List Traced) (
   pub ready : IsReady (between_events cores world)
   ready = record {
     resting = record { rest = refl; alike = runs_alike first (start script.scenario cores) 0 trace world behind.run (start_alike script.scenario cores) };
-    linked = are_linked world (subst Rules (sym same_scenario) behind.rules.scenario) (subst (λ (s : Scenario). AreSound s world) (sym same_scenario) linked.sound);
+    linked = links_behind cores script count trace world view behind;
     flows = behind.flows;
   }
 

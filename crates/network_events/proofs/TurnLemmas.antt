@@ -12,10 +12,9 @@ use Rattle.network_defs.specs.Counts.{directions, octets_in_transit}
 use Rattle.network_defs.specs.Events.{Outcome, Done, and_then, each, row, turn}
 use Rattle.network_defs.specs.World.{World, scenario_of}
 use Rattle.wire_laws.specs.Edges.{IsWay}
-use Rattle.control_plane.specs.Moving.{IsMovable}
-use Rattle.control_plane.specs.Plane.{Moment}
 use Rattle.network_acts.specs.Instant.{Instant, IsWorld, standing_of}
 use Rattle.network_acts.specs.NetworkView.{NetworkView}
+use Rattle.network_acts.specs.Words.{IsMovable, Moment}
 use Rattle.network_events.specs.Meeting.{IsResting}
 use Rattle.network_events.proofs.EndLemmas.{ends_within, rests_at, rules_of}
 use Rattle.network_events.proofs.RowLemmas.{none_first}

@@ -1,5 +1,5 @@
 -- A network behind the first events of a script, and what a step does to it.
-use Rattle.std.specs.Prelude.{◌≡◌, ◌≤◌, ◌+◌, ◌++◌, ℕ, List, [], ◌∷◌, length, slice_get, take, Option, None, Some, Result, Err, OnOk}
+use Rattle.std.specs.Prelude.{◌≡◌, ◌≤◌, ◌+◌, ◌++◌, ℕ, List, [], length, slice_get, take, None, Some, Result, Err, OnOk}
 use Rattle.mv_base.specs.declared.ids.NodeId.{NodeId}
 use Rattle.scenario_defs.specs.Rules.{ScriptRules}
 use Rattle.scenario_defs.specs.declared.event.Script.{Script}
@@ -10,9 +10,9 @@ use Rattle.network_defs.specs.Costs.{AreCoresOf, Cores}
 use Rattle.network_defs.specs.Events.{Happened, Done, Halted}
 use Rattle.network_defs.specs.Run.{Run, Traced, outcome, traced}
 use Rattle.network_defs.specs.World.{World, start}
-use Rattle.control_plane.specs.Plane.{at_rest}
 use Rattle.network_acts.specs.Handling.{AreOfFlows}
 use Rattle.network_acts.specs.Instant.{Instant, IsWorld}
+use Rattle.network_acts.specs.Words.{at_rest}
 use Rattle.network_events.specs.Doing.{lines_in}
 use Rattle.network_events.specs.WorldView.{WorldView}
 use Rattle.network_events.specs.declared.halt.Halt.{Halt}

@@ -7,9 +7,9 @@ use Rattle.mldp_node.specs.declared.fault.NodeFault.TheVariants as faults
 use Rattle.network_defs.specs.Events.{Happened, Outcome, Done, Halted}
 use Rattle.network_defs.specs.World.{World}
 pub use Rattle.delivery_laws.specs.Flood.{lines_in}
-use Rattle.control_plane.specs.Plane.{Moment}
 use Rattle.network_acts.specs.Instant.{Instant, IsWorld}
 use Rattle.network_acts.specs.NetworkView.{NetworkView}
+use Rattle.network_acts.specs.Words.{Moment}
 use Rattle.network_events.specs.declared.halt.Halt.{Halt}
 use Rattle.network_events.specs.declared.halt.Halt.TheVariants as halts
 

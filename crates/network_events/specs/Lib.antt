@@ -7,3 +7,4 @@ pub mod Datagrams
 pub mod WorldView
 pub mod Behind
 pub mod Telling
+pub mod Lending

@@ -12,11 +12,10 @@ use Rattle.network_defs.specs.Events.{done}
 use Rattle.network_defs.specs.Refusals.{refusal}
 use Rattle.network_defs.specs.World.{World}
 use Rattle.network_laws.specs.Honest.{IsSoundEvent}
-use Rattle.control_plane.specs.Plane.{at_rest}
-use Rattle.datagram_acts.specs.Stored.{AreLinked}
 use Rattle.network_acts.specs.Handling.{AreOfFlows}
 use Rattle.network_acts.specs.Instant.{Instant, IsWorld}
 use Rattle.network_acts.specs.NetworkView.{NetworkView}
+use Rattle.network_acts.specs.Words.{AreLinked, at_rest}
 use Rattle.network_events.specs.Doing.{Did, Lacked}
 use Rattle.network_events.specs.declared.halt.Halt.{Halt}
 use Rattle.network_events.specs.declared.halt.Halt.TheVariants as halts

@@ -5,9 +5,8 @@ use Rattle.scenario_defs.specs.declared.event.Kind.{Kind}
 use Rattle.network_defs.specs.Counts.{direction, is_up}
 use Rattle.network_defs.specs.World.{scenario_of}
 use Rattle.wire_laws.specs.Edges.{IsWay}
-use Rattle.control_plane.specs.Passing.{all_late}
-use Rattle.control_plane.specs.Plane.{at_rest}
 use Rattle.network_acts.specs.Instant.{Instant}
+use Rattle.network_acts.specs.Words.{all_late, at_rest}
 use Rattle.network_events.specs.Meeting.{IsResting}
 
 -- Nothing is under way, and both ends of the two nodes' session, which is one of the scenario, are down.

@@ -6,8 +6,8 @@ ghost use Rattle.scenario_defs.specs.declared.event.Event.{Event};
 ghost use Rattle.scenario_defs.specs.declared.event.Event.TheVariants as events;
 ghost use Rattle.network_defs.specs.Events as definitions;
 ghost use Rattle.network_defs.specs.Refusals.{are_links_full};
-ghost use Rattle.datagram_acts.specs.Stored.{AreLinked};
 ghost use Rattle.network_acts.specs.Instant.{Instant, IsSome, IsWorld};
+ghost use Rattle.network_acts.specs.Words.{AreLinked};
 ghost use Rattle.network_events.specs.Datagrams.{EntersAt, IsSomeSent, Makes, Sends, of_memory};
 ghost use Rattle.network_events.specs.Meeting.{IsGiven, IsReady, Meets};
 
@@ -16,9 +16,8 @@ use crate::packet::packet;
 use crate::places::{edge_of_vrf, entered};
 use label_forwarding::{Datagram, PacketReason, read_packet};
 use mv_base::{Addr, NoMemory, NodeId, SiteId, VrfId};
-use network_acts::Network;
+use network_acts::{Network, sessions_of};
 use scenario_defs::{FaultWord, Lines, Refusal};
-use session_ways::sessions_of;
 
 /// So many copies on links are too many for one more datagram.
 const COPY_LIMIT: u64 = 65_536;

@@ -16,4 +16,6 @@ mod settling;
 mod world;
 
 pub use halt::Halt;
+pub use mldp_node::LdpNode;
+pub use network_acts::{Edge, Pool};
 pub use world::World;

@@ -3,8 +3,8 @@ ghost use Rattle.std.specs.Prelude.{◌+◌, ◌<◌, ◌^◌, length, [], ◌�
 ghost use Rattle.scenario_defs.specs.declared.event.Event.TheVariants as events;
 ghost use Rattle.network_defs.specs.Acts as acts;
 ghost use Rattle.network_defs.specs.Events.{row};
-ghost use Rattle.control_plane.specs.Acted.{same_moment};
 ghost use Rattle.network_acts.specs.Instant.{IsSome};
+ghost use Rattle.network_acts.specs.Words.{same_moment};
 ghost use Rattle.network_events.specs.Doing.{Does};
 ghost use Rattle.network_events.specs.Meeting.{IsGiven, IsReady, IsResting, Meets};
 

@@ -7,9 +7,8 @@ ghost use Rattle.network_defs.specs.Counts.{direction};
 ghost use Rattle.network_defs.specs.Events.{each, healed, is_session_of, raise_acts, raises, row};
 ghost use Rattle.network_defs.specs.World.{scenario_of};
 ghost use Rattle.wire_laws.specs.Edges.{IsWay};
-ghost use Rattle.control_plane.specs.Acted.{same_moment};
-ghost use Rattle.control_plane.specs.Sessions.{IsLost};
 ghost use Rattle.network_acts.specs.Instant.{IsSome, OfPlane};
+ghost use Rattle.network_acts.specs.Words.{IsLost, same_moment};
 ghost use Rattle.network_events.specs.Doing.{Does};
 ghost use Rattle.network_events.specs.Meeting.{IsGiven, IsReady, IsResting, Meets};
 ghost use Rattle.network_events.specs.Parts.{IsRaisable};
@@ -17,10 +16,9 @@ ghost use Rattle.network_events.specs.Parts.{IsRaisable};
 use crate::halt::{Halt, answer_at, met};
 use mv_base::NodeId;
 use mvpn_model::Session;
-use network_acts::Network;
+use network_acts::{Network, sessions_of};
 use scenario_defs::{Kind, Lines, Refusal};
 use session_defs::Direction;
-use session_ways::sessions_of;
 
 /// Octets are moved over a session: the first so many in transit, or all where there are fewer.
 pub(crate) fn move_octets(

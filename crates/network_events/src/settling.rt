@@ -5,18 +5,17 @@ ghost use Rattle.network_defs.specs.Acts as acts;
 ghost use Rattle.network_defs.specs.Counts.{directions, node_ids};
 ghost use Rattle.network_defs.specs.Events.{each, row, settled, times, turn};
 ghost use Rattle.wire_laws.specs.Edges.{IsWay};
-ghost use Rattle.control_plane.specs.Acted.{same_moment};
 ghost use Rattle.network_acts.specs.Instant.{IsSome};
+ghost use Rattle.network_acts.specs.Words.{same_moment};
 ghost use Rattle.network_events.specs.Doing.{Does};
 ghost use Rattle.network_events.specs.Meeting.{IsGiven, IsReady, IsResting, Meets};
 
 use crate::halt::{Halt, answer_at, met};
 use crate::nodes::timers_at;
 use mv_base::{NoMemory, NodeId};
-use network_acts::Network;
+use network_acts::{Directions, Network, directions_of, sessions_of};
 use scenario_defs::{Lines, Refusal, Scenario};
 use session_defs::Direction;
-use session_ways::{Directions, directions_of, sessions_of};
 use std::alloc::Global;
 
 /// The directions of all sessions of a scenario, in order.

@@ -1,13 +1,15 @@
 //! A network that goes through a script, event by event.
-ghost use Rattle.std.specs.Prelude.{◌≡◌, [], None, IfOk};
+ghost use Rattle.std.specs.Prelude.{◌≡◌, [], length, None, IfOk, IfSome};
 ghost use Rattle.scenario_defs.specs.Rules.{Rules};
 ghost use Rattle.network_events.specs.Behind.{IsBegun, IsReached, Steps};
+ghost use Rattle.network_events.specs.Lending.{InEachRun, IsCore, IsEdge, IsNoCore, IsNoEdge, IsPool};
 ghost use Rattle.network_events.specs.Telling.{Tells};
 
 use crate::dispatch::meet;
 use crate::halt::Halt;
-use mv_base::NoMemory;
-use network_acts::Network;
+use mldp_node::LdpNode;
+use mv_base::{NoMemory, NodeId};
+use network_acts::{Edge, Network, Pool};
 use scenario_defs::{Lines, Refusal, ReportLine, Scenario, Timed};
 use script_values::event_has_octets;
 use std::alloc::Global;
@@ -64,9 +66,34 @@ impl World {
 
     /// How many datagrams were accepted.
     pub fn accepted(&self) -> u64
-        ensures { result ≡ self.now.network.datagrams.count }
+        ensures own { result ≡ self.now.network.datagrams.count }
+        ensures is { InEachRun self.now (λ script world. result ≡ length world.datagrams) }
     {
         self.network.accepted()
+    }
+
+    /// The node of that number, where it is an edge. It takes no memory.
+    pub fn edge(&self, node: NodeId) -> Option<&Edge>
+        ensures is { IfSome result (λ edge. InEachRun self.now (IsEdge node edge.now)) }
+        ensures none { result ≡ None → InEachRun self.now (IsNoEdge node) }
+    {
+        self.network.edge(node)
+    }
+
+    /// The label part of the node of that number, where it is a core node. It takes no memory.
+    pub fn core_node(&self, node: NodeId) -> Option<&LdpNode>
+        ensures is { IfSome result (λ labels. InEachRun self.now (IsCore node labels.now)) }
+        ensures none { result ≡ None → InEachRun self.now (IsNoCore node) }
+    {
+        self.network.core_node(node)
+    }
+
+    /// The buffers of the copies on links. It takes no memory.
+    pub fn pool(&self) -> &Pool
+        ensures now { result.now ≡ self.now.network.datagrams.copies.buffers }
+        ensures is { InEachRun self.now (λ script world. IsPool world self.now) }
+    {
+        self.network.pool()
     }
 
     /// One event: it is refused, with the line that says so, or its acts are done, with their lines.

@@ -1,3 +1,5 @@
 pub mod NodeView
 pub mod Answers
 pub mod Network
+pub mod Edges
+pub mod Faults

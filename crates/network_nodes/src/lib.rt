@@ -8,4 +8,5 @@ mod node;
 mod queries;
 mod sessions;
 
+pub use edge_core::{Edge, EdgeFault, Fate};
 pub use node::NetworkNode;

@@ -1,7 +1,7 @@
 use Rattle.std.proofs.Common.{◌∙◌, ap, length}
 use Rattle.scenario_defs.specs.declared.scenario.Scenario.{Scenario}
 use Rattle.network_defs.specs.Acts as acts
-use Rattle.control_plane.specs.Passing.{all_late}
+use Rattle.network_acts.specs.Words.{all_late}
 use Rattle.network_events.specs.Meeting.{IsResting}
 use Rattle.network_events.proofs.CostLemmas.{costs_change, priced_scenario, some_repriced}
 use Rattle.network_events.proofs.RowLemmas.{passes_does}

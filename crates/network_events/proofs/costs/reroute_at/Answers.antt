@@ -1,8 +1,8 @@
 use Rattle.std.proofs.Common.{sym, subst, [], ◌∷◌, Result}
 use Rattle.network_defs.specs.Acts as acts
 use Rattle.network_defs.specs.Events.{row}
-use Rattle.control_plane.specs.Acted.{IsWithin, with_current}
 use Rattle.network_acts.specs.Instant.{OfPlane}
+use Rattle.network_acts.specs.Words.{IsWithin, with_current}
 use Rattle.network_events.specs.Doing.{Does}
 use Rattle.network_events.specs.declared.halt.Halt.{Halt}
 use Rattle.network_events.proofs.DoLemmas.{act_does}

@@ -1,8 +1,8 @@
 use Rattle.std.proofs.Common.{refl, Ok}
 use Rattle.scenario_defs.specs.declared.event.Event.TheVariants as events
 use Rattle.network_defs.specs.Acts as acts
-use Rattle.control_plane.specs.Acted.{same_moment}
 use Rattle.network_acts.specs.Instant.{Any}
+use Rattle.network_acts.specs.Words.{same_moment}
 use Rattle.network_events.specs.Meeting.{IsReady}
 use Rattle.network_events.proofs.MeetLemmas.{meets_done}
 use Rattle.network_events.proofs.NodeLemmas.{some_as}

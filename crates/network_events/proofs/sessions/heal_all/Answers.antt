@@ -2,7 +2,7 @@ use Rattle.std.proofs.Common.{refl, subst, arith, List, [], take, Ok}
 use Rattle.std.proofs.lemmas.List.{take_all}
 use Rattle.mvpn_model.specs.declared.session.Session.{Session}
 use Rattle.network_defs.specs.Events.{each, healed}
-use Rattle.control_plane.specs.Acted.{same_moment}
+use Rattle.network_acts.specs.Words.{same_moment}
 use Rattle.network_events.specs.Doing.{Does}
 use Rattle.network_events.specs.Meeting.{IsResting}
 use Rattle.network_events.proofs.FoundLemmas.{session_at}

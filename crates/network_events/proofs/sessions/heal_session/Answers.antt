@@ -1,7 +1,6 @@
 use Rattle.std.proofs.Common.{◌∙◌, sym, false}
-use Rattle.control_plane.specs.Acted.{IsWithin}
-use Rattle.control_plane.specs.Sessions.{IsLost}
 use Rattle.network_acts.specs.Instant.{Instant, IsWorld, OfPlane}
+use Rattle.network_acts.specs.Words.{IsLost, IsWithin}
 use Rattle.network_events.specs.Meeting.{IsResting}
 use Rattle.network_events.proofs.FoundLemmas.{first_in, healed_joined, parted_in, second_in}
 use Rattle.network_events.proofs.HealLemmas.{IsParted, first_lost, first_stops, heals, second_lost, second_stops, some_raisable, some_second}

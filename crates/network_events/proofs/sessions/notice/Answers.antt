@@ -4,9 +4,8 @@ use Rattle.scenario_defs.specs.declared.report.Refusal.{Refusal}
 use Rattle.network_defs.specs.Acts as acts
 use Rattle.network_defs.specs.Counts.{direction}
 use Rattle.network_defs.specs.Events.{row}
-use Rattle.control_plane.specs.Acted.{IsWithin, same_moment}
-use Rattle.control_plane.specs.Sessions.{IsLost}
 use Rattle.network_acts.specs.Instant.{Instant, IsWorld, OfPlane}
+use Rattle.network_acts.specs.Words.{IsLost, IsWithin, same_moment}
 use Rattle.network_events.specs.Doing.{answer_at}
 use Rattle.network_events.specs.Meeting.{IsReady, Meets, met}
 use Rattle.network_events.specs.declared.halt.Halt.{Halt}

@@ -1,9 +1,8 @@
 use Rattle.std.proofs.Common.{sym, ap, subst, cond, [], ◌∷◌, Bool, Result}
 use Rattle.network_defs.specs.Acts as acts
 use Rattle.network_defs.specs.Events.{row}
-use Rattle.control_plane.specs.Acted.{same_moment}
-use Rattle.control_plane.specs.Sessions.{IsLost}
 use Rattle.network_acts.specs.Instant.{OfPlane}
+use Rattle.network_acts.specs.Words.{IsLost, same_moment}
 use Rattle.network_events.specs.Doing.{Does, answer_at}
 use Rattle.network_events.specs.declared.halt.Halt.{Halt}
 use Rattle.network_events.proofs.DoLemmas.{act_does}

@@ -5,8 +5,8 @@ use Rattle.scenario_defs.specs.declared.report.Refusal.TheVariants as refusals
 use Rattle.mvpn_model.specs.Sessions.{sessions}
 use Rattle.network_defs.specs.Events.{raises, row}
 use Rattle.network_defs.specs.World.{scenario_of}
-use Rattle.control_plane.specs.Acted.{IsWithin}
 use Rattle.network_acts.specs.Instant.{Instant, IsWorld, OfPlane}
+use Rattle.network_acts.specs.Words.{IsWithin}
 use Rattle.network_events.specs.Meeting.{IsReady, Meets}
 use Rattle.network_events.specs.Parts.{IsRaisable}
 use Rattle.network_events.specs.declared.halt.Halt.{Halt}

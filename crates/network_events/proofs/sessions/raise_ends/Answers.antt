@@ -1,9 +1,8 @@
 use Rattle.std.proofs.Common.{◌∙◌, sym, subst, [], ◌∷◌, Result}
 use Rattle.network_defs.specs.Acts as acts
 use Rattle.network_defs.specs.Events.{raise_acts, row}
-use Rattle.control_plane.specs.Acted.{same_moment}
-use Rattle.control_plane.specs.Sessions.{IsDown, with_rising}
 use Rattle.network_acts.specs.Instant.{OfPlane}
+use Rattle.network_acts.specs.Words.{IsDown, same_moment, with_rising}
 use Rattle.network_events.specs.Doing.{Does}
 use Rattle.network_events.specs.Parts.{IsRaisable}
 use Rattle.network_events.specs.declared.halt.Halt.{Halt}

@@ -1,6 +1,6 @@
 use Rattle.std.proofs.Common.{take, Ok}
 use Rattle.network_defs.specs.Events.{each, turn}
-use Rattle.control_plane.specs.Acted.{same_moment}
+use Rattle.network_acts.specs.Words.{same_moment}
 use Rattle.network_events.specs.Doing.{Does}
 use Rattle.network_events.specs.Meeting.{IsResting}
 use Rattle.network_events.proofs.settling.run_round.Given as goal

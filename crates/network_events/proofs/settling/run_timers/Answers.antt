@@ -3,7 +3,7 @@ use Rattle.scenario_defs.specs.declared.scenario.Scenario.{Scenario}
 use Rattle.network_defs.specs.Acts as acts
 use Rattle.network_defs.specs.Counts.{node_ids}
 use Rattle.network_defs.specs.Events.{row}
-use Rattle.control_plane.specs.Acted.{same_moment}
+use Rattle.network_acts.specs.Words.{same_moment}
 use Rattle.network_events.specs.Doing.{Does}
 use Rattle.network_events.specs.Meeting.{IsResting}
 use Rattle.network_events.proofs.KeptLemmas.{row_even, same_scenario, still_some}

@@ -2,7 +2,7 @@ use Rattle.std.proofs.Common.{map, Ok}
 use Rattle.network_defs.specs.Acts as acts
 use Rattle.network_defs.specs.Counts.{node_ids}
 use Rattle.network_defs.specs.Events.{row}
-use Rattle.control_plane.specs.Acted.{same_moment}
+use Rattle.network_acts.specs.Words.{same_moment}
 use Rattle.network_events.specs.Doing.{Does}
 use Rattle.network_events.specs.Meeting.{IsResting}
 use Rattle.network_events.proofs.settling.run_timers.Given as goal

@@ -4,7 +4,7 @@ use Rattle.pim_joinprune.specs.declared.message.JoinPrune.{JoinPrune}
 use Rattle.edge_defs.specs.Steps.{Pim}
 use Rattle.network_defs.specs.Refusals.{control_of}
 use Rattle.network_laws.specs.Honest.{SoundMessage}
-use Rattle.edge_core.specs.Pim.{is_ours}
+use Rattle.network_nodes.specs.Edges.{is_ours}
 use Rattle.network_nodes.specs.NodeView.{data_in}
 use Rattle.control_plane.specs.Acted.{IsCurrent, IsSome, IsSomeMidway}
 use Rattle.control_plane.specs.Customers.{CustomerActs, IsMessageTo, SettlesCustomer, is_message_full, lacks_entry_room}

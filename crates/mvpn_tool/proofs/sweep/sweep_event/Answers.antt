@@ -1,0 +1,15 @@
+use Rattle.std.proofs.Common.{◌∙◌, ap}
+use Rattle.std.specs.Prelude.{fold}
+use Rattle.mvpn_tool.specs.Sweep.{with_line}
+use Rattle.mvpn_tool.proofs.SweepLemmas.{event_counted, event_lacks_label}
+use Rattle.mvpn_tool.proofs.sweep.sweep_event.Goals as goal
+
+pub returns-in-Ok-clause-ends : goal.returns-in-Ok-clause-ends
+returns-in-Ok-clause-ends c =
+    event_counted c.args.timed.now c.args.world.now c.step.new.self c.args.counts.now c.add_all.new.self _ _ c.new-lines.ensures c.in-Ok.ensures
+    (c.add_all.ensures ∙ ap (fold with_line c.args.counts.now) c.as_slice.ensures)
+
+pub returns-clause-ends : goal.returns-clause-ends
+returns-clause-ends c =
+    event_lacks_label c.args.timed.now c.args.world.now c.step.new.self c.args.counts.now c.args.counts.now _ _ c.new-lines.ensures c.in-Err-NoLabel.field-0-0
+    (rw c.in-Err-NoLabel.field-0-is at c.in-Err-NoLabel.ensures)

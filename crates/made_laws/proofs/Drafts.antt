@@ -1,5 +1,5 @@
 -- What is declared behind the first lines of each block of the text.
-use Rattle.std.proofs.Common.{◌≡◌, ◌≢◌, ◌⊎◌, ℕ, zero, suc, ◌+◌, ◌*◌, ◌-◌, ◌<◌, ◌≤◌, Bool, true, false, List, [], ◌∷◌, ◌++◌, length, Option, Some, None, refl, sym, ap, subst, ◌∙◌, arith, inl, inr}
+use Rattle.std.proofs.Common.{◌≡◌, ◌⊎◌, ℕ, zero, suc, ◌<◌, ◌≤◌, Bool, false, List, [], ◌∷◌, ◌++◌, Some, None, refl, subst, arith, inl, inr}
 use Rattle.std.specs.Prelude.{codes, decimal, nat_eq}
 use Rattle.std.specs.Map.{lookup}
 use Rattle.std.specs.Cmp.Lexicographic.{pointwise}
@@ -9,7 +9,6 @@ use Rattle.scenario_defs.specs.declared.scenario.Node.{Node}
 use Rattle.scenario_defs.specs.declared.scenario.Vrf.{Vrf}
 use Rattle.scenario_defs.specs.declared.scenario.Site.{Site}
 use Rattle.scenario_defs.specs.declared.scenario.Iface.{Iface}
-use Rattle.scenario_defs.specs.declared.scenario.Scenario.{Scenario}
 use Rattle.scenario_defs.specs.declared.scenario.Thing.{Thing}
 use Rattle.scenario_defs.specs.declared.scenario.Thing.TheVariants as things
 use Rattle.scenario_draft.specs.Drafted.{Drafted}
@@ -174,7 +173,8 @@ module _ (edges cores vpns edge vpn : ℕ) (all : vpns ≡ 8) (h : edge < 32) (k
   three_stand = (
     lookup_more (pointwise nat_eq (name_at (codes "V") (suc edge) (suc vpn))) (earlier ++ vrf_entry (suc edge) (suc vpn) ∷ [] ++ site_entry (suc edge) (suc vpn) ∷ []) (iface_entry (suc edge) (suc vpn) ∷ []) (things.Vrf (vrf_id (suc edge) (suc vpn))) vrf_stands,
     lookup_more (pointwise nat_eq (name_at (codes "S") (suc edge) (suc vpn))) (earlier ++ vrf_entry (suc edge) (suc vpn) ∷ [] ++ site_entry (suc edge) (suc vpn) ∷ []) (iface_entry (suc edge) (suc vpn) ∷ []) (things.Site (site_id (suc edge) (suc vpn))) site_stands,
-    lookup_last (pointwise nat_eq (name_at (codes "I") (suc edge) (suc vpn))) (earlier ++ vrf_entry (suc edge) (suc vpn) ∷ [] ++ site_entry (suc edge) (suc vpn) ∷ []) (name_at (codes "I") (suc edge) (suc vpn)) (things.Iface (iface_id (suc edge) (suc vpn))) iface_free (same_name (name_at (codes "I") (suc edge) (suc vpn))))
+    lookup_last (pointwise nat_eq (name_at (codes "I") (suc edge) (suc vpn))) (earlier ++ vrf_entry (suc edge) (suc vpn) ∷ [] ++ site_entry (suc edge) (suc vpn) ∷ []) (name_at (codes "I") (suc edge) (suc vpn)) (things.Iface (iface_id (suc edge) (suc vpn))) iface_free (same_name (name_at (codes "I") (suc edge) (suc vpn))),
+  )
 
 -- ---- what stands goes on standing
 

@@ -1,5 +1,5 @@
 -- What a line of an event says where its words are known: one lemma for each kind of line.
-use Rattle.std.proofs.Common.{◌≡◌, ℕ, ◌+◌, ◌<◌, ◌≤◌, ◌&&◌, Bool, true, false, cond, nat_lt, nat_le, List, [], ◌∷◌, length, Option, Some, None, refl, sym, ap, ◌∙◌, arith}
+use Rattle.std.proofs.Common.{◌≡◌, ℕ, true, false, nat_le, List, [], ◌∷◌, length, Option, Some, None, refl, ap, ◌∙◌}
 use Rattle.std.specs.Prelude.{codes, nat_eq, Ok}
 use Rattle.std.specs.List.{slice_get}
 use Rattle.std.specs.Cmp.Lexicographic.{pointwise}
@@ -12,13 +12,11 @@ use Rattle.mv_base.specs.declared.ids.IfaceId.{IfaceId}
 use Rattle.mv_base.specs.AddrText.{addr_of}
 use Rattle.mv_base.specs.Number.{is_number}
 use Rattle.scenario_defs.specs.declared.scenario.Iface.{Iface}
-use Rattle.scenario_defs.specs.declared.event.Event.{Event}
 use Rattle.scenario_defs.specs.declared.event.Event.TheVariants as events
 use Rattle.scenario_defs.specs.declared.event.JoinEntry.TheVariants.{Source}
 use Rattle.line_words.specs.declared.words.Row.{Row}
 use Rattle.line_words.specs.Words.{Placed}
-use Rattle.line_words.specs.Forms.{is_unicast, is_group, addr_at, source_at, group_at, number_to, payload_at, same_family}
-use Rattle.scenario_draft.specs.declared.line.Line.{Line}
+use Rattle.line_words.specs.Forms.{is_unicast, is_group, source_at, group_at, number_to, payload_at, same_family}
 use Rattle.scenario_draft.specs.declared.line.Line.TheVariants as says
 use Rattle.scenario_draft.specs.Drafted.{Drafted}
 use Rattle.scenario_draft.specs.Naming.{vrf_at, site_at, iface_at, is_of_iface}

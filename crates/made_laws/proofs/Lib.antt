@@ -6,3 +6,8 @@ pub mod NumeralLemmas
 pub mod LineLemmas
 pub mod EventLines
 pub mod Drafts
+pub mod NodeBlocks
+pub mod VpnBlocks
+pub mod Connected
+pub mod EventBlocks
+pub mod Whole

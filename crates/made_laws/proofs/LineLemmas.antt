@@ -1,7 +1,7 @@
 -- What a line says where its words are known: one lemma for each kind of line.
-use Rattle.std.proofs.Common.{◌≡◌, ℕ, ◌+◌, ◌<◌, ◌≤◌, ◌==◌, ◌&&◌, Bool, true, false, cond, nat_lt, nat_le, List, [], ◌∷◌, ◌++◌, length, Option, Some, None, refl, sym, ap, ◌∙◌, arith}
-use Rattle.std.specs.Prelude.{codes, decimal, nat_eq, count_by, Ok, not}
-use Rattle.std.specs.List.{list_all, list_any, slice_get}
+use Rattle.std.proofs.Common.{◌≡◌, ℕ, ◌==◌, Bool, true, false, cond, nat_le, List, [], ◌∷◌, length, Some, refl, sym, ap, ◌∙◌}
+use Rattle.std.specs.Prelude.{codes, nat_eq, Ok}
+use Rattle.std.specs.List.{list_any, slice_get}
 use Rattle.std.specs.Map.{lookup}
 use Rattle.std.specs.Cmp.Lexicographic.{pointwise}
 use Rattle.mv_base.specs.declared.addr.Addr.{Addr}
@@ -15,8 +15,7 @@ use Rattle.mv_base.specs.declared.rd.Rd.{Rd}
 use Rattle.mv_base.specs.declared.rd.Rule.{Rule}
 use Rattle.mv_base.specs.declared.rd.Rule.TheVariants.{Highest}
 use Rattle.mv_base.specs.AddrText.{addr_of}
-use Rattle.mv_base.specs.Dotted.{dotted_of}
-use Rattle.mv_base.specs.Number.{number_of, is_number}
+use Rattle.mv_base.specs.Number.{is_number}
 use Rattle.core_walks.specs.Reached.{is_connected}
 use Rattle.route_targets.specs.declared.communities.Target.{Target}
 use Rattle.route_targets.specs.Targets.{same_target}
@@ -24,32 +23,22 @@ use Rattle.scenario_defs.specs.declared.scenario.Node.{Node}
 use Rattle.scenario_defs.specs.declared.scenario.Vrf.{Vrf}
 use Rattle.scenario_defs.specs.declared.scenario.Site.{Site}
 use Rattle.scenario_defs.specs.declared.scenario.Iface.{Iface}
-use Rattle.scenario_defs.specs.declared.scenario.Thing.{Thing}
 use Rattle.scenario_defs.specs.declared.scenario.Thing.TheVariants as things
-use Rattle.scenario_defs.specs.declared.event.Event.{Event}
-use Rattle.scenario_defs.specs.declared.event.Event.TheVariants as events
-use Rattle.scenario_defs.specs.declared.event.JoinEntry.TheVariants.{Source}
 use Rattle.scenario_defs.specs.Names.{is_name}
 use Rattle.scenario_defs.specs.Prefixes.{same_prefix}
 use Rattle.line_words.specs.declared.words.Row.{Row}
 use Rattle.line_words.specs.Words.{Placed}
-use Rattle.line_words.specs.Forms.{ipv4_of, ipv4_at, is_unicast, is_group, addr_at, source_at, group_at, number_to, vrf_number_of, rd_of, targets_at, target_of, list_of, prefix_of, prefixes_at, rule_at, payload_at, same_family}
+use Rattle.line_words.specs.Forms.{ipv4_of, ipv4_at, is_unicast, addr_at, number_to, vrf_number_of, rd_of, targets_at, target_of, list_of, prefix_of, prefixes_at, rule_at}
 use Rattle.scenario_draft.specs.declared.line.Line.{Line}
 use Rattle.scenario_draft.specs.declared.line.Line.TheVariants as says
 use Rattle.scenario_draft.specs.Drafted.{Drafted}
-use Rattle.scenario_draft.specs.Adding.{added, IsFree}
-use Rattle.scenario_draft.specs.Naming.{node_named, edge_named, vrf_named, site_named, iface_named, new_name, node_at, edge_at, vrf_at, site_at, iface_at, is_of_iface, is_at, node_addr_at, has_number, vrf_number_at, has_rd, rd_at, joins, other_end_at}
-use Rattle.scenario_lines.specs.declared.vrf_lines.VrfHead.{VrfHead}
-use Rattle.scenario_lines.specs.declared.vrf_lines.VrfTail.{VrfTail}
+use Rattle.scenario_draft.specs.Adding.{IsFree}
+use Rattle.scenario_draft.specs.Naming.{node_named, edge_named, vrf_named, site_named, iface_named, new_name, node_at, edge_at, vrf_at, site_at, iface_at, is_at, node_addr_at, has_number, vrf_number_at, has_rd, rd_at, joins, other_end_at}
 use Rattle.scenario_lines.specs.NodeGrammar.{node_words, node_counted, is_full, node_line, link_between, link_words, link_counted, link_line}
 use Rattle.scenario_lines.specs.VrfGrammar.{vrf_head, vrf_tail, overlaps, is_vpn_at, vrf_rules, vrf_words, vrf_counted, vrf_line}
 use Rattle.scenario_lines.specs.SiteGrammar.{site_words, site_counted, site_line, is_mixed, is_taken, iface_rules, iface_parts, iface_words, iface_counted, iface_line}
 use Rattle.scenario_lines.specs.ScenarioGrammar.{scenario_word, scenario_words, scenario_line, events_line}
-use Rattle.event_lines.specs.EventGrammar.{event_line, event_word, event_words, bare_line}
-use Rattle.event_lines.specs.ClockGrammar.{tick_line, tick_words}
-use Rattle.event_lines.specs.JoinGrammar.{entry_line, iface_entry, three_words, entry_at, source_entry}
-use Rattle.event_lines.specs.SelectGrammar.{select_line, select_words, pattern_at, any_source_at, any_group_at}
-use Rattle.event_lines.specs.PayloadGrammar.{send_line, send_words, send_head}
+use Rattle.event_lines.specs.EventGrammar.{event_line}
 use Rattle.scenario_text.specs.Grammar.{words_line}
 
 -- the word at that column

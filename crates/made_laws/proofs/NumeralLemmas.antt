@@ -1,23 +1,20 @@
 -- The numbers, addresses and names that stand in the lines.
-use Rattle.std.proofs.Common.{◌≡◌, ◌≢◌, ◌⊎◌, inl, inr, ℕ, zero, suc, ◌+◌, ◌^◌, ◌<◌, ◌≤◌, ◌==◌, ◌&&◌, ◌||◌, Bool, true, false, nat_lt, nat_le, eqb, List, [], ◌∷◌, ◌++◌, length, take, drop, Option, Some, None, refl, sym, ap, ap₂, subst, ◌∙◌, arith, append_assoc, length-append, take_at, drop_at, get_or, eq-eqb}
+use Rattle.std.proofs.Common.{◌≡◌, ◌≢◌, ◌⊎◌, inl, inr, ℕ, zero, suc, ◌+◌, ◌<◌, ◌≤◌, ◌==◌, ◌&&◌, ◌||◌, Bool, true, false, nat_lt, nat_le, List, [], ◌∷◌, ◌++◌, length, take, drop, Option, Some, None, refl, sym, ap, ap₂, ◌∙◌, arith, append_assoc, length-append, take_at, drop_at, get_or, eq-eqb}
 use Rattle.std.specs.Prelude.{codes, decimal, nat_eq, position}
 use Rattle.std.specs.Fmt.{digits}
-use Rattle.std.specs.List.{All, list_all, list_any, slice_split, position_or_len}
+use Rattle.std.specs.List.{All, list_all, position_or_len}
 use Rattle.std.specs.Cmp.Lexicographic.{pointwise, same_text, nat_list_eq_equiv}
 use Rattle.std.specs.Net.Text.{dotted_text}
-use Rattle.std.proofs.lemmas.Bool.{false_from_ne_true, and_parts, and_from, eqb-true, leb-true, agree_below_at, ne_eqb, le-leb, lt-ltb}
+use Rattle.std.proofs.lemmas.Bool.{false_from_ne_true, and_from, leb-true, agree_below_at, le-leb, lt-ltb}
 use Rattle.std.proofs.lemmas.Bool.Decides.{nat_tests}
 use Rattle.std.proofs.lemmas.List.{get_or_append_left}
 use Rattle.std.proofs.lemmas.List.Elements.{All-append}
 use Rattle.std.proofs.lemmas.Fmt.{decimal_is_IsNumeral, decimal_digit}
-use Rattle.std.proofs.lemmas.List.Folds.{list_all-append}
 use Rattle.std.proofs.lemmas.List.Sums.{position_or_len_is}
 use Rattle.std.proofs.lemmas.List.Splits.{slice_split_none}
 use Rattle.std.proofs.lemmas.Option.{same_Some, none-some}
-use Rattle.mv_base.specs.declared.addr.Addr.{Addr}
 use Rattle.mv_base.specs.declared.addr.Addr.TheVariants.{V4, V6}
-use Rattle.mv_base.specs.declared.prefix.Prefix.{Prefix}
-use Rattle.mv_base.specs.Number.{number_of, cut_of, only_if, is_number, ◌>>?◌}
+use Rattle.mv_base.specs.Number.{number_of, cut_of, is_number, ◌>>?◌}
 use Rattle.mv_base.specs.Dotted.{dotted_of}
 use Rattle.mv_base.specs.AddrText.{addr_of, groups_of}
 use Rattle.mv_base.proofs.NumberLemmas.{number_only}
@@ -26,7 +23,7 @@ use Rattle.mv_base.proofs.DottedLemmas.{dotted_only}
 use Rattle.scenario_defs.specs.Names.{is_letter, is_name, is_name_octet}
 use Rattle.scenario_defs.specs.Prefixes.{same_prefix}
 use Rattle.route_targets.specs.Targets.{same_target}
-use Rattle.line_words.specs.Forms.{vrf_number_of, rd_of, numbered_of, addressed_of, target_of, list_of, each_of, prefix_of, prefix_if, is_prefix, are_distinct}
+use Rattle.line_words.specs.Forms.{vrf_number_of, rd_of, numbered_of, addressed_of, target_of, list_of, prefix_of, is_prefix}
 use Rattle.made_laws.specs.MadeScript.{name_at, ipv4}
 use Rattle.made_laws.proofs.RowLemmas.{is_word_octet, IsWord, all_append, none_of}
 
@@ -117,7 +114,7 @@ paired_name letter edge vpn l h k =
 pub same_name : (name : List ℕ) → pointwise nat_eq name name ≡ true
 same_name name = nat_list_eq_equiv.refl name
 
-other_name : (a b : List ℕ) → a ≢ b → pointwise nat_eq a b ≡ false
+pub other_name : (a b : List ℕ) → a ≢ b → pointwise nat_eq a b ≡ false
 other_name a b differ = false_from_ne_true (pointwise nat_eq a b) (λ e. differ (same_text a b (sym e)))
 
 -- Names of other numbers differ.

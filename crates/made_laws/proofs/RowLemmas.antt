@@ -1,7 +1,7 @@
 -- Lines of words: how a text of them is cut into lines, and what each line is to the reader.
-use Rattle.std.proofs.Common.{◌≡◌, ◌⊎◌, ℕ, zero, suc, ◌+◌, ◌-◌, ◌*◌, ◌<◌, ◌≤◌, ◌==◌, ◌&&◌, ◌||◌, Bool, true, false, cond, nat_lt, nat_le, List, [], ◌∷◌, ◌++◌, length, take, get_or, Some, None, refl, sym, ap, subst, ◌∙◌, arith, inl, inr, append_assoc, append-nil, length-append}
-use Rattle.std.specs.Prelude.{Ok, Result, position}
-use Rattle.std.specs.List.{All, list_all, slice_split, position_or_len, prefix_len}
+use Rattle.std.proofs.Common.{◌≡◌, ◌⊎◌, ℕ, ◌+◌, ◌-◌, ◌*◌, ◌<◌, ◌≤◌, ◌==◌, ◌&&◌, Bool, true, false, nat_lt, nat_le, List, [], ◌∷◌, ◌++◌, length, get_or, None, refl, sym, ap, subst, ◌∙◌, arith, inl, inr, append_assoc, append-nil, length-append}
+use Rattle.std.specs.Prelude.{Ok, position}
+use Rattle.std.specs.List.{All, list_all, slice_split, position_or_len}
 use Rattle.std.specs.Str.Lines.{lines, lines_of_parts, strip_carriage_return}
 use Rattle.std.proofs.lemmas.Bool.{and_parts, and_from, ne_eqb, le-ltb}
 use Rattle.std.proofs.lemmas.Bool.Decides.{nat_tests}
@@ -11,14 +11,10 @@ use Rattle.std.proofs.lemmas.List.Elements.{All-nil, All-cons}
 use Rattle.std.proofs.lemmas.List.Folds.{list_all-append}
 use Rattle.std.proofs.lemmas.List.Sums.{position_or_len_is}
 use Rattle.std.proofs.lemmas.List.Splits.{slice_split_at, slice_split_none, length-slice_split}
-use Rattle.line_words.specs.declared.fault.TextFault.{TextFault}
-use Rattle.line_words.specs.declared.words.Row.{Row}
 use Rattle.line_words.specs.Words.{Placed, placed, words_of}
 use Rattle.scenario_draft.specs.declared.line.Line.{Line}
 use Rattle.scenario_draft.specs.Drafted.{Drafted}
 use Rattle.scenario_draft.specs.Adding.{added}
-use Rattle.scenario_lines.specs.ScenarioGrammar.{scenario_line}
-use Rattle.event_lines.specs.EventGrammar.{event_line}
 use Rattle.scenario_text.specs.Grammar.{is_outside, is_blank, row_of, words_line, line_of}
 use Rattle.scenario_text.specs.Faults.{Says}
 
@@ -54,6 +50,23 @@ row_text (word ∷ next ∷ more) = word ++ 32 ∷ row_text (next ∷ more)
 abbrev pub with_columns : ℕ → List (List ℕ) → List Placed
 with_columns column [] = []
 with_columns column (word ∷ more) = (record { column = column; text = word }) ∷ with_columns (column + (length word + 1)) more
+
+-- texts one behind another, put together from the front, and from the end
+abbrev pub glued : List ℕ → List (List ℕ) → List ℕ
+glued first [] = first
+glued first (next ∷ more) = glued (first ++ next) more
+
+abbrev pub strung : List ℕ → List (List ℕ) → List ℕ
+strung first [] = first
+strung first (next ∷ more) = first ++ strung next more
+
+strung_first : (first next : List ℕ) (more : List (List ℕ)) → strung (first ++ next) more ≡ first ++ strung next more
+strung_first first next [] = refl
+strung_first first next (third ∷ more) = append_assoc first next (strung third more)
+
+pub glued_strung : (first : List ℕ) (more : List (List ℕ)) → glued first more ≡ strung first more
+glued_strung first [] = refl
+glued_strung first (next ∷ more) = glued_strung (first ++ next) more ∙ strung_first first next more
 
 -- the line feed stands behind the words
 row_text_is : (words : List (List ℕ)) (rest : List ℕ) → row_text words ++ rest ≡ joined words ++ 10 ∷ rest

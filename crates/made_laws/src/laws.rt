@@ -8,7 +8,3 @@ ghost use Rattle.made_laws.specs.MadeScript.{made_script};
 pub fn made_texts_are_read()
     ensures { (number : ℕ) → script_of (made number) ≡ Ok (made_script number) }
 {}
-
-pub fn trial()
-    ensures { (number : ℕ) → number ≡ number }
-{}

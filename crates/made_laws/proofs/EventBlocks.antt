@@ -49,7 +49,7 @@ Tells base text told = (done : List Event) → length done + length told ≤ 200
 takes : (base : Drafted) (done : List Event) → length done + 1 ≤ 200000 → TakesEvents (telling base done)
 takes base done h = record { begun = refl; few = lt-leb 200000 (length (from_line 866 done)) (omega (arith, h, length_from_line 866 done)) }
 
-pub tells_none : (base : Drafted) → Tells base [] []
+tells_none : (base : Drafted) → Tells base [] []
 tells_none base done h =
     subst (λ (l : List Event). Reads (telling base done) (866 + length done) [] (telling base l) (866 + length l)) (sym (append-nil done)) (reads_none (telling base done) (866 + length done))
 

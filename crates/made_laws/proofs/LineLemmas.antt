@@ -51,7 +51,7 @@ on_false b x y z e h = rw e h
 on_true : {A : Type 0} (b : Bool) (x y z : A) → b ≡ true → x ≡ z → cond b x y ≡ z
 on_true b x y z e h = rw e h
 
-pub in_scenario : (draft : Drafted) (row : Row) (first : Placed) (rest : List Placed) (said : Line) → draft.begun ≡ false → scenario_line draft row first rest ≡ Ok said → words_line draft row (first ∷ rest) ≡ Ok said
+in_scenario : (draft : Drafted) (row : Row) (first : Placed) (rest : List Placed) (said : Line) → draft.begun ≡ false → scenario_line draft row first rest ≡ Ok said → words_line draft row (first ∷ rest) ≡ Ok said
 unfolding words_line
 in_scenario draft row first rest said b h = on_false draft.begun _ _ (Ok said) b h
 
@@ -61,7 +61,7 @@ in_events draft row first rest said b h = on_true draft.begun _ _ (Ok said) b h
 
 -- ---- names that are new, and those of things
 
-pub new_word : (draft : Drafted) (row : Row) (word : Placed) → is_name word.text ≡ true → IsFree draft word.text → new_name draft row word ≡ Ok word.text
+new_word : (draft : Drafted) (row : Row) (word : Placed) → is_name word.text ≡ true → IsFree draft word.text → new_name draft row word ≡ Ok word.text
 unfolding new_name
 new_word draft row word h k = rw (h, k) refl
 

@@ -63,7 +63,7 @@ any_some p old of (suc count) k within h = any_last p (behind old of count) (of 
         let same : k ≡ count = omega arith in
         or_right (list_any p (behind old of count)) _ (or_left _ _ (subst (λ (n : ℕ). p (of (suc n)) ≡ true) same h))
 
-pub any_rows : {A : Type 0} (p : A → Bool) (width : ℕ) (of : ℕ → ℕ → A) (row : ℕ) → ((r k : ℕ) → r < row → k < width → p (of (suc r) (suc k)) ≡ false) → list_any p (rows width of row) ≡ false
+any_rows : {A : Type 0} (p : A → Bool) (width : ℕ) (of : ℕ → ℕ → A) (row : ℕ) → ((r k : ℕ) → r < row → k < width → p (of (suc r) (suc k)) ≡ false) → list_any p (rows width of row) ≡ false
 any_rows p width of zero none = refl
 any_rows p width of (suc row) none =
     any_none p (rows width of row) (of (suc row)) width (any_rows p width of row (λ r k a b. none r k (omega arith) b)) (λ k b. none row k (omega arith) b)

@@ -41,7 +41,7 @@ known_word word a b c = record { some = a; few = b; plain = c }
 edge_text : (edge : ℕ) → made.edge_line edge ≡ row_text (codes "edge" ∷ (codes "E" ++ decimal edge) ∷ (codes "192.0.2." ++ decimal edge) ∷ [])
 edge_text edge = simp append_assoc
 
-pub other_octets : (a b c d e : ℕ) → d ≢ e → pointwise nat_eq (a ∷ b ∷ c ∷ d ∷ []) (a ∷ b ∷ c ∷ e ∷ []) ≡ false
+other_octets : (a b c d e : ℕ) → d ≢ e → pointwise nat_eq (a ∷ b ∷ c ∷ d ∷ []) (a ∷ b ∷ c ∷ e ∷ []) ≡ false
 other_octets a b c d e differ = other_name (a ∷ b ∷ c ∷ d ∷ []) (a ∷ b ∷ c ∷ e ∷ []) (λ same. differ (ap (λ (l : List ℕ). get_or l 3 0) same))
 
 new_edge : (k : ℕ) → k < 32 → IsNewNode (behind_edges k) (edge_id (suc k)) (edge_node (suc k))
@@ -103,7 +103,7 @@ cores_read edges cores number all few =
 
 -- ---- nodes that are named
 
-pub core_there : (edges cores k : ℕ) → edges ≡ 32 → k < cores → slice_get (made_nodes edges cores) (suc k + 31) ≡ Some (core_node (suc k))
+core_there : (edges cores k : ℕ) → edges ≡ 32 → k < cores → slice_get (made_nodes edges cores) (suc k + 31) ≡ Some (core_node (suc k))
 core_there edges cores k all h = get_behind (behind [] edge_node edges) core_node cores k (suc k + 31) h (omega (arith, all, length_behind [] edge_node edges))
 
 pub edge_there : (edges cores k : ℕ) → k < edges → slice_get (made_nodes edges cores) (suc k - 1) ≡ Some (edge_node (suc k))

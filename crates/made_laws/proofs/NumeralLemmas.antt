@@ -44,10 +44,10 @@ few_digits n h = leb-true (length (decimal n)) 2 (agree_below_at (λ n. nat_le (
 some_digits : (n : ℕ) → n < 33 → 0 < length (decimal n)
 some_digits n h = (decimal_is_IsNumeral n (omega arith)).0.0
 
-pub number_read : (n : ℕ) → n < 33 → number_of (decimal n) ≡ Some n
+number_read : (n : ℕ) → n < 33 → number_of (decimal n) ≡ Some n
 number_read n h = number_only (decimal n) n (omega arith) refl
 
-pub same_digits : (a b : ℕ) → a < 33 → b < 33 → decimal a ≡ decimal b → a ≡ b
+same_digits : (a b : ℕ) → a < 33 → b < 33 → decimal a ≡ decimal b → a ≡ b
 same_digits a b h k e = same_Some a b (sym (number_read a h) ∙ ap number_of e ∙ number_read b k)
 
 -- ---- words

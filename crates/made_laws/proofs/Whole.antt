@@ -33,7 +33,7 @@ from_one P h (suc e) (suc v) a b c d = h e v (omega arith) (omega arith)
 
 -- ---- how many events there are
 
-pub few_one : {A : Type 0} (of : ℕ → List A) (count : ℕ) → ((k : ℕ) → length (of k) ≤ 1) → length (each of count) ≤ count
+few_one : {A : Type 0} (of : ℕ → List A) (count : ℕ) → ((k : ℕ) → length (of k) ≤ 1) → length (each of count) ≤ count
 few_one of zero h = omega arith
 few_one of (suc count) h = omega (arith, few_one of count h, h (suc count), length-append (each of count) (of (suc count)))
 
@@ -65,19 +65,19 @@ last_lines vpns number =
     made.each (made.select_line number) vpns ++ codes "settle\nstate\n" ++ made.each (made.send_line number (codes "02")) vpns
     ++ codes "drain\ntick 3\nsettle\nstate\n" ++ made.each (made.send_line number (codes "03")) vpns ++ codes "drain\nstate\n"
 
-abbrev pub four : List Event
+abbrev four : List Event
 four = events.Heal ∷ events.Settle ∷ events.Tick 3 ∷ events.Settle ∷ []
 
-abbrev pub first_told : ℕ → ℕ → ℕ → List Event
+abbrev first_told : ℕ → ℕ → ℕ → List Event
 first_told edges vpns number =
     four ++ each (λ vpn. each (join number vpn) edges) vpns ++ (events.Settle ∷ events.State ∷ []) ++ all (send number 1) vpns ++ (events.Drain ∷ [])
 
-abbrev pub last_told : ℕ → ℕ → List Event
+abbrev last_told : ℕ → ℕ → List Event
 last_told vpns number =
     each (selection number) vpns ++ (events.Settle ∷ events.State ∷ []) ++ all (send number 2) vpns
     ++ (events.Drain ∷ events.Tick 3 ∷ events.Settle ∷ events.State ∷ []) ++ all (send number 3) vpns ++ (events.Drain ∷ events.State ∷ [])
 
-abbrev pub scenario_said : ℕ → ℕ → ℕ → Scenario
+abbrev scenario_said : ℕ → ℕ → ℕ → Scenario
 scenario_said edges cores vpns = record {
   life = 2;
   delay = 3;
@@ -105,7 +105,7 @@ reads_script text new after reads begun few =
     })
 
 module _ (edges cores vpns : ℕ) (all_edges : edges ≡ 32) (all_cores : cores ≡ 16) (all_vpns : vpns ≡ 8) where
-  abbrev pub base : Drafted
+  abbrev base : Drafted
   base = behind_vpns edges cores vpns edges zero
 
   -- ---- the scenario
@@ -255,7 +255,7 @@ module _ (edges cores vpns : ℕ) (all_edges : edges ≡ 32) (all_cores : cores 
   links_said : made_links cores edges ≡ all ring_link cores ++ all spur_link edges
   links_said = behind_all (behind [] ring_link cores) spur_link edges ∙ ap (λ l. l ++ all spur_link edges) (behind_all [] ring_link cores)
 
-  pub scenario_is : base.scenario ≡ scenario_said edges cores vpns
+  scenario_is : base.scenario ≡ scenario_said edges cores vpns
   scenario_is = λ i. record {
     life = 2;
     delay = 3;
@@ -268,7 +268,7 @@ module _ (edges cores vpns : ℕ) (all_edges : edges ≡ 32) (all_cores : cores 
     ifaces = rows_each vpns iface edges i;
   }
 
-  pub read_whole : (number : ℕ) → script_of (scenario_lines edges cores vpns ++ first_lines edges vpns number ++ last_lines vpns number)
+  read_whole : (number : ℕ) → script_of (scenario_lines edges cores vpns ++ first_lines edges vpns number ++ last_lines vpns number)
       ≡ Ok (record { scenario = scenario_said edges cores vpns; events = from_line 866 (first_told edges vpns number ++ last_told vpns number); end = 866 + length (first_told edges vpns number ++ last_told vpns number) })
   read_whole number =
       reads_script (scenario_lines edges cores vpns ++ first_lines edges vpns number ++ last_lines vpns number) (telling base (first_told edges vpns number ++ last_told vpns number)) (866 + length (first_told edges vpns number ++ last_told vpns number))

@@ -1,5 +1,5 @@
 -- What laws of runs come to.
-use Rattle.std.proofs.Common.{◌≡◌, ℕ, suc, ◌+◌, ◌-◌, ◌<◌, ◌≤◌, ◌⊎◌, inl, inr, List, [], ◌∷◌, ◌++◌, length, take, drop, refl, sym, ap, subst, ◌∙◌, arith, All}
+use Rattle.std.proofs.Common.{◌≡◌, ℕ, suc, ◌+◌, ◌-◌, ◌<◌, ◌≤◌, inl, inr, List, [], ◌∷◌, ◌++◌, length, take, drop, refl, sym, ap, subst, ◌∙◌, arith, All}
 use Rattle.std.specs.List.{AllByRecursion}
 use Rattle.std.proofs.lemmas.Bool.{cases_lt}
 use Rattle.std.proofs.lemmas.List.{take_all, take-append-drop, take-append-le}
@@ -30,7 +30,7 @@ use Rattle.run_laws.specs.Runs as parts
 use Rattle.network_events.specs.WorldView.{WorldView}
 use Rattle.mvpn_tool.specs.Known.{ReportGoesOn}
 use Rattle.mvpn_tool.specs.Outcome.{Place}
-use Rattle.mvpn_tool.specs.Report.{IsHaltedRun, IsReport, IsWholeRun, OfAll, UpToHalt, event_lines}
+use Rattle.mvpn_tool.specs.Report.{IsHaltedRun, IsWholeRun, OfAll, UpToHalt, event_lines}
 use Rattle.mvpn_tool.proofs.TextLemmas.{report_of-append}
 
 abbrev SoundEvents : Script → List Timed → Type 0

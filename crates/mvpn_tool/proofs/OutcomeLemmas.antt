@@ -1,6 +1,6 @@
 -- Laws of what was replayed so far.
-use Rattle.std.proofs.Common.{◌≡◌, ℕ, zero, suc, ◌+◌, ◌<◌, ◌≤◌, ◌⊎◌, inl, inr, List, [], ◌∷◌, ◌++◌, length, take, drop, get_or, slice_get, refl, sym, ap, subst, ◌∙◌, append-nil, arith}
-use Rattle.std.specs.Prelude.{Option, None, Some, Result, Ok, Err, OnOk}
+use Rattle.std.proofs.Common.{◌≡◌, ℕ, zero, suc, ◌+◌, ◌<◌, List, [], ◌∷◌, ◌++◌, length, take, drop, get_or, slice_get, refl, sym, ap, subst, ◌∙◌, append-nil, arith}
+use Rattle.std.specs.Prelude.{Option, Some, Result, Ok, Err}
 use Rattle.std.proofs.lemmas.List.{take_all}
 use Rattle.std.proofs.lemmas.Option.{slice_get_read}
 use Rattle.mv_base.specs.declared.ids.NodeId.{NodeId}
@@ -16,14 +16,13 @@ use Rattle.network_defs.specs.Costs.{AreCoresOf, Cores}
 use Rattle.network_defs.specs.Events.{Happened, Outcome, Done, Halted}
 use Rattle.network_defs.specs.Run.{Halts, Run, Traced, outcome, report_of, traced}
 use Rattle.network_defs.specs.World.{World, start}
-use Rattle.delivery_laws.specs.Flood.{lines_in}
 use Rattle.delivery_laws.proofs.Splits.{cut_at, runs_join, take_to}
 use Rattle.run_laws.specs.Octets.{ScriptHasOctets}
 use Rattle.network_events.specs.Behind.{IsBegun}
 use Rattle.network_events.specs.WorldView.{WorldView}
 use Rattle.mvpn_tool.specs.Known.{KnownRuns}
 use Rattle.mvpn_tool.specs.Outcome.{EventEnds, GoesOn, Lacks, Place, Replayed, Replays, ReplaysPart, ReplaysUpToHalt, ReplaysWhole, event_text}
-use Rattle.mvpn_tool.specs.Report.{OfAll, UpToHalt, event_lines, lines_text, text_of}
+use Rattle.mvpn_tool.specs.Report.{UpToHalt, event_lines, lines_text, text_of}
 use Rattle.mvpn_tool.specs.declared.command.Detail.{Detail}
 use Rattle.mvpn_tool.specs.declared.stop.Stop.{Stop}
 use Rattle.mvpn_tool.specs.declared.stop.Stop.TheVariants as stops

@@ -1,12 +1,12 @@
 -- From the command that a branch of `run` is taken for to the command that the words name.
-use Rattle.std.proofs.Common.{◌≡◌, ◌≢◌, ℕ, ◌⊎◌, inl, inr, List, Option, None, Some, Result, Ok, Err, refl, subst, sym, ap, ◌∙◌, arith}
+use Rattle.std.proofs.Common.{◌≡◌, ℕ, inl, inr, List, Option, None, Some, Result, Ok, Err, refl, subst, sym, ap, ◌∙◌, arith}
 use Rattle.scenario_defs.specs.declared.event.Script.{Script}
 use Rattle.scenario_defs.specs.declared.event.Timed.{Timed}
 use Rattle.line_words.specs.declared.fault.TextFault.{TextFault}
 use Rattle.scenario_text.specs.Grammar.{script_of}
 use Rattle.mvpn_model.specs.Report.{Entry}
 use Rattle.mv_base.specs.declared.ids.NodeId.{NodeId}
-use Rattle.network_defs.specs.Costs.{AreCoresOf, Cores}
+use Rattle.network_defs.specs.Costs.{Cores}
 use Rattle.network_defs.specs.Run.{Halts, Run, Traced}
 use Rattle.network_defs.specs.World.{World}
 use Rattle.run_laws.specs.Runs.{of_events}
@@ -14,7 +14,7 @@ use Rattle.network_defs.proofs.CostLemmas.{same_cores}
 use Rattle.network_events.specs.WorldView.{WorldView}
 use Rattle.mvpn_tool.specs.Input.{IsInput, Taken}
 use Rattle.mvpn_tool.specs.declared.command.Detail.{Detail}
-use Rattle.mvpn_tool.specs.Outcome.{EndsHalted, EndsWell, IsRead}
+use Rattle.mvpn_tool.specs.Outcome.{EndsHalted, EndsWell}
 use Rattle.mvpn_tool.specs.declared.command.Command.{Command}
 use Rattle.mvpn_tool.specs.declared.command.Command.TheVariants as commands
 use Rattle.mvpn_tool.specs.Runs.{Ending, MakeRun, ReplayRun, Runs, SweepRun, UsageRun}

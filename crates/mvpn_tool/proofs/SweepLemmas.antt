@@ -1,5 +1,5 @@
 -- Laws of the run of a made network, whose lines are counted.
-use Rattle.std.proofs.Common.{◌≡◌, ◌∙◌, ℕ, ◌+◌, ◌⊎◌, inl, inr, List, [], ◌++◌, length, take, slice_get, refl, sym, ap, subst, arith}
+use Rattle.std.proofs.Common.{◌≡◌, ◌∙◌, ℕ, ◌+◌, ◌⊎◌, inl, inr, List, [], ◌++◌, length, slice_get, refl, sym, ap, subst, arith}
 use Rattle.std.specs.Prelude.{Option, Some, Result, Ok, Err, IsErrOf, fold}
 use Rattle.std.proofs.lemmas.List.{take_all}
 use Rattle.std.proofs.lemmas.List.Sums.{fold-append}

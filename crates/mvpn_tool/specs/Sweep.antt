@@ -1,6 +1,6 @@
 -- The numbers of the run of a made network, and what `sweep` writes of them.
 use Rattle.std.specs.Prelude.{◌≡◌, ℕ, ◌+◌, ◌==◌, ◌&&◌, ◌++◌, min, Bool, true, false, codes, fold, if◌then◌else◌}
-use Rattle.std.specs.Prelude.{List, [], length, count_by, slice_get, Option, None, Some, Result, Ok, Err, OnOk, IsErrOf}
+use Rattle.std.specs.Prelude.{List, [], length, count_by, Option, None, Some, Result, Ok, Err, OnOk, IsErrOf}
 use Rattle.std.specs.Fmt.{decimal}
 use Rattle.mv_base.specs.declared.ids.NodeId.{NodeId}
 use Rattle.mv_io.specs.Octets.{Appended, AppendedPart}

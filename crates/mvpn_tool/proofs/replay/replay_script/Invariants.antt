@@ -1,4 +1,4 @@
-use Rattle.std.proofs.Common.{◌≡◌, ◌≤◌, length}
+use Rattle.std.proofs.Common.{◌≤◌, length}
 use Rattle.mvpn_tool.specs.Outcome.{Replayed}
 use Rattle.mvpn_tool.proofs.replay.replay_script.Given as goal
 

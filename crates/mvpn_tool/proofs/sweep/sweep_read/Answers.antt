@@ -1,4 +1,3 @@
-use Rattle.std.proofs.Common.{ap}
 use Rattle.mvpn_tool.proofs.SweepLemmas.{made_never_halts, number_cut, number_swept}
 use Rattle.mvpn_tool.proofs.sweep.sweep_read.Goals as goal
 

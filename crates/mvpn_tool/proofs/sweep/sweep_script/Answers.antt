@@ -1,4 +1,4 @@
-use Rattle.std.proofs.Common.{ap, sym, length, arith}
+use Rattle.std.proofs.Common.{ap, length, arith}
 use Rattle.mvpn_tool.proofs.OutcomeLemmas.{event_at}
 use Rattle.mvpn_tool.proofs.SweepLemmas.{swept_all, swept_more, swept_none, swept_stops, swept_to}
 use Rattle.mvpn_tool.proofs.sweep.sweep_script.Goals as goal

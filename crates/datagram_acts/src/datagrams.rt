@@ -4,8 +4,6 @@ ghost use Rattle.mv_base.specs.declared.addr.Addr.{Addr};
 ghost use Rattle.mv_base.specs.declared.ids.SiteId.{SiteId};
 ghost use Rattle.scenario_defs.specs.declared.scenario.Scenario.{Scenario};
 ghost use Rattle.scenario_defs.specs.declared.report.ReportLine.TheVariants as told;
-ghost use Rattle.edge_defs.specs.Datagrams as definitions;
-ghost use Rattle.edge_core.specs.State.{IsFate};
 ghost use Rattle.network_defs.specs.Acts.{aged, hop_line, with_branches, without_copy};
 ghost use Rattle.network_defs.specs.Costs.{Cores};
 ghost use Rattle.network_defs.specs.Counts.{all_copies, datagrams_with_copy};
@@ -15,9 +13,9 @@ ghost use Rattle.datagram_acts.specs.Stored.{AreLinked, Handles, HasLanded, IsHa
 
 use crate::leaving;
 use buf_pool::Pool;
-use edge_core::Fate;
+use label_defs::Branch;
 use link_copies::{Landed, LinkCopies};
-use mv_base::{NoMemory, NodeId};
+use mv_base::{IfaceId, NoMemory, NodeId};
 use scenario_defs::Lines;
 use std::alloc::Global;
 use std::marker::Model;
@@ -82,29 +80,28 @@ impl Datagrams {
         Ok(number)
     }
 
-    /// The datagram that is being handled leaves the node at interfaces, and a copy of it goes on each branch, each told in a line.
+    /// The datagram that is being handled leaves the node at the interfaces, and a copy of it goes on each branch, each told in a line.
     /// At want of memory some first ones of the copies and lines stand.
     pub fn leave(
         &mut self,
         node: NodeId,
         ttl: u8,
         now: u64,
-        fate: &Fate,
+        outs: &[IfaceId],
+        branches: &[Branch],
         lines: &mut Lines,
     ) -> Result<(), NoMemory>
         requires handling { IsHandling self.old }
-        ensures left { OnOk result ((world : World) (number : ℕ) (datagram : Datagram) (own : definitions.Fate) →
-            Handles world number datagram self.old → clock_of world ≡ now → IsFate own fate.now →
-            Handles (with_branches node ttl number own.branches world) number datagram self.new) }
-        ensures lines { OnOk result ((world : World) (number : ℕ) (datagram : Datagram) (own : definitions.Fate) →
-            Handles world number datagram self.old → IsFate own fate.now →
+        ensures left { OnOk result ((world : World) (number : ℕ) (datagram : Datagram) →
+            Handles world number datagram self.old → clock_of world ≡ now →
+            Handles (with_branches node ttl number branches.now world) number datagram self.new) }
+        ensures lines { OnOk result ((world : World) (number : ℕ) (datagram : Datagram) → Handles world number datagram self.old →
             lines.new ≡ lines.old
-            ++ (map (λ iface. told.Out number iface datagram.octets) own.outs ++ map (hop_line node ttl number) own.branches)) }
+            ++ (map (λ iface. told.Out number iface datagram.octets) outs.now ++ map (hop_line node ttl number) branches.now)) }
     {
-        leaving::leave_at(self.number, fate.outs.as_slice(), self.octets(), lines)?;
-        leaving::tell_hops(node, ttl, self.number, fate.branches.as_slice(), lines)?;
-        self.copies
-            .forward_on_trees(node, ttl, now, fate.branches.as_slice())
+        leaving::leave_at(self.number, outs, self.octets(), lines)?;
+        leaving::tell_hops(node, ttl, self.number, branches, lines)?;
+        self.copies.forward_on_trees(node, ttl, now, branches)
     }
 
     /// The copy at that place of the way lands, counted from 1, where there is one: it leaves its link, and its datagram is the one

@@ -4,10 +4,12 @@ use Rattle.std.proofs.Common.{◌≡◌, ◌∙◌, refl, sym, ap, subst, ℕ, z
 use Rattle.std.specs.List.{AllByRecursion}
 use Rattle.std.proofs.lemmas.List.{append-nil, append_assoc}
 use Rattle.std.proofs.lemmas.Option.{none-some}
+use Rattle.mv_base.specs.declared.ids.IfaceId.{IfaceId}
 use Rattle.mv_base.specs.declared.ids.NodeId.{NodeId}
 use Rattle.mv_base.specs.declared.ids.SiteId.{SiteId}
 use Rattle.mv_base.specs.declared.ids.VrfId.{VrfId}
 use Rattle.mv_base.specs.declared.memory.NoMemory.{NoMemory}
+use Rattle.label_defs.specs.declared.branch.Branch.{Branch}
 use Rattle.label_forwarding.specs.Reading.{packet_of}
 use Rattle.label_forwarding.specs.Spelling.{Packet}
 use Rattle.label_forwarding.specs.declared.fault.PacketFault.{PacketFault}
@@ -106,6 +108,22 @@ pub record Leaves (n : NodeId) (ttl clock : ℕ) (fate : Fate) (old new : Datagr
       → Handles (with_branches n ttl number own.branches world) number datagram new
   pub lines_are : (world : World) (number : ℕ) (datagram : Datagram) (own : fates.Fate) → Handles world number datagram old → IsFate own fate
       → new_lines ≡ lines ++ (map (λ iface. told.Out number iface datagram.octets) own.outs ++ map (hop_line n ttl number) own.branches)
+
+-- so it says where it is told the interfaces and branches of a fate
+pub leaves_by : (n : NodeId) (ttl clock : ℕ) (fate : Fate) (outs : List IfaceId) (branches : List Branch) (old new : DatagramsView) (lines new_lines : List ReportLine)
+    → outs ≡ fate.outs → branches ≡ fate.branches
+    → ((world : World) (number : ℕ) (datagram : Datagram) → Handles world number datagram old → clock_of world ≡ clock → Handles (with_branches n ttl number branches world) number datagram new)
+    → ((world : World) (number : ℕ) (datagram : Datagram) → Handles world number datagram old
+    → new_lines ≡ lines ++ (map (λ iface. told.Out number iface datagram.octets) outs ++ map (hop_line n ttl number) branches))
+    → Leaves n ttl clock fate old new lines new_lines
+leaves_by n ttl clock fate outs branches old new lines new_lines at on left lines_are =
+    record {
+      left = λ world number datagram own handled now is.
+          subst (λ (on_branches : List Branch). Handles (with_branches n ttl number on_branches world) number datagram new) (on ∙ is.branches) (left world number datagram handled now);
+      lines_are = λ world number datagram own handled is.
+          lines_are world number datagram handled
+          ∙ (λ i. lines ++ (map (λ iface. told.Out number iface datagram.octets) ((at ∙ is.outs) i) ++ map (hop_line n ttl number) ((on ∙ is.branches) i)));
+    }
 
 pub on_ok_both : {P Q R : Type 0} (result : Result (Unit {0}) NoMemory) → (P → Q → R) → OnOk result P → OnOk result Q → OnOk result R
 on_ok_both (Ok done) both p q = both p q

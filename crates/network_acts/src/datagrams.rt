@@ -62,8 +62,14 @@ impl Network {
     {
         let alloc = lines.alloc();
         let fate = self.plane.enter(alloc, vrf, n, site, datagram)?;
-        self.datagrams
-            .leave(n, 255, self.plane.clock(), &fate, lines)
+        self.datagrams.leave(
+            n,
+            255,
+            self.plane.clock(),
+            fate.outs.as_slice(),
+            fate.branches.as_slice(),
+            lines,
+        )
     }
 
     /// The datagram is no longer handled.
@@ -114,8 +120,14 @@ impl Network {
             number: landed.number,
         })?;
         let ttl = landed.ttl.saturating_sub(1);
-        self.datagrams
-            .leave(to, ttl, self.plane.clock(), &fate, lines)
+        self.datagrams.leave(
+            to,
+            ttl,
+            self.plane.clock(),
+            fate.outs.as_slice(),
+            fate.branches.as_slice(),
+            lines,
+        )
     }
 
     /// The copy at that place of the way lands, counted from 1, where there is one: it leaves at interfaces, and copies of it go on branches

@@ -1,8 +1,6 @@
-use Rattle.std.proofs.Common.{◌≡◌, ℕ, ◌++◌, List, map, sym, subst, ◌∙◌}
+use Rattle.std.proofs.Common.{◌≡◌, ℕ, ◌++◌, map, sym, subst}
 use Rattle.std.proofs.lemmas.Result.{on_ok_weaker}
 use Rattle.mv_base.specs.declared.ids.NodeId.{NodeId}
-use Rattle.label_defs.specs.declared.branch.Branch.{Branch}
-use Rattle.network_defs.specs.World.{clock_of}
 use Rattle.link_copies.specs.CopiesData.{hop_of, kept_at, sent}
 use Rattle.datagram_acts.specs.Stored.{Handles}
 use Rattle.datagram_acts.proofs.Stores.{left_handles}
@@ -10,18 +8,17 @@ use Rattle.datagram_acts.proofs.Told.{same_number, told_lines}
 use Rattle.datagram_acts.proofs.datagrams.Datagrams.leave.Goals as goal
 
 pub returns-clause-left : goal.returns-clause-left
-returns-clause-left c = on_ok_weaker c.forward_on_trees.result (λ each world number datagram own handled clock is.
+returns-clause-left c = on_ok_weaker c.forward_on_trees.result (λ each world number datagram handled clock.
     let was = c.self.inside.copies in
     let new = c.forward_on_trees.new.self in
-    left_handles world was new c.self.inside.count number datagram c.args.node c.args.ttl own.branches (subst (Handles world number datagram) (sym c.self.view_is) handled)
-    (subst (λ (branches : List Branch). (u n : NodeId) → kept_at new u n ≡ kept_at was u n ++ sent was.current c.args.node c.args.ttl (clock_of world) (map hop_of branches) u n) (c.as_slice-3.ensures ∙ is.branches)
-    (subst (λ (now : ℕ). (u n : NodeId) → kept_at new u n ≡ kept_at was u n ++ sent was.current c.args.node c.args.ttl now (map hop_of c.as_slice-3.result.now) u n) (sym clock) each))
+    left_handles world was new c.self.inside.count number datagram c.args.node c.args.ttl c.args.branches.now (subst (Handles world number datagram) (sym c.self.view_is) handled)
+    (subst (λ (now : ℕ). (u n : NodeId) → kept_at new u n ≡ kept_at was u n ++ sent was.current c.args.node c.args.ttl now (map hop_of c.args.branches.now) u n) (sym clock) each)
     c.forward_on_trees.ensures.current c.forward_on_trees.ensures.buffers) c.forward_on_trees.ensures.sent
 
 pub returns-clause-lines : goal.returns-clause-lines
-returns-clause-lines c = on_ok_weaker c.forward_on_trees.result (λ _ world number datagram own handled is.
+returns-clause-lines c = on_ok_weaker c.forward_on_trees.result (λ _ world number datagram handled.
     let was = c.self.inside in
-    told_lines c.args.lines.now c.leave_at.new.lines c.tell_hops.new.lines c.args.node c.args.ttl number was.number datagram.octets c.octets.result.now own c.args.fate.now c.as_slice.result.now c.as_slice-2.result.now
+    told_lines c.args.lines.now c.leave_at.new.lines c.tell_hops.new.lines c.args.node c.args.ttl number was.number datagram.octets c.octets.result.now c.args.outs.now c.args.branches.now
     (same_number world number was.number datagram (record { copies = was.copies; count = was.count }) (subst (Handles world number datagram) (sym c.self.view_is) handled) c.self.invariant)
     (c.octets.ensures world number datagram handled)
-    is c.as_slice.ensures c.as_slice-2.ensures c.in_ok-leave_at.ensures c.in_ok-tell_hops.ensures) c.forward_on_trees.ensures.sent
+    c.in_ok-leave_at.ensures c.in_ok-tell_hops.ensures) c.forward_on_trees.ensures.sent

@@ -5,3 +5,4 @@ pub mod StateLemmas
 pub mod CostLemmas
 pub mod EntryLemmas
 pub mod CoverLemmas
+pub mod NamedLemmas

@@ -210,7 +210,7 @@ looked-up test (e ∷ es) at x none found =
         (λ i. test (key i, sym value i)) ∙ t
 
 -- the entry's expiry by the list of entries
-expiry-found : (es : List (IfaceEntry × Expiry)) (entries : Entries) (at : IfaceEntry) → from_entries es ≡ entries → finite.get entries at ≡ lookup (is_at at) es
+pub expiry-found : (es : List (IfaceEntry × Expiry)) (entries : Entries) (at : IfaceEntry) → from_entries es ≡ entries → finite.get entries at ≡ lookup (is_at at) es
 expiry-found es entries at e = ap (λ (m : Entries). finite.get m at) (sym e) ∙ get-lookup es at
 
 differ-not : (a b t : Bool) → (differ a b && t) ≡ false → t ≡ true → a ≡ b

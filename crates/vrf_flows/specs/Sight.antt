@@ -1,8 +1,11 @@
 -- What flows are recomputed from.
-use Rattle.std.specs.Prelude.{ℕ, ◌||◌, is_some, Bool, List, [], ◌∷◌, None, Some}
+use Rattle.std.specs.Prelude.{ℕ, ◌||◌, ◌&&◌, ◌==◌, is_some, map, Bool, List, [], ◌∷◌, None, Some}
 use Rattle.std.specs.List.{list_any, filter}
+use Rattle.mv_base.specs.declared.ids.IfaceId.{IfaceId}
 use Rattle.mv_base.specs.declared.ids.NodeId.{NodeId}
+use Rattle.pim_defs.specs.declared.expiry.Expiry.{Expiry}
 use Rattle.pim_defs.specs.Entries.{Entries, expiry_at, asks}
+use Rattle.scenario_defs.specs.declared.event.IfaceEntry.{IfaceEntry}
 use Rattle.scenario_defs.specs.declared.event.JoinEntry.TheVariants.{Source}
 use Rattle.umh_select.specs.declared.route.Choice.{Choice}
 use Rattle.tree_defs.specs.declared.flow.Flow.{Flow}
@@ -10,12 +13,31 @@ use Rattle.tree_defs.specs.declared.flow.SiteIface.{SiteIface}
 use Rattle.tree_defs.specs.Keys.{same_flow}
 use Rattle.tree_defs.specs.Flows.{chosen_for}
 use Rattle.vrf_flows.specs.declared.sight.Sight.{Sight}
-use Rattle.vrf_flows.specs.Held.{Now}
+use Rattle.vrf_flows.specs.Held.{Now, touches}
 
 -- those of the interfaces that ask for the flow, where its source is known to send or not
 abbrev pub asking_of : List SiteIface → Entries → Bool → ℕ → Flow → List SiteIface
 asking_of ifaces entries active clock flow =
     filter (λ (own : SiteIface). asks entries own.iface flow.source flow.group active clock) ifaces
+
+-- ---- the interfaces that may ask for a flow, by the entries
+
+abbrev pub may_change : Flow → IfaceEntry × Expiry → Bool
+may_change flow e = touches e.0.entry flow
+
+-- the interfaces of the entries that may change the flow
+abbrev pub named_in : Flow → List (IfaceEntry × Expiry) → List IfaceId
+named_in flow entries = map (λ (e : IfaceEntry × Expiry). e.0.iface) (filter (may_change flow) entries)
+
+abbrev pub is_named : List IfaceId → IfaceId → Bool
+is_named named iface = list_any (λ (own : IfaceId). own.0 == iface.0) named
+
+-- those of the interfaces that are among these and ask for the flow
+abbrev pub asking_among : List IfaceId → List SiteIface → Entries → Bool → ℕ → Flow → List SiteIface
+asking_among named ifaces entries active clock flow =
+    filter (λ (own : SiteIface). is_named named own.iface && asks entries own.iface flow.source flow.group active clock) ifaces
+
+-- ---- flows
 
 -- a flow that these interfaces ask for; none without an interface
 abbrev pub flow_by : List SiteIface → Choice → Now

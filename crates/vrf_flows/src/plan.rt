@@ -204,11 +204,12 @@ fn settle_flow(
     flows: &mut FlowTable,
     flow: Flow,
     kept: Option<Kept>,
-    needed: bool,
+    sight: &Sight<'_>,
 ) -> Result<(), NoMemory>
     requires held { IsUnique same_flow flows.old }
     ensures each { (q : Flow) →
-        OnOk result (get same_flow flows.new q ≡ (if same_flow flow q then settled_by needed kept else get same_flow flows.old q)) }
+        OnOk result (get same_flow flows.new q
+        ≡ (if same_flow flow q then settled_by (needs sight.now flow) kept else get same_flow flows.old q)) }
     ensures unchanged { (q : Flow) → OnErr result (get same_flow flows.new q ≡ get same_flow flows.old q) }
     ensures unique { IsUnique same_flow flows.new }
 {
@@ -221,7 +222,7 @@ fn settle_flow(
             flows.insert(flow, held)?;
             Ok(())
         }
-        None => settle_none(flows, flow, needed),
+        None => settle_none(flows, flow, is_needed(sight, flow)),
     }
 }
 
@@ -257,8 +258,7 @@ pub(crate) fn settle(flows: &mut FlowTable, plan: Plan, sight: &Sight<'_>) -> Re
     ensures unique { IsUnique same_flow flows.new }
 {
     for (flow, kept) in plan {
-        let needed = is_needed(sight, flow);
-        settle_flow(flows, flow, kept, needed)?;
+        settle_flow(flows, flow, kept, sight)?;
     }
     Ok(())
 }

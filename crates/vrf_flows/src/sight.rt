@@ -3,14 +3,15 @@ ghost use Rattle.std.specs.Prelude.{◌≡◌, ◌<◌, ℕ, IfOk};
 ghost use Rattle.mv_base.specs.declared.ids.NodeId.{NodeId};
 ghost use Rattle.umh_select.specs.Routes.{AreCosts, AreOfCore};
 ghost use Rattle.tree_defs.specs.Flows.{chosen_for};
-ghost use Rattle.vrf_flows.specs.Sight.{asking_of, is_joined, is_needed, is_sent, flow_by, seen};
+ghost use Rattle.vrf_flows.specs.Sight.{asking_among, asking_of, is_named, is_joined, is_needed, is_sent, flow_by, named_in, seen};
 
-use crate::held::Kept;
+use crate::held::{Kept, cause_of};
 use core_paths::Core;
-use indexmap::IndexSet;
-use mv_base::{NoMemory, NodeId, Seq};
+use indexmap::{IndexMap, IndexSet};
+use mv_base::{IfaceId, NoMemory, NodeId, Seq};
+use pim_defs::Expiry;
 use pim_state::Downstream;
-use scenario_defs::JoinEntry;
+use scenario_defs::{IfaceEntry, JoinEntry};
 use std::alloc::Global;
 use tree_defs::{Flow, SiteIface};
 use umh_select::{Choice, Umh};
@@ -27,8 +28,59 @@ pub(crate) struct Sight<'a> {
     pub core: &'a Core,
 }
 
-/// Those of the interfaces that ask for the flow, in their order.
-fn asking(
+/// Up to so many interfaces are looked for among those of a VRF before their entries are.
+const FEW: usize = 16;
+
+/// The interfaces of the entries that may change the flow.
+fn named(
+    alloc: Global,
+    entries: &IndexMap<IfaceEntry, Expiry>,
+    flow: Flow,
+) -> Result<Seq<IfaceId>, NoMemory>
+    ensures { IfOk result (λ found. found ≡ named_in flow entries.now.entries) }
+{
+    let mut found = Seq::new(alloc);
+    for (at, _) in entries.iter() {
+        if cause_of(&at.entry).concerns(&flow) {
+            found.push(at.iface)?;
+        }
+    }
+    Ok(found)
+}
+
+fn is_named(named: &[IfaceId], iface: IfaceId) -> bool
+    ensures { result ≡ is_named named.now iface }
+{
+    named.iter().any(|own| own.0 == iface.0)
+}
+
+/// Those of the interfaces that are among these and ask for the flow, in their order.
+fn asking_among(
+    alloc: Global,
+    sight: &Sight<'_>,
+    flow: Flow,
+    active: bool,
+    named: &[IfaceId],
+) -> Result<Seq<SiteIface>, NoMemory>
+    ensures { IfOk result (λ found.
+        found ≡ asking_among named.now sight.now.ifaces.now sight.now.entries.now active sight.now.clock flow) }
+{
+    let mut found = Seq::new(alloc);
+    let ifaces = sight.ifaces;
+    for own in ifaces {
+        if is_named(named, own.iface)
+            && sight
+                .entries
+                .asks(own.iface, flow.source, flow.group, active, sight.clock)
+        {
+            found.push(*own)?;
+        }
+    }
+    Ok(found)
+}
+
+/// Those of the interfaces that ask for the flow, in their order, each looked up among the entries.
+fn asking_each(
     alloc: Global,
     sight: &Sight<'_>,
     flow: Flow,
@@ -47,6 +99,23 @@ fn asking(
         }
     }
     Ok(found)
+}
+
+/// Those of the interfaces that ask for the flow, in their order. Most flows are named by the entries of few interfaces.
+fn asking(
+    alloc: Global,
+    sight: &Sight<'_>,
+    flow: Flow,
+    active: bool,
+) -> Result<Seq<SiteIface>, NoMemory>
+    ensures { IfOk result (λ found. found ≡ asking_of sight.now.ifaces.now sight.now.entries.now active sight.now.clock flow) }
+{
+    let named = named(alloc, sight.entries.expiries(), flow)?;
+    if named.len() > FEW {
+        asking_each(alloc, sight, flow, active)
+    } else {
+        asking_among(alloc, sight, flow, active, named.as_slice())
+    }
 }
 
 /// Whether one of the interfaces has an entry that joins the flow itself.

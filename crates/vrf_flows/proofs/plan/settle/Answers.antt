@@ -1,4 +1,4 @@
-use Rattle.std.proofs.Common.{rules, ◌≡◌, Bool, cond, List, Option, ap, sym, ◌∙◌}
+use Rattle.std.proofs.Common.{rules, ◌≡◌, cond, List, Option, ap, sym, ◌∙◌}
 use Rattle.std.proofs.lemmas.Map.Iter.{rest_more}
 use Rattle.indexmap.specs.IndexMap.{get}
 use Rattle.tree_defs.specs.declared.flow.Flow.{Flow}
@@ -13,7 +13,7 @@ use Rattle.vrf_flows.proofs.plan.settle.Goals as goal
 pub loop-flow-preserved : goal.loop-flow-preserved
 loop-flow-preserved c =
     let now : (q : Flow) → get same_flow c.settle_flow.new.flows q ≡ cond (same_flow c.in-Some.flow q) (settled_by (needs c.args.sight.now c.in-Some.flow) c.in-Some.kept) (get same_flow c.loop-flow.flows q) = λ q.
-    c.in_ok-settle_flow.ensures.each q ∙ ap (λ (b : Bool). cond (same_flow c.in-Some.flow q) (settled_by b c.in-Some.kept) (get same_flow c.loop-flow.flows q)) c.is_needed-needed.ensures in
+    c.in_ok-settle_flow.ensures.each q in
     record {
       each = λ q.
           let front = rest_more (λ p. p) _ _ c.next.result _ c.in-Some.is c.next.ensures.steps in

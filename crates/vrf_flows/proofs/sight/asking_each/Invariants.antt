@@ -1,6 +1,6 @@
 use Rattle.std.proofs.Common.{◌≡◌, ◌++◌, drop}
 use Rattle.vrf_flows.specs.Sight.{asking_of}
-use Rattle.vrf_flows.proofs.sight.asking.Given as goal
+use Rattle.vrf_flows.proofs.sight.asking_each.Given as goal
 
 abbrev pub invariant-loop-own : goal.invariant-loop-own
 invariant-loop-own l =

@@ -8,7 +8,8 @@
 
 The kit proves each crate in processes of its own. Every fifth of a second this reads from /proc what each process below the
 command has used; a process that ends in between counts as it was last seen. Some kits keep what an earlier run of `rt ci`
-proved, and prove everything from nothing only with `--anew`: there this word is added.
+proved, and prove everything from nothing only with `--anew`: there this word is added. Behind the table stand the sum, what the
+last whole run took, and what is above the budget.
 """
 
 import json
@@ -24,6 +25,8 @@ COSTS = os.path.join(HERE, 'bench', 'gate.json')
 PAGE = os.path.join(HERE, 'docs', 'PROVING.md')
 BEGIN, END = '<!-- costs -->', '<!-- end of costs -->'
 PARTS = ('proof', 'tests', 'edits')
+# The budget, in processor minutes: of the whole gate; of each 1,000 lines of a crate; and of a crate with few lines.
+OF_ALL, OF_LINES, OF_FEW = 300, 2.5, 2
 TICKS = os.sysconf('SC_CLK_TCK')
 
 
@@ -79,7 +82,8 @@ def row_of(number):
 
 
 def measure(command):
-    """Runs the command; its status and the processor seconds of each crate and part."""
+    """Runs the command; its status, the processor seconds of each crate and part, and what the run took as a whole."""
+    began = time.time()
     run = subprocess.Popen(command, cwd=HERE)
     signal.signal(signal.SIGTERM, lambda *_: run.terminate())
     rows, used = {}, {}
@@ -95,7 +99,8 @@ def measure(command):
         if row:
             parts = costs.setdefault(row[0], dict.fromkeys(PARTS, 0))
             parts[row[1]] += used[key]
-    return run.returncode, costs
+    taken = {'minutes': (time.time() - began) / 60, 'processors': os.cpu_count(), 'processor minutes': sum(used.values()) / 60}
+    return run.returncode, costs, taken
 
 
 def whole_gate():
@@ -144,19 +149,36 @@ def merged(crate, old, new):
     return costs
 
 
+def budget_of(crate):
+    """How many processor minutes the crate may take."""
+    return max(OF_FEW, OF_LINES * sum(lines_of(crate, part) for part in ('src', 'specs', 'proofs')) / 1000)
+
+
+def above(crates):
+    """What takes more than its budget, in words."""
+    minutes = {crate: sum(crates.get(crate, {}).values()) / 60 for crate in crate_names()}
+    every = [('the whole gate', sum(minutes.values()), OF_ALL)] + [(crate, minutes[crate], budget_of(crate)) for crate in minutes]
+    return [f'{name} ({taken:.1f} of {budget:.1f})' for name, taken, budget in every if taken > budget]
+
+
 def table(costs):
-    """The lines of the table, a crate each and then the sum."""
+    """The lines of the table, a crate each and then the sum; and what they say of the budget."""
+    crates = costs['crates']
     yield '| crate | src | specs | proofs | edits | proof, s | tests, s | edits, s | all, s |'
     yield '|---|---|---|---|---|---|---|---|---|'
     sums = [0] * 8
     for crate in crate_names():
-        parts = [round(costs.get(crate, {}).get(part, 0)) for part in PARTS]
+        parts = [round(crates.get(crate, {}).get(part, 0)) for part in PARTS]
         row = [lines_of(crate, part) for part in ('src', 'specs', 'proofs')] + [number_of_edits(crate)] + parts + [sum(parts)]
         sums = [one + other for one, other in zip(sums, row)]
         yield f'| {crate} | ' + ' | '.join(f'{number:,}' for number in row) + ' |'
     yield '| all | ' + ' | '.join(f'{number:,}' for number in sums) + ' |'
     yield ''
     yield f'All in all {sums[7] / 60:.0f} processor minutes.'
+    if run := costs['run']:
+        yield (f'The last whole run took {run["minutes"]:.0f} minutes by the clock on {run["processors"]} processors, and '
+               f'{run["processor minutes"]:.0f} processor minutes with what is no process of the prover.')
+    yield f'Above the budget, in processor minutes: {", ".join(above(crates)) or "nothing"}.'
 
 
 def write_table(costs):
@@ -169,14 +191,18 @@ def write_table(costs):
 
 
 def main():
-    costs = {}
+    costs = {'run': None, 'crates': {}}
     if os.path.exists(COSTS):
         with open(COSTS) as file:
             costs = json.load(file)
     status = 0
     if sys.argv[1:] != ['--table']:
-        status, measured = measure(sys.argv[1:] or whole_gate())
-        costs = {crate: merged(crate, costs.get(crate, {}), measured.get(crate, {})) for crate in crate_names()}
+        status, measured, taken = measure(sys.argv[1:] or whole_gate())
+        old = costs['crates']
+        costs = {
+            'run': costs['run'] if sys.argv[1:] else taken,
+            'crates': {crate: merged(crate, old.get(crate, {}), measured.get(crate, {})) for crate in crate_names()},
+        }
         with open(COSTS, 'w') as file:
             json.dump(costs, file, indent=1)
             file.write('\n')

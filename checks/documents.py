@@ -4,8 +4,8 @@
 Of each Markdown file of the repository: that no line is left of a merge; that the file of each link stands; that what looks
 like a path of this repository does, as `network_defs/specs/Acts.antt` or `checks/rows.py`; and in ARCHITECTURE that each crate
 stands in the list of kinds and, unless it has tests alone, in a section, and that the files which a section names are the
-crate's. A word in capitals, as in `crates/NAME`, stands for any name. Prints what is wrong, and then 'N passed, M failed', one
-for each document.
+crate's; and that CALLS has a row of each crate with public functions. A word in capitals, as in `crates/NAME`, stands for any
+name. Prints what is wrong, and then 'N passed, M failed', one for each document.
 """
 
 import pathlib
@@ -14,7 +14,7 @@ import subprocess
 import sys
 
 TOP = pathlib.Path(__file__).resolve().parent.parent
-ARCHITECTURE = 'docs/ARCHITECTURE.md'
+ARCHITECTURE, CALLS = 'docs/ARCHITECTURE.md', 'docs/CALLS.md'
 # the folders of a crate, and those at the top whose files documents name
 PARTS = ('src', 'specs', 'proofs', 'must-fail')
 FOLDERS = ('checks', 'docs', 'bench', 'tools', 'examples', 'crates')
@@ -84,6 +84,18 @@ def faults_of_sections(text):
         yield 0, f'{name} is of no kind'
 
 
+def has_calls(crate):
+    """Whether the crate is a library with public functions."""
+    sources = (TOP / 'crates' / crate / 'src').rglob('*.rt')
+    return any(re.search(r'^\s*pub fn ', source.read_text(), re.M) for source in sources)
+
+
+def crates_without_row(text):
+    """The crates with public functions that no row of the table names."""
+    named = set(re.findall(r'^\| (\w+) \|', text, re.M))
+    return [name for name in crate_names() if name not in named and has_calls(name)]
+
+
 def faults_of(document):
     text = (TOP / document).read_text()
     for number, line in enumerate(text.splitlines(), 1):
@@ -91,6 +103,8 @@ def faults_of(document):
             yield number, fault
     if document == ARCHITECTURE:
         yield from faults_of_sections(text)
+    if document == CALLS:
+        yield from ((0, f'no row of {crate}') for crate in crates_without_row(text))
 
 
 def main():

@@ -1,2 +1,1 @@
 pub mod HomeLemmas
-pub mod OctetLemmas

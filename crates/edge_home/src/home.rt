@@ -5,6 +5,7 @@ ghost use Rattle.edge_defs.specs.Place.{HasPrefixes, addr_of};
 ghost use Rattle.edge_home.specs.Home.{AreOwn, IsHome, home_of, peers_from, peers_of};
 
 use crate::copying::copied_scenario;
+use crate::octets::sites_have_octets;
 use crate::own_vrf::{OwnVrf, own_vrfs};
 use mv_base::{Addr, NoMemory, NodeId};
 use scenario_defs::{Node, Scenario};
@@ -68,6 +69,7 @@ impl EdgeHome {
         requires { IsHome scenario.now me }
         ensures { IfOk result (λ home. home ≡ home_of scenario.now me) }
     {
+        sites_have_octets(scenario.sites.as_slice());
         let scenario = copied_scenario(alloc, scenario)?;
         let addr = own_octets(&scenario, me);
         let vrfs = own_vrfs(alloc, scenario.vrfs.as_slice(), me, addr, scenario.system)?;

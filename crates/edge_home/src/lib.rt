@@ -3,7 +3,10 @@
 
 mod copying;
 mod home;
+mod octets;
 mod own_vrf;
 
+pub use copying::copied_scenario;
 pub use home::EdgeHome;
+pub use octets::sites_have_octets;
 pub use own_vrf::OwnVrf;

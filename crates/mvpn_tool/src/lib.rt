@@ -2,7 +2,6 @@
 #![tactic(auto)]
 
 mod command;
-mod copying;
 mod counts;
 mod decode;
 mod input;

@@ -11,11 +11,11 @@ ghost use Rattle.mvpn_tool.specs.Report.{lines_text};
 ghost use Rattle.mvpn_tool.specs.declared.stop.Stop.TheVariants as stops;
 
 use crate::command::Detail;
-use crate::copying::copy_of;
 use crate::input::read_all;
 use crate::laws::{lines_are_known, runs_are_known, script_has_octets};
 use crate::report::{put_lines, text_of_fault};
 use crate::stop::Stop;
+use edge_home::copied_scenario;
 use mv_base::{Bytes, NodeId};
 use mv_io::{Sink, Source, write_all};
 use network_events::{Halt, World};
@@ -118,7 +118,7 @@ fn replay_script<K: Sink>(
         events,
         end: _,
     } = script;
-    let names = copy_of(alloc, &scenario)?;
+    let names = copied_scenario(alloc, &scenario)?;
     let mut world = World::of(alloc, scenario)?;
     let mut text = Bytes::new(alloc);
     let timeds = events.as_slice();

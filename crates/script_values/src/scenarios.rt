@@ -4,10 +4,11 @@ ghost use Rattle.mv_base.specs.Address.{addr_octets};
 ghost use Rattle.mv_base.specs.Octets.{IsOctets};
 ghost use Rattle.network_laws.specs.Sound.{HasOctets};
 
-use mv_base::{Addr, Prefix};
+use edge_home::sites_have_octets;
+use mv_base::Addr;
 use route_order::are_octets;
 use route_targets::Target;
-use scenario_defs::{Iface, Node, Scenario, Site, Vrf};
+use scenario_defs::{Iface, Node, Scenario, Vrf};
 
 /// Shows that the address is of octets.
 pub(crate) fn addr_has_octets(addr: &Addr)
@@ -50,31 +51,6 @@ fn vrfs_have_octets(vrfs: &[Vrf])
 {
     for vrf in vrfs {
         vrf_has_octets(vrf);
-    }
-}
-
-/// Shows that the prefixes are of octets.
-fn prefixes_have_octets(prefixes: &[Prefix])
-    ensures { All (λ prefix. IsOctets (addr_octets prefix.addr)) prefixes.now }
-{
-    for prefix in prefixes {
-        addr_has_octets(&prefix.addr);
-    }
-}
-
-/// Shows that the prefixes of the site are of octets.
-fn site_has_octets(site: &Site)
-    ensures { All (λ prefix. IsOctets (addr_octets prefix.addr)) site.now.prefixes }
-{
-    prefixes_have_octets(site.prefixes.as_slice());
-}
-
-/// Shows that the prefixes of all the sites are of octets.
-fn sites_have_octets(sites: &[Site])
-    ensures { All (λ site. All (λ prefix. IsOctets (addr_octets prefix.addr)) site.prefixes) sites.now }
-{
-    for site in sites {
-        site_has_octets(site);
     }
 }
 

@@ -1,4 +1,8 @@
-use Rattle.std.proofs.Common.{subst, sym, ap, ◌∙◌}
+use Rattle.std.proofs.Common.{All, subst, sym, ap, ◌∙◌}
+use Rattle.mv_base.specs.Address.{addr_octets}
+use Rattle.mv_base.specs.Octets.{IsOctets}
+use Rattle.mv_base.specs.declared.prefix.Prefix.{Prefix}
+use Rattle.scenario_defs.specs.declared.scenario.Site.{Site}
 use Rattle.edge_defs.specs.Place.{HasPrefixes}
 use Rattle.edge_home.specs.Home.{IsHome, own_from}
 use Rattle.edge_home.proofs.HomeLemmas.{are_own}
@@ -7,12 +11,13 @@ use Rattle.edge_home.proofs.home.EdgeHome.of.Goals as goal
 pub invariant_of-result : goal.invariant_of-result
 invariant_of-result c =
     let is : IsHome c.in_ok-scenario.scenario c.args.me =
-    subst (λ scenario. IsHome scenario c.args.me) (sym c.in_ok-scenario.ensures.copy)
+    subst (λ scenario. IsHome scenario c.args.me) (sym c.in_ok-scenario.ensures)
     (record { rules = c.requires.rules; edge = c.requires.edge }) in (
       is,
       (
-        subst HasPrefixes (sym c.in_ok-scenario.ensures.copy) c.in_ok-scenario.ensures.octets,
+        subst HasPrefixes (sym c.in_ok-scenario.ensures)
+            (subst (All (λ (site : Site). All (λ (prefix : Prefix). IsOctets (addr_octets prefix.addr)) site.prefixes)) c.as_slice.ensures c.sites_have_octets.ensures),
         are_own c.in_ok-scenario.scenario c.args.me c.own_octets-addr.result c.in_ok-vrfs.vrfs.items c.own_octets-addr.ensures
-            (c.in_ok-vrfs.ensures ∙ ap (own_from c.own_octets-addr.result c.in_ok-scenario.scenario.system c.args.me 0) c.as_slice.ensures),
+            (c.in_ok-vrfs.ensures ∙ ap (own_from c.own_octets-addr.result c.in_ok-scenario.scenario.system c.args.me 0) c.as_slice-2.ensures),
       ),
     )

@@ -3,12 +3,12 @@ use Rattle.std.proofs.lemmas.List.{take_all}
 use Rattle.mv_base.specs.Address.{addr_octets}
 use Rattle.mv_base.specs.Octets.{IsOctets}
 use Rattle.mv_base.specs.declared.prefix.Prefix.{Prefix}
-use Rattle.edge_home.proofs.OctetLemmas.{all_more}
-use Rattle.edge_home.proofs.copying.have_octets.Goals as goal
+use Rattle.std.proofs.lemmas.List.Elements.{All-more}
+use Rattle.edge_home.proofs.octets.prefixes_have_octets.Goals as goal
 
 pub loop-prefix-preserved : goal.loop-prefix-preserved
 loop-prefix-preserved c =
-    all_more (λ (p : Prefix). IsOctets (addr_octets p.addr)) c.args.prefixes.now c.loop-prefix.prefix-index _ c.loop-prefix-test.true c.loop-prefix.invariant c.has_octets.ensures
+    All-more (λ (p : Prefix). IsOctets (addr_octets p.addr)) c.args.prefixes.now c.loop-prefix.prefix-index _ c.loop-prefix-test.true c.loop-prefix.invariant c.prefix_has_octets.ensures
 
 pub returns : goal.returns
 returns c =

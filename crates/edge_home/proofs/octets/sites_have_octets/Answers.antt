@@ -4,12 +4,12 @@ use Rattle.mv_base.specs.Address.{addr_octets}
 use Rattle.mv_base.specs.Octets.{IsOctets}
 use Rattle.mv_base.specs.declared.prefix.Prefix.{Prefix}
 use Rattle.scenario_defs.specs.declared.scenario.Site.{Site}
-use Rattle.edge_home.proofs.OctetLemmas.{all_more}
-use Rattle.edge_home.proofs.copying.sites_have_octets.Goals as goal
+use Rattle.std.proofs.lemmas.List.Elements.{All-more}
+use Rattle.edge_home.proofs.octets.sites_have_octets.Goals as goal
 
 pub loop-site-preserved : goal.loop-site-preserved
 loop-site-preserved c =
-    all_more (λ (s : Site). All (λ (p : Prefix). IsOctets (addr_octets p.addr)) s.prefixes) c.args.sites.now c.loop-site.site-index c.site-item.result c.loop-site-test.true c.loop-site.invariant
+    All-more (λ (s : Site). All (λ (p : Prefix). IsOctets (addr_octets p.addr)) s.prefixes) c.args.sites.now c.loop-site.site-index c.site-item.result c.loop-site-test.true c.loop-site.invariant
     (subst (λ (s : Site). All (λ (p : Prefix). IsOctets (addr_octets p.addr)) s.prefixes) c.site-item.is c.site_has_octets.ensures)
 
 pub returns : goal.returns

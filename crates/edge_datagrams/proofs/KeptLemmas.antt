@@ -1,5 +1,5 @@
 -- What is kept of a VRF says where its datagrams go.
-use Rattle.std.proofs.Common.{◌≡◌, ℕ, ◌&&◌, Bool, true, false, cond, is_some, [], Option, Some, None, refl, sym, ap, subst, ◌∙◌}
+use Rattle.std.proofs.Common.{◌≡◌, ℕ, ◌&&◌, Bool, true, false, cond, is_some, [], Option, Some, None, refl, sym, ap, ◌∙◌}
 use Rattle.mv_base.specs.Lists.{Among}
 use Rattle.mv_base.specs.declared.ids.SiteId.{SiteId}
 use Rattle.mv_base.specs.declared.ids.VrfId.{VrfId}
@@ -18,21 +18,17 @@ use Rattle.edge_defs.specs.Upstream.{known_routes}
 use Rattle.edge_defs.proofs.KeyLemmas.{key_total}
 use Rattle.edge_home.specs.Home.{place_of}
 use Rattle.taken_tables.proofs.SpelledLemmas.{octets_key, writable_key}
-use Rattle.calm_laws.proofs.Lists.{among_map}
 use Rattle.calm_laws.proofs.Maps.{entry_get}
-use Rattle.calm_laws.proofs.Vrfs.{one_number}
 use Rattle.edge_words.proofs.Members.{table_of}
 use Rattle.tree_laws.specs.Joined.{has_join, tunnel_for}
-use Rattle.tree_laws.specs.TreeOf.{IsTreeOf}
 use Rattle.tree_laws.specs.Whole.{AreWhole, HaveSpellings}
 use Rattle.tree_laws.proofs.Entering.{entering_branches, entering_outs}
 use Rattle.tree_laws.proofs.Whole.{prefixes_whole}
-use Rattle.control_laws.specs.Control.{Kept, OwnTree, control_of, trees_of}
+use Rattle.control_laws.specs.Control.{Kept, control_of}
 use Rattle.control_laws.specs.Peers.{as_wanted}
-use Rattle.control_laws.proofs.Between.{between_at}
 use Rattle.edge_control.specs.Places.{IsTreeAt}
 use Rattle.edge_control.specs.Sound.{IsSound}
-use Rattle.edge_control.proofs.SoundLemmas.{sound_between, sound_full}
+use Rattle.edge_control.proofs.SoundLemmas.{tree_between}
 use Rattle.edge_datagrams.specs.Datagrams.{AreOfOctets, branches_on, edge_with, tunnel_from}
 
 -- ---- the tunnel
@@ -58,19 +54,11 @@ module _ (kept : Kept) (sound : IsSound kept) (octets : AreOfOctets kept) (walks
   pub are_whole : (own : OwnVrf) → AreWhole (known_routes place control own)
   are_whole own = prefixes_whole place control own sound.home.rules octets.sites have_spellings
 
-  -- the tree of a VRF of the edge
-  tree_is : (vrf : VrfId) (tree : TreeData) (own : OwnVrf) → IsTreeAt kept vrf tree → Among own (own_vrfs place) → own.id ≡ vrf → IsTreeOf place control own (as_wanted tree)
-  tree_is vrf tree own at a e =
-      let other : Among at.it.own (own_vrfs place) = subst (Among at.it.own) (sound_full kept sound).all (among_map (λ (it : OwnTree). it.own) at.it (trees_of kept) at.among) in
-      let same : own ≡ at.it.own = one_number place own at.it.own a other (ap (λ (v : VrfId). v.0) (e ∙ sym at.id)) in
-      subst (λ (t : TreeData). IsTreeOf place control own (as_wanted t)) at.is
-      (subst (λ (o : OwnVrf). IsTreeOf place control o (as_wanted at.it.tree)) (sym same) (between_at kept (sound_between kept sound) walks at.it at.among))
-
   module _ (vrf : VrfId) (tree : TreeData) (own : OwnVrf) (at : IsTreeAt kept vrf tree) (a : Among own (own_vrfs place)) (e : own.id ≡ vrf) (now : ℕ) (site : SiteId) (flow : Flow) (part : LabelData) where
     pub outs_told : outgoing tree.vrf (walks.cost kept.home.me) now flow (origins.Site site) ≡ (entering_fate place now (edge_with kept part) own site flow.source flow.group).outs
-    outs_told = sym (entering_outs place control own (as_wanted tree) (tree_is vrf tree own at a e) flow now site sound.home.rules sound.peers (are_whole own) (edge_with kept part) refl)
+    outs_told = sym (entering_outs place control own (as_wanted tree) (tree_between kept walks vrf tree own sound at a e) flow now site sound.home.rules sound.peers (are_whole own) (edge_with kept part) refl)
 
     pub branches_told : branches_on part (tunnel_from place tree (origins.Site site) flow) ≡ (entering_fate place now (edge_with kept part) own site flow.source flow.group).branches
     branches_told =
         branches_where part (is_from (origins.Site site) (chosen_for tree.vrf.routes (walks.cost kept.home.me) flow)) (has_join tree flow) (tunnel_for place tree flow)
-        ∙ sym (entering_branches place control own (as_wanted tree) (tree_is vrf tree own at a e) flow now site sound.home.rules sound.peers (are_whole own) (edge_with kept part) refl)
+        ∙ sym (entering_branches place control own (as_wanted tree) (tree_between kept walks vrf tree own sound at a e) flow now site sound.home.rules sound.peers (are_whole own) (edge_with kept part) refl)

@@ -39,7 +39,8 @@ use Rattle.edge_joins.specs.Keys.{key_of}
 use Rattle.edge_joins.specs.Upstreams.{HaveIpv4Imports, import_at, remote_by}
 use Rattle.edge_joins.proofs.ImportLemmas.{value_by, values_told}
 
-one_by_one : (place : EdgePlace) (control : Control) (its : List OwnTree) → AllByRecursion (λ (it : OwnTree). IsTreeOf place control it.own it.tree) its
+-- each tree is that of its VRF, and so the trees are those of the VRFs
+pub one_by_one : (place : EdgePlace) (control : Control) (its : List OwnTree) → AllByRecursion (λ (it : OwnTree). IsTreeOf place control it.own it.tree) its
     → AreTreesOf place control (map (λ (it : OwnTree). it.own) its) (map (λ (it : OwnTree). it.tree) its)
 one_by_one place control [] h = tt
 one_by_one place control (it ∷ its) h = (h.0, one_by_one place control its h.1)

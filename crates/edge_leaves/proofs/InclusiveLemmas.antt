@@ -1,11 +1,8 @@
 -- Looking through the table of a tunnel's root says whether a VRF imports an inclusive route of the tunnel.
-use Rattle.std.proofs.Common.{◌≡◌, ◌↔◌, ℕ, ◌+◌, ◌<◌, ◌&&◌, ◌||◌, Bool, true, false, List, [], ◌∷◌, map, take, get_or, length, Option, Some, None, refl, sym, ap, subst, ◌∙◌}
+use Rattle.std.proofs.Common.{◌≡◌, ◌↔◌, ℕ, ◌+◌, ◌<◌, ◌||◌, Bool, true, false, List, [], ◌∷◌, map, take, get_or, length, Option, Some, None, refl, sym, ap, subst, ◌∙◌}
 use Rattle.std.specs.List.{list_any}
 use Rattle.std.specs.FinMap as maps
-use Rattle.std.proofs.lemmas.Bool.{and_parts}
 use Rattle.std.proofs.lemmas.List.Folds.{list_any_at, list_any_more}
-use Rattle.std.proofs.lemmas.Option.{cond_some}
-use Rattle.mv_base.specs.Address.{same_addr, same_addr_equal}
 use Rattle.mv_base.specs.Number.{◌>>?◌, only_if}
 use Rattle.mv_base.specs.declared.addr.Addr.{Addr}
 use Rattle.mv_base.specs.declared.ids.NodeId.{NodeId}
@@ -15,8 +12,7 @@ use Rattle.bgp_attributes.specs.declared.key.Key.{Key}
 use Rattle.label_defs.proofs.KeyLemmas.{same_fec_equal, same_fec_from}
 use Rattle.edge_defs.specs.Datagrams.{is_tunnel}
 use Rattle.edge_defs.specs.Edge.{Control, TakenRoute}
-use Rattle.edge_defs.specs.Imported.{imported_inclusive, inclusive_of, is_admitted, lsp_of, taken_from, tunnel_by}
-use Rattle.edge_defs.specs.Keys.{Value}
+use Rattle.edge_defs.specs.Imported.{imported_inclusive, inclusive_of, is_admitted, taken_from, tunnel_by}
 use Rattle.edge_defs.specs.Place.{EdgePlace, OwnVrf, addr_of, node_with, own_vrfs}
 use Rattle.edge_defs.proofs.KeyLemmas.{key_exact, key_total}
 use Rattle.edge_home.specs.Home.{AreOwn, as_own, place_of}
@@ -27,6 +23,7 @@ use Rattle.calm_laws.proofs.Upstreams.{chained}
 use Rattle.edge_words.specs.Leaf.{IsInclusive}
 use Rattle.edge_words.proofs.Known.{one_node}
 use Rattle.tree_laws.specs.Imports.{imports_inclusive}
+use Rattle.tree_laws.proofs.Leaving.{root_by}
 use Rattle.control_laws.specs.Control.{Kept, control_of}
 use Rattle.edge_control.specs.Sound.{IsSound}
 use Rattle.edge_datagrams.proofs.CoreLemmas.{taken_node}
@@ -40,12 +37,6 @@ tunnel_is fec (Some own) h = ap (λ (f : Fec). Some f) (same_fec_equal own fec h
 
 is_it : (fec : Fec) (o : Option Fec) → o ≡ Some fec → is_tunnel fec o ≡ true
 is_it fec o h = ap (is_tunnel fec) h ∙ same_fec_from fec fec refl
-
-root_by : (peer originator : Addr) (value : Value) (fec : Fec) → tunnel_by peer originator value ≡ Some fec → fec.root ≡ peer
-root_by peer originator value fec h =
-    let first = chained (lsp_of value.pmsi) (λ (own : Fec). only_if (same_addr own.root peer && same_addr originator peer) own) fec h in
-    let passed = cond_some (same_addr first.0.root peer && same_addr originator peer) first.0 fec first.2 in
-    ap (λ (f : Fec). f.root) (sym passed.1) ∙ same_addr_equal first.0.root peer (and_parts (same_addr first.0.root peer) (same_addr originator peer) passed.0).0
 
 -- an inclusive route is one of the peer that is the tunnel's root
 inclusive_root : (own : OwnVrf) (addr : Addr) (key : Key) (route : TakenRoute) (fec : Fec) → imported_inclusive own.vrf addr (key, route) ≡ Some fec → fec.root ≡ addr

@@ -1,5 +1,5 @@
 -- The rest of a step of each VRF, behind the effect of the call itself.
-use Rattle.std.proofs.Common.{◌≡◌, ◌↔◌, ◌⊎◌, ◌++◌, ℕ, Bool, true, false, cond, List, [], Option, None, Some, is_some, refl, sym, ap, subst, ◌∙◌}
+use Rattle.std.proofs.Common.{◌≡◌, ◌↔◌, ◌++◌, ℕ, Bool, true, false, cond, List, is_some, sym, ap, subst, subst₂, ◌∙◌}
 use Rattle.std.specs.List.{list_any}
 use Rattle.std.specs.FinMap as maps
 use Rattle.std.specs.FinSet as sets
@@ -11,33 +11,32 @@ use Rattle.mldp_fec.specs.declared.fec.Fec.{Fec}
 use Rattle.label_defs.specs.LabelData.{same_fec}
 use Rattle.edge_defs.specs.Edge.{Control}
 use Rattle.edge_defs.specs.Held.{put_to}
-use Rattle.edge_defs.specs.Place.{EdgePlace, own_vrfs}
+use Rattle.edge_defs.specs.Place.{own_vrfs}
 use Rattle.edge_defs.specs.Steps.{Call, control_step, effect, is_vrf_step, refreshed}
 use Rattle.edge_defs.specs.Tunnels.{leaves}
 use Rattle.edge_words.specs.Leaf.{IsInclusive}
 use Rattle.edge_home.specs.Home.{Home, peers_of, place_of}
-use Rattle.edge_tables.specs.Tables.{EachPeer, PeerTable, Tables, put_behind, texts, waiting_at}
+use Rattle.edge_tables.specs.Tables.{EachPeer, Tables, put_behind, texts, waiting_at}
 use Rattle.held_tables.specs.Holding.{AreToldAlike, HoldAll}
 use Rattle.tree_laws.specs.Joins.{AreOfVrfs}
 use Rattle.tree_laws.specs.Wanting.{AreTreesOf}
 use Rattle.tree_laws.proofs.Refreshed.{flows_of_vrfs}
-use Rattle.control_laws.specs.Control.{AreTrees, Kept, control_of}
+use Rattle.control_laws.specs.Control.{AreTrees, Kept, control_of, trees_of}
 use Rattle.edge_control.specs.Refreshing.{AreTold}
-use Rattle.edge_control.specs.Sound.{wants_of}
 use Rattle.group_laws.specs.Groups.{HaveGroups}
-use Rattle.edge_updates.specs.Inclusive.{AreTunnels}
+use Rattle.edge_joins.proofs.TreeLemmas.{one_by_one}
 use Rattle.edge_labels.specs.Changes.{AreCandidates}
 use Rattle.node_laws.specs.Waits.{kept_for}
 use Rattle.edge_routing.specs.declared.routing.EdgeRouting.{EdgeRouting}
 use Rattle.edge_routing.specs.declared.routing.LeafCandidates.{LeafCandidates}
 use Rattle.edge_routing.specs.Routing.{AreBetween, HasRefreshed, IsInStep, IsOnWay, IsRefreshedTo, IsStepped}
-use Rattle.edge_routing.proofs.Between.{holds, put_between, put_keys, put_waits, same_keys, same_waiting, still_between, told_at}
-use Rattle.edge_routing.proofs.Leaves.{neither, same_leaf, same_wants, trees_are}
+use Rattle.edge_routing.proofs.Between.{holds, put_between, put_keys, put_waits, same_keys, same_waiting, still_between}
+use Rattle.edge_routing.proofs.Leaves.{neither, same_leaf, same_wants}
 
 -- ---- trees
 
 pub kept_trees : (kept : Kept) (core : Core) → AreTrees kept → AreTreesOf (place_of kept.home core) (control_of kept) (own_vrfs (place_of kept.home core)) kept.trees
-kept_trees kept core are = trees_are (place_of kept.home core) (control_of kept) (own_vrfs (place_of kept.home core)) kept.trees (are.each core) are.full are.all
+kept_trees kept core are = subst₂ (AreTreesOf (place_of kept.home core) (control_of kept)) are.all are.full (one_by_one (place_of kept.home core) (control_of kept) (trees_of kept) (are.each core))
 
 -- ---- what is kept behind a refresh
 

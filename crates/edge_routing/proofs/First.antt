@@ -1,5 +1,5 @@
 -- Tables before anything has happened.
-use Rattle.std.proofs.Common.{◌≡◌, ◌↔◌, ◌⊎◌, inl, inr, Bool, true, false, cond, List, [], ◌∷◌, map, Option, None, Some, is_some, refl, sym, ap, subst, ◌∙◌}
+use Rattle.std.proofs.Common.{◌≡◌, ◌↔◌, inl, inr, Bool, true, false, cond, List, [], ◌∷◌, map, Option, None, Some, is_some, refl, sym, ap, subst, ◌∙◌}
 use Rattle.std.specs.Ordering.{eq_by_cmp}
 use Rattle.std.specs.FinMap as maps
 use Rattle.std.specs.FinMap.Entries.{find}
@@ -9,10 +9,10 @@ use Rattle.core_walks.specs.Core.{Core}
 use Rattle.table_laws.proofs.CompareLemmas.{one_key, own_key}
 use Rattle.label_defs.specs.Keys.{node_cmp}
 use Rattle.label_defs.proofs.KeyLemmas.{node_cmp_exact, node_cmp_total}
-use Rattle.edge_defs.specs.Edge.{Control, VrfFlow, flow_cmp, no_control}
+use Rattle.edge_defs.specs.Edge.{Control, flow_cmp, no_control}
 use Rattle.edge_defs.specs.Held.{told}
 use Rattle.edge_defs.specs.Place.{EdgePlace}
-use Rattle.edge_home.specs.Home.{Home, peers_of, place_of}
+use Rattle.edge_home.specs.Home.{peers_of, place_of}
 use Rattle.edge_tables.specs.Tables.{PeerTable, Tables, fresh, waiting_at, waiting_of}
 use Rattle.held_tables.specs.Holding.{AreToldAlike, HoldAll}
 use Rattle.held_tables.specs.Starting.{AreEmpty}

@@ -8,8 +8,7 @@ use Rattle.mv_base.specs.Lists.{Among}
 use Rattle.mv_base.specs.declared.addr.Addr.{Addr}
 use Rattle.mvpn_nlri.specs.Spelling.{IsGroup}
 use Rattle.bgp_update.specs.Written.{afi_of}
-use Rattle.core_walks.specs.Core.{Core, IsCoreOf}
-use Rattle.core_walks.specs.Topology.{Topology}
+use Rattle.core_walks.specs.Core.{Core}
 use Rattle.vrf_trees.specs.declared.changes.TreeJoin.{TreeJoin}
 use Rattle.edge_defs.specs.Edge.{Control, Remote, Site, Upstream, VrfFlow, flow_cmp}
 use Rattle.edge_defs.specs.Steps.{refreshed}
@@ -17,7 +16,7 @@ use Rattle.edge_home.specs.Home.{place_of}
 use Rattle.control_laws.specs.Control.{Kept, control_of}
 use Rattle.edge_control.specs.Refreshing.{AreChanged, join_at}
 use Rattle.edge_control.specs.Sound.{IsSound}
-use Rattle.group_laws.specs.Groups.{HaveGroups, IsFlow}
+use Rattle.group_laws.specs.Groups.{HaveGroups}
 use Rattle.group_laws.proofs.Refreshes.{refreshed_groups}
 use Rattle.edge_home.specs.Home.{Home}
 use Rattle.edge_tables.specs.Tables.{Tables}

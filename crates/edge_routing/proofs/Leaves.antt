@@ -1,7 +1,7 @@
 -- Of which trees an edge is to be a leaf before and behind a step.
-use Rattle.std.proofs.Common.{◌≡◌, ◌↔◌, ◌⊎◌, ◌++◌, ◌||◌, inl, inr, Bool, true, false, List, [], ◌∷◌, map, refl, sym, ap, subst, ◌∙◌}
+use Rattle.std.proofs.Common.{◌≡◌, ◌↔◌, ◌++◌, ◌||◌, inl, inr, Bool, true, false, List, [], ◌∷◌, refl, sym, ap, subst, ◌∙◌}
 use Rattle.std.specs.Cmp.{both_ways}
-use Rattle.std.specs.List.{AllByRecursion, list_any}
+use Rattle.std.specs.List.{list_any}
 use Rattle.std.specs.FinSet as sets
 use Rattle.std.specs.FinSet.{FinSet}
 use Rattle.std.proofs.lemmas.List.Folds.{list_any-append}
@@ -12,27 +12,13 @@ use Rattle.label_defs.specs.Keys.{fec_cmp}
 use Rattle.label_defs.specs.LabelData.{same_fec}
 use Rattle.tree_defs.specs.Trees.{TreeData}
 use Rattle.edge_defs.specs.Edge.{Control}
-use Rattle.edge_defs.specs.Place.{EdgePlace, OwnVrf, own_vrfs}
+use Rattle.edge_defs.specs.Place.{EdgePlace, own_vrfs}
 use Rattle.edge_defs.specs.Tunnels.{leaves}
 use Rattle.edge_words.specs.Leaf.{IsInclusive}
-use Rattle.tree_laws.specs.TreeOf.{IsTreeOf}
 use Rattle.tree_laws.specs.Wanting.{AreTreesOf, IsWantedIn}
 use Rattle.tree_laws.proofs.Wanting.{leaves_are}
-use Rattle.control_laws.specs.Control.{OwnTree, own_trees}
+use Rattle.control_laws.specs.Control.{own_trees}
 use Rattle.edge_control.specs.Sound.{wants_of}
-
--- ---- the trees of the VRFs
-
-same_tail : {X : Type 0} (x y : X) (xs ys : List X) → x ∷ xs ≡ y ∷ ys → xs ≡ ys
-same_tail x y xs ys e = cc
-
-pub trees_are : (place : EdgePlace) (control : Control) (owns : List OwnVrf) (trees : List TreeData) → AllByRecursion (λ it. IsTreeOf place control it.own it.tree) (own_trees owns trees)
-    → map (λ (it : OwnTree). it.tree) (own_trees owns trees) ≡ trees → map (λ (it : OwnTree). it.own) (own_trees owns trees) ≡ owns → AreTreesOf place control owns trees
-trees_are place control [] [] each full all = tt
-trees_are place control [] (tree ∷ trees) each full all = absurd cc
-trees_are place control (own ∷ owns) [] each full all = absurd cc
-trees_are place control (own ∷ owns) (tree ∷ trees) each full all =
-    (each.0, trees_are place control owns trees each.1 (same_tail tree tree _ trees full) (same_tail own own _ owns all))
 
 -- ---- what they want
 

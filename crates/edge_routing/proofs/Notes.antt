@@ -1,12 +1,11 @@
 -- The notes of a source and a group at the interfaces of a VRF, and what peers are to have behind the end of one.
-use Rattle.std.proofs.Common.{◌≡◌, ◌&&◌, Bool, true, false, not, sym, ap, subst, ◌∙◌}
+use Rattle.std.proofs.Common.{◌≡◌, ◌&&◌, Bool, true, false, not, refl, sym, ap, subst, ◌∙◌}
 use Rattle.std.specs.Ordering.{eq_by_cmp}
 use Rattle.std.specs.FinSet as sets
 use Rattle.std.proofs.lemmas.Bool.{and_parts, and_from}
 use Rattle.mv_base.specs.Lists.{Among}
 use Rattle.mv_base.specs.declared.addr.Addr.{Addr}
 use Rattle.mv_base.specs.declared.ids.IfaceId.{IfaceId}
-use Rattle.mv_base.specs.declared.ids.VrfId.{VrfId}
 use Rattle.core_walks.specs.Core.{Core}
 use Rattle.scenario_defs.specs.Rules.{Rules}
 use Rattle.table_laws.proofs.CompareLemmas.{own_key, other_key}
@@ -24,31 +23,17 @@ use Rattle.edge_defs.proofs.KeyLemmas.{note_total, note_exact}
 use Rattle.edge_home.specs.Home.{Home, as_own, place_of}
 use Rattle.edge_home.specs.declared.own_vrf.OwnVrf as homes
 use Rattle.edge_tables.specs.Tables.{Tables}
-use Rattle.calm_laws.proofs.Lists.{among_map, any_among, any_from, not_both}
-use Rattle.calm_laws.proofs.Vrfs.{one_number}
+use Rattle.calm_laws.proofs.Lists.{any_among, any_from, not_both}
 use Rattle.held_laws.specs.Held.{IsNotedBeside, note_of, without_note}
 use Rattle.held_laws.proofs.Calls.{unnoted_beside}
 use Rattle.tree_laws.specs.TreeOf.{IsTreeOf, edge_note}
 use Rattle.tree_laws.proofs.Asking.{contained_item, item_contained}
-use Rattle.control_laws.specs.Control.{Kept, OwnTree, control_of, trees_of}
+use Rattle.control_laws.specs.Control.{Kept, control_of}
 use Rattle.control_laws.specs.Peers.{as_wanted}
-use Rattle.control_laws.proofs.Between.{between_at}
 use Rattle.edge_control.specs.Places.{IsTreeAt}
 use Rattle.edge_control.specs.Sound.{IsSound}
-use Rattle.edge_control.proofs.SoundLemmas.{sound_between, sound_full}
+use Rattle.edge_control.proofs.SoundLemmas.{tree_between}
 use Rattle.held_tables.specs.Holding.{HoldAll}
-
--- ---- the tree of a VRF
-
--- what is kept of the VRF between two refreshes
-tree_is : (kept : Kept) (core : Core) (own : OwnVrf) (tree : TreeData) → IsSound kept → IsTreeAt kept own.id tree → Among own (own_vrfs (place_of kept.home core))
-    → IsTreeOf (place_of kept.home core) (control_of kept) own (as_wanted tree)
-tree_is kept core own tree sound at a =
-    let place = place_of kept.home core in
-    let other : Among at.it.own (own_vrfs place) = subst (Among at.it.own) (sound_full kept sound).all (among_map (λ (it : OwnTree). it.own) at.it (trees_of kept) at.among) in
-    let same : own ≡ at.it.own = one_number place own at.it.own a other (ap (λ (v : VrfId). v.0) (sym at.id)) in
-    subst (λ (t : TreeData). IsTreeOf place (control_of kept) own (as_wanted t)) at.is
-    (subst (λ (o : OwnVrf). IsTreeOf place (control_of kept) o (as_wanted at.it.tree)) (sym same) (between_at kept (sound_between kept sound) core at.it at.among))
 
 -- ---- notes behind the end of one
 
@@ -118,7 +103,7 @@ module _ (kept : Kept) (shown : Home) (own : homes.OwnVrf) (tree : TreeData) (sa
   own_among = subst (λ (h : Home). Among (as_own own) (own_vrfs (place_of h walks))) same (among walks)
 
   tree_of_own : IsTreeOf place (control_of kept) (as_own own) (as_wanted tree)
-  tree_of_own = tree_is kept walks (as_own own) tree sound at own_among
+  tree_of_own = tree_between kept walks (as_own own).id tree (as_own own) sound at own_among refl
 
   pub held_still : is_noted tree.vrf.notes (record { source = source; group = group }) ≡ true → (tables : Tables) → HoldAll place old tables → HoldAll place (control_of kept) tables
   held_still h tables hold =

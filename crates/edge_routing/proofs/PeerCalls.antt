@@ -1,5 +1,5 @@
 -- What the calls of peers make before flows are refreshed.
-use Rattle.std.proofs.Common.{option_map, ◌≡◌, ◌≢◌, ◌⊎◌, inl, inr, ℕ, Bool, true, false, cond, List, [], Option, None, Some, is_some, refl, sym, ap, subst, ◌∙◌}
+use Rattle.std.proofs.Common.{option_map, ◌≡◌, ◌≢◌, inl, inr, ℕ, Bool, true, false, cond, List, [], Option, None, Some, is_some, refl, sym, ap, subst, ◌∙◌}
 use Rattle.std.specs.Ordering.{eq_by_cmp}
 use Rattle.std.specs.List.{fold}
 use Rattle.std.specs.FinMap as maps
@@ -23,7 +23,6 @@ use Rattle.edge_defs.specs.Steps.{Call, Noticed, Raised, Rerouted, Timers, Updat
 use Rattle.edge_laws.proofs.Taken.{get-peers_run, table_in, table_run}
 use Rattle.edge_home.specs.Home.{Home, peers_of, place_of}
 use Rattle.edge_tables.specs.Tables.{AtPeer, Both, IsBetween, PeerTable, Tables, downed, raised, waiting_at, waiting_of}
-use Rattle.held_tables.specs.Holding.{AreToldAlike, HoldAll}
 use Rattle.held_tables.proofs.RunLemmas.{held_run}
 use Rattle.tree_laws.specs.Joins.{AreOfVrfs}
 use Rattle.control_laws.specs.Control.{Kept, control_of}
@@ -31,7 +30,7 @@ use Rattle.control_laws.proofs.PeersTimers.{with_run}
 use Rattle.edge_control.specs.Sound.{wants_of}
 use Rattle.edge_joins.proofs.TurnLemmas.{all_alike}
 use Rattle.edge_updates.specs.Changed.{changed_by}
-use Rattle.edge_updates.specs.Inclusive.{AreTunnels, HasAllFrom, IsInclusiveFrom}
+use Rattle.edge_updates.specs.Inclusive.{AreTunnels, HasAllFrom}
 use Rattle.edge_updates.proofs.TakenLemmas.{update_is}
 use Rattle.edge_updates.proofs.TunnelLemmas.{alike_tunnels, lost_tunnels, raised_tunnels, run_tunnels}
 use Rattle.group_laws.specs.Groups.{HaveGroups, IsAllowed}

@@ -87,7 +87,7 @@ module _ {K V X : Type 0} {R : K → K → Ordering} (total : IsTotalOrder R) (e
 
 -- ---- the root of a tunnel
 
-root_by : (peer originator : Addr) (value : Value) (fec : Fec) → tunnel_by peer originator value ≡ Some fec → fec.root ≡ peer
+pub root_by : (peer originator : Addr) (value : Value) (fec : Fec) → tunnel_by peer originator value ≡ Some fec → fec.root ≡ peer
 root_by peer originator value fec h =
     let first = chained (lsp_of value.pmsi) (λ (own : Fec). only_if (same_addr own.root peer && same_addr originator peer) own) fec h in
     let passed = cond_some (same_addr first.0.root peer && same_addr originator peer) first.0 fec first.2 in

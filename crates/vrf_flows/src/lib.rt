@@ -10,5 +10,5 @@ mod sight;
 mod state;
 
 pub use flows::VrfFlows;
-pub use plan::Joins;
+pub use plan::{Joins, put};
 pub use state::FlowChanges;

@@ -43,15 +43,19 @@ fn replan(
     }
 }
 
-/// Puts a flow into the plan, where there is something to put.
-fn put(plan: &mut Plan, flow: Flow, next: Option<Option<Kept>>) -> Result<(), NoMemory>
-    requires unique { IsUnique same_flow plan.old }
-    ensures each { (q : Flow) → OnOk result (get same_flow plan.new q ≡ put_at (same_flow flow q) next (get same_flow plan.old q)) }
-    ensures unique { IsUnique same_flow plan.new }
+/// Puts at the flow what there is to put, if anything.
+pub fn put<T: Drop>(
+    map: &mut IndexMap<Flow, T>,
+    flow: Flow,
+    next: Option<T>,
+) -> Result<(), NoMemory>
+    requires unique { IsUnique same_flow map.old }
+    ensures each { (q : Flow) → OnOk result (get same_flow map.new q ≡ put_at (same_flow flow q) next (get same_flow map.old q)) }
+    ensures unique { IsUnique same_flow map.new }
 {
     match next {
         Some(next) => {
-            plan.insert(flow, next)?;
+            map.insert(flow, next)?;
             Ok(())
         }
         None => Ok(()),
@@ -155,21 +159,6 @@ pub(crate) fn joined_before(flows: &FlowTable, flow: &Flow) -> Option<Upstream>
     }
 }
 
-/// Puts an edge, where there is one.
-fn put_join(joins: &mut Joins, flow: Flow, edge: Option<Upstream>) -> Result<(), NoMemory>
-    requires unique { IsUnique same_flow joins.old }
-    ensures each { (q : Flow) → OnOk result (get same_flow joins.new q ≡ put_at (same_flow flow q) edge (get same_flow joins.old q)) }
-    ensures unique { IsUnique same_flow joins.new }
-{
-    match edge {
-        Some(edge) => {
-            joins.insert(flow, edge)?;
-            Ok(())
-        }
-        None => Ok(()),
-    }
-}
-
 /// The edges that are joined.
 pub(crate) fn joins_of(alloc: Global, flows: &FlowTable, plan: &Plan) -> Result<Joins, NoMemory>
     requires unique { IsUnique same_flow plan.now }
@@ -179,7 +168,7 @@ pub(crate) fn joins_of(alloc: Global, flows: &FlowTable, plan: &Plan) -> Result<
     let mut joins = IndexMap::new(alloc);
     for (flow, now) in plan.iter() {
         let before = joined_before(flows, flow);
-        put_join(&mut joins, *flow, gained(before, joined_by(now)))?;
+        put(&mut joins, *flow, gained(before, joined_by(now)))?;
     }
     Ok(joins)
 }
@@ -194,7 +183,7 @@ pub(crate) fn leaves_of(alloc: Global, flows: &FlowTable, plan: &Plan) -> Result
     let mut leaves = IndexMap::new(alloc);
     for (flow, now) in plan.iter() {
         let before = joined_before(flows, flow);
-        put_join(&mut leaves, *flow, gained(joined_by(now), before))?;
+        put(&mut leaves, *flow, gained(joined_by(now), before))?;
     }
     Ok(leaves)
 }

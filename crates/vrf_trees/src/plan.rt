@@ -13,7 +13,7 @@ use mv_base::NoMemory;
 use selective::LeafTunnels;
 use std::alloc::Global;
 use tree_defs::{Flow, Upstream};
-use vrf_flows::Joins;
+use vrf_flows::{Joins, put};
 
 /// Flows, each with what it wants from now on; `None` where its upstream is no other edge any more.
 pub(crate) type Plan = IndexMap<Flow, Option<Wants>>;
@@ -31,21 +31,6 @@ fn renewal(
         Ok(Some(Some(wants_of(alloc, leaf, held.edge, flow)?)))
     } else {
         Ok(None)
-    }
-}
-
-/// Puts a flow into the plan, where there is something to put.
-fn put(plan: &mut Plan, flow: Flow, next: Option<Option<Wants>>) -> Result<(), NoMemory>
-    requires unique { IsUnique same_flow plan.old }
-    ensures each { (q : Flow) → OnOk result (get same_flow plan.new q ≡ put_at (same_flow flow q) next (get same_flow plan.old q)) }
-    ensures unique { IsUnique same_flow plan.new }
-{
-    match next {
-        Some(next) => {
-            plan.insert(flow, next)?;
-            Ok(())
-        }
-        None => Ok(()),
     }
 }
 

@@ -4,7 +4,8 @@ ghost use Rattle.session_defs.specs.Octets.{Call};
 ghost use Rattle.edge_defs.specs.Steps.{Timers};
 ghost use Rattle.network_defs.specs.System.{Follow, Own};
 ghost use Rattle.network_nodes.specs.Edges.{IsOneOf};
-ghost use Rattle.control_plane.specs.Acted.{Acts, HandsOutAt, IsCurrent, IsSome, IsSomeMidway, IsWithin, Settles, no_lines, same_moment, with_current};
+ghost use Rattle.control_plane.specs.Acted.{Acts, HandsOutAt, IsCurrent, IsSome, IsSomeMidway};
+ghost use Rattle.control_plane.specs.Acted.{IsWithin, Settles, no_lines, same_moment, with_current};
 
 use crate::handing;
 use crate::plane::{ControlPlane, halt_of};

@@ -9,7 +9,8 @@ ghost use Rattle.network_laws.specs.Sound.{IsFlow, SoundPattern};
 ghost use Rattle.network_nodes.specs.Edges.{IsOneOf};
 ghost use Rattle.network_nodes.specs.Faults as faults;
 ghost use Rattle.control_plane.specs.Acted.{Acts, IsSome, IsSomeMidway, no_lines, same_moment};
-ghost use Rattle.control_plane.specs.Customers.{CustomerActs, IsIfaceEdge, IsMessageTo, IsUnselected, IsVrfEdge, SettlesCustomer, is_message_full, is_note_full, is_selection_full};
+ghost use Rattle.control_plane.specs.Customers.{CustomerActs, IsIfaceEdge, IsMessageTo, IsUnselected};
+ghost use Rattle.control_plane.specs.Customers.{IsVrfEdge, SettlesCustomer, is_message_full, is_note_full, is_selection_full};
 
 use crate::plane::ControlPlane;
 use mldp_node::NodeFault;
@@ -57,7 +58,8 @@ impl ControlPlane {
     ) -> Result<Verdict, NodeFault>
         requires plane { IsSome (IsMessageTo n iface bytes.now) self.old }
         ensures { (message : JoinPrune) → decoded bytes.now ≡ Ok message →
-            CustomerActs (IsMessageTo n iface bytes.now) n (Pim iface message) (is_message_full n iface message) self.old self.new lines.old lines.new result }
+            CustomerActs (IsMessageTo n iface bytes.now) n (Pim iface message) (is_message_full n iface message)
+            self.old self.new lines.old lines.new result }
     {
         let answer = self.nodes[usize::from(n.0)].take_pim(iface, bytes, self.clock, &self.core);
         self.settle_customer(n, answer, lines)
@@ -74,7 +76,8 @@ impl ControlPlane {
     ) -> Result<Verdict, NodeFault>
         requires plane { IsSome (IsIfaceEdge n iface) self.old }
         requires flow { IsFlow source group }
-        ensures { CustomerActs (IsIfaceEdge n iface) n (Active iface source group) (is_note_full n (record { iface = iface; source = source; group = group })) self.old self.new lines.old lines.new result }
+        ensures { CustomerActs (IsIfaceEdge n iface) n (Active iface source group)
+            (is_note_full n (record { iface = iface; source = source; group = group })) self.old self.new lines.old lines.new result }
     {
         let answer = self.nodes[usize::from(n.0)].active(
             iface, source, group, self.clock, &self.core,
@@ -93,7 +96,8 @@ impl ControlPlane {
     ) -> Result<(), NodeFault>
         requires plane { IsSome (IsIfaceEdge n iface) self.old }
         requires flow { IsFlow source group }
-        ensures { Acts (IsIfaceEdge n iface) same_moment (Call (Own n (Idle iface source group)) ∷ []) no_lines self.old self.new lines.old lines.new result }
+        ensures { Acts (IsIfaceEdge n iface) same_moment (Call (Own n (Idle iface source group)) ∷ []) no_lines
+            self.old self.new lines.old lines.new result }
     {
         let answer = self.nodes[usize::from(n.0)].idle(
             iface, source, group, self.clock, &self.core,
@@ -111,7 +115,8 @@ impl ControlPlane {
     ) -> Result<Verdict, NodeFault>
         requires plane { IsSome (IsUnselected n vrf pattern) self.old }
         requires pattern { SoundPattern pattern }
-        ensures { CustomerActs (IsUnselected n vrf pattern) n (Select vrf pattern) (is_selection_full n) self.old self.new lines.old lines.new result }
+        ensures { CustomerActs (IsUnselected n vrf pattern) n (Select vrf pattern) (is_selection_full n)
+            self.old self.new lines.old lines.new result }
     {
         let answer = self.nodes[usize::from(n.0)].select(vrf, pattern, self.clock);
         self.settle_customer(n, answer, lines)
@@ -127,7 +132,8 @@ impl ControlPlane {
     ) -> Result<(), NodeFault>
         requires plane { IsSome (IsVrfEdge n vrf) self.old }
         requires pattern { SoundPattern pattern }
-        ensures { Acts (IsVrfEdge n vrf) same_moment (Call (Own n (Unselect vrf pattern)) ∷ []) no_lines self.old self.new lines.old lines.new result }
+        ensures { Acts (IsVrfEdge n vrf) same_moment (Call (Own n (Unselect vrf pattern)) ∷ []) no_lines
+            self.old self.new lines.old lines.new result }
     {
         let answer = self.nodes[usize::from(n.0)].unselect(vrf, pattern);
         self.settle(n, answer, lines)

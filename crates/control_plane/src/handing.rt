@@ -23,7 +23,8 @@ fn hand_over(
 ) -> Result<(), NoMemory>
     requires peer { MayBePeer node.old way.kind way.to }
     requires unspent { spent_in node.old ≡ None }
-    ensures handed { OnOk result ((state : AnyNode) → IsNode state node.old → HandsOut (way ∷ []) state node.new transit.old transit.new lines.old lines.new) }
+    ensures handed { OnOk result ((state : AnyNode) → IsNode state node.old →
+        HandsOut (way ∷ []) state node.new transit.old transit.new lines.old lines.new) }
     ensures unspent { spent_in node.new ≡ None }
     ensures peers { (other : Direction) → MayBePeer node.old other.kind other.to → MayBePeer node.new other.kind other.to }
     ensures placed { (scenario : Scenario) (n : NodeId) → IsPlacedAt scenario n node.old → IsPlacedAt scenario n node.new }
@@ -50,7 +51,8 @@ pub(crate) fn hand_out(
 ) -> Result<(), NoMemory>
     requires peers { (over : Direction) → Among over ways.now → MayBePeer node.old over.kind over.to }
     requires unspent { spent_in node.old ≡ None }
-    ensures handed { OnOk result ((state : AnyNode) → IsNode state node.old → HandsOut ways.now state node.new transit.old transit.new lines.old lines.new) }
+    ensures handed { OnOk result ((state : AnyNode) → IsNode state node.old →
+        HandsOut ways.now state node.new transit.old transit.new lines.old lines.new) }
     ensures unspent { spent_in node.new ≡ None }
     ensures placed { (scenario : Scenario) (n : NodeId) → IsPlacedAt scenario n node.old → IsPlacedAt scenario n node.new }
 {

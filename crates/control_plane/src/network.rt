@@ -24,7 +24,8 @@ impl ControlPlane {
     /// The link between the two nodes costs so much from now on. Each node has yet to act on it.
     pub fn set_cost(&mut self, a: NodeId, b: NodeId, cost: u32) -> Result<(), NoMemory>
         requires cost { (1 ≤ cost) × (cost ≤ 65535) }
-        ensures set { OnOk result ((at : Standing) → IsIn at self.old → Passes at (Call (Price a b cost) ∷ []) (all_late at.moment) self.new) }
+        ensures set { OnOk result ((at : Standing) → IsIn at self.old →
+            Passes at (Call (Price a b cost) ∷ []) (all_late at.moment) self.new) }
         ensures unchanged { OnErr result (self.new ≡ self.old) }
     {
         self.core.set_cost(a, b, cost)

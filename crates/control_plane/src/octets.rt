@@ -62,7 +62,8 @@ impl ControlPlane {
         lines: &mut Lines,
     ) -> Result<(), NodeFault>
         requires plane { IsSome (IsMovable over) self.old }
-        ensures { Acts (IsMovable over) same_moment (Move over count ∷ []) (taken_line over count) self.old self.new lines.old lines.new result }
+        ensures { Acts (IsMovable over) same_moment (Move over count ∷ []) (taken_line over count)
+            self.old self.new lines.old lines.new result }
     {
         let bytes = self.transit.take(over, count)?;
         let answer = self.nodes[usize::from(over.to.0)].take(

@@ -122,7 +122,8 @@ impl ControlPlane {
 
     /// How many timers are due, or the greatest number of 64 bits where there are more.
     pub fn due(&self) -> u64
-        ensures { (at : Standing) → IsIn at self.now → result ≡ min (sum_by (node_due at.network.state) (all_nodes at.scenario)) 18446744073709551615 }
+        ensures { (at : Standing) → IsIn at self.now →
+            result ≡ min (sum_by (node_due at.network.state) (all_nodes at.scenario)) 18446744073709551615 }
     {
         let mut count: u64 = 0;
         for node in self.nodes.as_slice() {
@@ -155,7 +156,8 @@ impl ControlPlane {
     pub fn unready(&self, sessions: &[Session]) -> u64
         requires plane { IsSome (HaveEnds sessions.now) self.now }
         ensures { (at : Standing) → HaveEnds sessions.now at → IsIn at self.now →
-            result ≡ min (count_by (λ session. not (counts.is_ready (without_copies at.network) session)) sessions.now) 18446744073709551615 }
+            result ≡ min (count_by (λ session. not (counts.is_ready (without_copies at.network) session)) sessions.now)
+            18446744073709551615 }
     {
         let mut count: u64 = 0;
         for session in sessions {
@@ -176,7 +178,8 @@ impl ControlPlane {
         datagram: &Datagram<'_>,
     ) -> Result<Fate, NoMemory>
         requires plane { IsSome (IsEdgeOf vrf n) self.now }
-        ensures { (at : Standing) → (own : IsEdgeOf vrf n at) → IsIn at self.now → (edge : EdgeData) → at.network.state.node n ≡ world.Edge edge →
+        ensures { (at : Standing) → (own : IsEdgeOf vrf n at) → IsIn at self.now → (edge : EdgeData) →
+            at.network.state.node n ≡ world.Edge edge →
             IfOk result (IsFate (entering_fate (place_of at.network.state n) at.network.state.clock edge
             (record { id = vrf; vrf = own.vrf }) site datagram.now.source datagram.now.group)) }
     {
@@ -195,7 +198,8 @@ impl ControlPlane {
     ) -> Result<Fate, NoMemory>
         requires plane { IsSome (IsCurrent n) self.now }
         ensures { (at : Standing) → IsCurrent n at → IsIn at self.now →
-            IfOk result (IsFate (landing_fate at.network.state n (at.network.state.node n) from label datagram.now.source datagram.now.group)) }
+            IfOk result (IsFate
+            (landing_fate at.network.state n (at.network.state.node n) from label datagram.now.source datagram.now.group)) }
     {
         self.node(n)
             .arrive(alloc, from, label, datagram, self.clock, &self.core)

@@ -107,7 +107,8 @@ impl Edge {
         requires now { now < 2 ^ 63 }
         ensures answers { Answers core.now (step_of self.old now (Active iface source group)) self.old self.new result }
         ensures only { IsOneOf (EdgeFault.Full ∷ []) result }
-        ensures fits { self.old.spent ≡ None → OnTaken result (is_note_too_many (control_of self.old.routing.control) iface source group ≡ false) }
+        ensures fits { self.old.spent ≡ None → OnTaken result
+            (is_note_too_many (control_of self.old.routing.control) iface source group ≡ false) }
         ensures full { result ≡ Err EdgeFault.Full →
             (is_note_too_many (control_of self.old.routing.control) iface source group ≡ true) × (self.new ≡ self.old) }
     {
@@ -168,7 +169,8 @@ impl Edge {
     pub fn unselect(&mut self, vrf: VrfId, pattern: Pattern) -> Result<(), EdgeFault>
         requires own { is_own_vrf (home_of self.old) vrf ≡ true }
         requires pattern { IsAnyOr (IsGroup (afi_by pattern.source pattern.group)) pattern.group }
-        ensures answers { (core : Topology) (now : ℕ) → Answers core (step_of self.old now (Unselect vrf pattern)) self.old self.new result }
+        ensures answers { (core : Topology) (now : ℕ) →
+            Answers core (step_of self.old now (Unselect vrf pattern)) self.old self.new result }
         ensures only { IsOneOf [] result }
     {
         if let Some(fault) = self.spent {

@@ -77,7 +77,8 @@ impl Parts {
         requires core { core.now.nodes ≡ length self.now.routing.control.home.scenario.nodes }
         ensures { (walks : Walks) → IsCoreOf core.now.nodes core.now.links walks → (own : OwnVrf) →
             Among own (vrfs_of self.now.routing.control.home) → own.id ≡ vrf →
-            IfOk result (IsFate (entering_fate (place_of self.now.routing.control.home walks) now (data_of (going self.now)) own site source group)) }
+            IfOk result (IsFate
+            (entering_fate (place_of self.now.routing.control.home walks) now (data_of (going self.now)) own site source group)) }
     {
         let fate = entering(
             &self.routing.control,
@@ -110,7 +111,8 @@ impl Parts {
         requires leaf { leaf ≡ sets.contains self.now.labels.node.part.leaves fec.now }
         requires core { core.now.nodes ≡ length self.now.routing.control.home.scenario.nodes }
         ensures { (walks : Walks) → IsCoreOf core.now.nodes core.now.links walks →
-            IfOk result (λ outs. outs ≡ outs_of (place_of self.now.routing.control.home walks) now (data_of (going self.now)) fec.now source group) }
+            IfOk result (λ outs. outs
+            ≡ outs_of (place_of self.now.routing.control.home walks) now (data_of (going self.now)) fec.now source group) }
     {
         if leaf {
             leaving(&self.routing.control, alloc, fec, source, group, now, core)
@@ -132,7 +134,8 @@ impl Parts {
     ) -> Result<Fate, NoMemory>
         requires core { core.now.nodes ≡ length self.now.routing.control.home.scenario.nodes }
         ensures { (walks : Walks) → IsCoreOf core.now.nodes core.now.links walks →
-            IfOk result (IsFate (arriving_fate (place_of self.now.routing.control.home walks) now (data_of (going self.now)) from label source group)) }
+            IfOk result (IsFate
+            (arriving_fate (place_of self.now.routing.control.home walks) now (data_of (going self.now)) from label source group)) }
     {
         match self.labels.node().fib().lookup(from, label) {
             None => Ok(Fate {

@@ -41,7 +41,8 @@ impl Edge {
         requires core { core.now.nodes ≡ length (home_of self.now).scenario.nodes }
         ensures { (walks : Walks) → IsCoreOf core.now.nodes core.now.links walks → (own : OwnVrf) →
             Among own (vrfs_of (home_of self.now)) → own.id ≡ vrf →
-            IfOk result (IsFate (entering_fate (place_of (home_of self.now) walks) now (data_of self.now) own site datagram.now.source datagram.now.group)) }
+            IfOk result (IsFate
+            (entering_fate (place_of (home_of self.now) walks) now (data_of self.now) own site datagram.now.source datagram.now.group)) }
     {
         self.parts.enter(
             alloc,
@@ -66,7 +67,8 @@ impl Edge {
     ) -> Result<Fate, NoMemory>
         requires core { core.now.nodes ≡ length (home_of self.now).scenario.nodes }
         ensures { (walks : Walks) → IsCoreOf core.now.nodes core.now.links walks →
-            IfOk result (IsFate (arriving_fate (place_of (home_of self.now) walks) now (data_of self.now) from label datagram.now.source datagram.now.group)) }
+            IfOk result (IsFate
+            (arriving_fate (place_of (home_of self.now) walks) now (data_of self.now) from label datagram.now.source datagram.now.group)) }
     {
         self.parts.arrive(
             alloc,

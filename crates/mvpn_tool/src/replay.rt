@@ -57,7 +57,8 @@ fn write_halt<K: Sink>(
     requires { All (IsLineOf scenario.now) (lines.old ++ told.Halt line node ∷ []) }
     ensures label { result ≡ stops.Label →
         Appended (K.written sink.old) (K.written sink.new) (lines_text detail scenario.now (lines.old ++ told.Halt line node ∷ [])) }
-    ensures part { AppendedPart (K.written sink.old) (K.written sink.new) (lines_text detail scenario.now (lines.old ++ told.Halt line node ∷ [])) }
+    ensures part { AppendedPart (K.written sink.old) (K.written sink.new)
+        (lines_text detail scenario.now (lines.old ++ told.Halt line node ∷ [])) }
     ensures later { K.faults sink.old ≤ K.faults sink.new }
     ensures failed { result ≡ stops.Sink → Rose (K.faults sink.old) (K.faults sink.new) }
     ensures others { (result ≡ stops.Label) ⊎ (result ≡ stops.Sink) ⊎ (result ≡ stops.Memory) }

@@ -6,7 +6,8 @@ ghost use Rattle.edge_defs.specs.Steps as steps;
 ghost use Rattle.network_defs.specs.Acts.{At};
 ghost use Rattle.network_laws.specs.Sound.{IsFlow, SoundPattern};
 ghost use Rattle.control_plane.specs.Acted.{same_moment};
-ghost use Rattle.control_plane.specs.Customers.{IsIfaceEdge, IsMessageTo, IsUnselected, IsVrfEdge, is_message_full, is_note_full, is_selection_full};
+ghost use Rattle.control_plane.specs.Customers.{IsIfaceEdge, IsMessageTo, IsUnselected};
+ghost use Rattle.control_plane.specs.Customers.{IsVrfEdge, is_message_full, is_note_full, is_selection_full};
 ghost use Rattle.network_acts.specs.Acting.{ActsAs};
 ghost use Rattle.network_acts.specs.Customers.{CustomerActsAs};
 ghost use Rattle.network_acts.specs.Instant.{IsSome, OfPlane};
@@ -28,7 +29,8 @@ impl Network {
     ) -> Result<Verdict, NodeFault>
         requires network { IsSome (OfPlane (IsMessageTo n iface bytes.now)) self.old }
         ensures { (message : JoinPrune) → decoded bytes.now ≡ Ok message →
-            CustomerActsAs (IsMessageTo n iface bytes.now) n (steps.Pim iface message) (is_message_full n iface message) self.old self.new lines.old lines.new result }
+            CustomerActsAs (IsMessageTo n iface bytes.now) n (steps.Pim iface message) (is_message_full n iface message)
+            self.old self.new lines.old lines.new result }
     {
         self.plane.take_pim(n, iface, bytes, lines)
     }
@@ -61,7 +63,8 @@ impl Network {
     ) -> Result<(), NodeFault>
         requires network { IsSome (OfPlane (IsIfaceEdge n iface)) self.old }
         requires flow { IsFlow source group }
-        ensures { ActsAs (OfPlane (IsIfaceEdge n iface)) same_moment (At n (steps.Idle iface source group)) n self.old self.new lines.old lines.new result }
+        ensures { ActsAs (OfPlane (IsIfaceEdge n iface)) same_moment (At n (steps.Idle iface source group)) n
+            self.old self.new lines.old lines.new result }
     {
         self.plane.idle(n, iface, source, group, lines)
     }
@@ -76,7 +79,8 @@ impl Network {
     ) -> Result<Verdict, NodeFault>
         requires network { IsSome (OfPlane (IsUnselected n vrf pattern)) self.old }
         requires pattern { SoundPattern pattern }
-        ensures { CustomerActsAs (IsUnselected n vrf pattern) n (steps.Select vrf pattern) (is_selection_full n) self.old self.new lines.old lines.new result }
+        ensures { CustomerActsAs (IsUnselected n vrf pattern) n (steps.Select vrf pattern) (is_selection_full n)
+            self.old self.new lines.old lines.new result }
     {
         self.plane.select(n, vrf, pattern, lines)
     }
@@ -91,7 +95,8 @@ impl Network {
     ) -> Result<(), NodeFault>
         requires network { IsSome (OfPlane (IsVrfEdge n vrf)) self.old }
         requires pattern { SoundPattern pattern }
-        ensures { ActsAs (OfPlane (IsVrfEdge n vrf)) same_moment (At n (steps.Unselect vrf pattern)) n self.old self.new lines.old lines.new result }
+        ensures { ActsAs (OfPlane (IsVrfEdge n vrf)) same_moment (At n (steps.Unselect vrf pattern)) n
+            self.old self.new lines.old lines.new result }
     {
         self.plane.unselect(n, vrf, pattern, lines)
     }

@@ -8,7 +8,8 @@ ghost use Rattle.network_defs.specs.World as worlds;
 ghost use Rattle.control_plane.specs.Queries.{IsEdgeOf, IsFate};
 ghost use Rattle.datagram_acts.specs.Stored.{with_datagram};
 ghost use Rattle.network_acts.specs.Acting.{Made, Passes};
-ghost use Rattle.network_acts.specs.Handling.{Enters, HasLanded, IsHandling, IsSentBy, IsSomeHandling, IsSomeLanded, Lands, MayLand, landing_fate};
+ghost use Rattle.network_acts.specs.Handling.{Enters, HasLanded, IsHandling, IsSentBy};
+ghost use Rattle.network_acts.specs.Handling.{IsSomeHandling, IsSomeLanded, Lands, MayLand, landing_fate};
 ghost use Rattle.network_acts.specs.Instant.{Any, Instant, IsSome, IsWorld, OfPlane, standing_of};
 
 use crate::network::Network;
@@ -40,7 +41,10 @@ impl Network {
         requires room { self.old.datagrams.count + 1 < 2 ^ 64 }
         ensures number { IfOk result (λ number. (at : Instant) → IsWorld at self.old → number ≡ length at.world.datagrams + 1) }
         ensures accepted { OnOk result ((at : Instant) (site : SiteId) (source group : Addr) → IsWorld at self.old →
-            IsHandling (record at { world = with_datagram (record { site = site; source = source; group = group; octets = octets.now }) at.world })
+            IsHandling (record at {
+              world = with_datagram (record { site = site; source = source; group = group; octets = octets.now })
+                  at.world;
+            })
             (length at.world.datagrams + 1) (record { site = site; source = source; group = group; octets = octets.now }) self.new) }
         ensures unchanged { OnErr result (self.new ≡ self.old) }
     {
@@ -130,8 +134,8 @@ impl Network {
         )
     }
 
-    /// The copy at that place of the way lands, counted from 1, where there is one: it leaves at interfaces, and copies of it go on branches
-    /// where its TTL lets them.
+    /// The copy at that place of the way lands, counted from 1, where there is one: it leaves at interfaces, and copies of it
+    /// go on branches where its TTL lets them.
     pub fn hop(
         &mut self,
         from: NodeId,

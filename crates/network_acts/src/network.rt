@@ -35,7 +35,8 @@ impl Network {
     pub fn of(alloc: Global, scenario: Scenario) -> Result<Network, NoMemory>
         requires { Rules scenario }
         ensures scenario { IfOk result (λ network. network.scenario ≡ scenario) }
-        ensures beginning { IfOk result (λ network. (cores : Cores) → AreCoresOf scenario cores → IsWorld (beginning scenario cores) network) }
+        ensures beginning { IfOk result (λ network. (cores : Cores) → AreCoresOf scenario cores →
+            IsWorld (beginning scenario cores) network) }
     {
         let plane = ControlPlane::of(alloc, &scenario)?;
         Ok(Network {

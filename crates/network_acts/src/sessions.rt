@@ -22,7 +22,8 @@ impl Network {
         lines: &mut Lines,
     ) -> Result<(), NodeFault>
         requires network { IsSome (OfPlane (IsMovable over)) self.old }
-        ensures { ActsAs (OfPlane (IsMovable over)) same_moment (acts.Move over.kind over.from over.to count) over.to self.old self.new lines.old lines.new result }
+        ensures { ActsAs (OfPlane (IsMovable over)) same_moment (acts.Move over.kind over.from over.to count) over.to
+            self.old self.new lines.old lines.new result }
     {
         self.plane.move_octets(over, count, lines)
     }
@@ -57,7 +58,8 @@ impl Network {
         lines: &mut Lines,
     ) -> Result<(), NodeFault>
         requires network { IsSome (OfPlane (IsDown kind a b)) self.old }
-        ensures { ActsAs (OfPlane (IsDown kind a b)) (with_rising kind a b) (acts.RaiseFirst kind a b) a self.old self.new lines.old lines.new result }
+        ensures { ActsAs (OfPlane (IsDown kind a b)) (with_rising kind a b) (acts.RaiseFirst kind a b) a
+            self.old self.new lines.old lines.new result }
     {
         self.plane.raise_first(kind, a, b, lines)
     }
@@ -71,7 +73,8 @@ impl Network {
         lines: &mut Lines,
     ) -> Result<(), NodeFault>
         requires network { IsSome (OfPlane (IsHalfUp kind a b)) self.old }
-        ensures { ActsAs (OfPlane (IsHalfUp kind a b)) none_rising (acts.RaiseSecond kind a b) b self.old self.new lines.old lines.new result }
+        ensures { ActsAs (OfPlane (IsHalfUp kind a b)) none_rising (acts.RaiseSecond kind a b) b
+            self.old self.new lines.old lines.new result }
     {
         self.plane.raise_second(kind, a, b, lines)
     }

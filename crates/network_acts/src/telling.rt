@@ -27,7 +27,8 @@ impl Network {
     pub fn tell(&self, sessions: &[Session], lines: &mut Lines) -> Result<(), NoMemory>
         requires network { IsSome Any self.now }
         requires sessions { sessions.now ≡ models.sessions self.now.scenario }
-        ensures { OnOk result ((at : Instant) → IsWorld at self.now → AreLinked at.world → Made at at.moment Tell lines.old lines.new self.now) }
+        ensures { OnOk result ((at : Instant) → IsWorld at self.now → AreLinked at.world →
+            Made at at.moment Tell lines.old lines.new self.now) }
     {
         let due = counted(self.plane.due())?;
         let unready = counted(self.plane.unready(sessions))?;

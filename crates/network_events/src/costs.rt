@@ -29,7 +29,8 @@ fn reroute_all(network: &mut Network, nodes: usize, lines: &mut Lines) -> Result
     requires network { IsSome IsRepriced network.old }
     requires nodes { nodes ≡ length network.old.scenario.nodes }
     requires few { nodes ≤ 2 ^ 16 }
-    ensures { Does IsRepriced (λ m. at_rest) (row (map (λ n. acts.Reroute n) (node_ids 0 nodes))) network.old network.new lines.old lines.new result }
+    ensures { Does IsRepriced (λ m. at_rest) (row (map (λ n. acts.Reroute n) (node_ids 0 nodes)))
+        network.old network.new lines.old lines.new result }
 {
     for number in 0..nodes {
         if let Err(halt) = reroute_at(network, NodeId(number as u16), lines) {

@@ -54,7 +54,8 @@ fn take(
 ) -> Result<Option<Refusal>, Halt>
     requires network { IsSome IsReady network.old }
     requires message { IsForIface network.old.scenario iface octets.now }
-    ensures { (event : Event) → Hands network.old.scenario iface octets.now event → Meets event network.old network.new lines.old lines.new result }
+    ensures { (event : Event) → Hands network.old.scenario iface octets.now event →
+        Meets event network.old network.new lines.old lines.new result }
 {
     if are_sessions_full(network) {
         return Ok(Some(Refusal::Full));
@@ -74,7 +75,8 @@ fn take_written(
 ) -> Result<Option<Refusal>, Halt>
     requires network { IsSome IsReady network.old }
     requires message { IsWrittenFor network.old.scenario iface message.now }
-    ensures { (event : Event) → HandsMessage network.old.scenario iface message.now event → Meets event network.old network.new lines.old lines.new result }
+    ensures { (event : Event) → HandsMessage network.old.scenario iface message.now event →
+        Meets event network.old network.new lines.old lines.new result }
 {
     match encode(lines.alloc(), message) {
         Ok(octets) => take(network, iface, octets.as_slice(), lines),

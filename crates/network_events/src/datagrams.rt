@@ -96,7 +96,8 @@ fn sent(
 ) -> Result<(), NoMemory>
     requires network { IsSome IsReady network.old }
     requires room { network.old.datagrams.count + 1 < 2 ^ 64 }
-    ensures { Makes IsReady (definitions.sent site datagram.now.source datagram.now.group datagram.now.octets) network.old network.new lines.old lines.new result }
+    ensures { Makes IsReady (definitions.sent site datagram.now.source datagram.now.group datagram.now.octets)
+        network.old network.new lines.old lines.new result }
 {
     let vrfs = entered(lines.alloc(), network.scenario(), site)?;
     network.accept(datagram.bytes())?;

@@ -1,4 +1,5 @@
-//! Events of sessions: octets are moved, a session is lost, a loss is noticed, a session is raised (RFC 4271 section 8, RFC 5036 section 2.5).
+//! Events of sessions: octets are moved, a session is lost, a loss is noticed, a session is raised (RFC 4271 section 8, RFC 5036 section
+//! 2.5).
 ghost use Rattle.std.specs.Prelude.{◌≡◌, find, [], ◌∷◌, option_copied, if◌then◌else◌};
 ghost use Rattle.scenario_defs.specs.declared.event.Event.TheVariants as events;
 ghost use Rattle.mvpn_model.specs.Sessions as models;

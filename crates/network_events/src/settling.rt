@@ -32,7 +32,8 @@ fn run_timers(network: &mut Network, nodes: usize, lines: &mut Lines) -> Result<
     requires network { IsSome IsResting network.old }
     requires nodes { nodes ≡ length network.old.scenario.nodes }
     requires few { nodes ≤ 2 ^ 16 }
-    ensures { Does IsResting same_moment (row (map (λ n. acts.Timers n) (node_ids 0 nodes))) network.old network.new lines.old lines.new result }
+    ensures { Does IsResting same_moment (row (map (λ n. acts.Timers n) (node_ids 0 nodes)))
+        network.old network.new lines.old lines.new result }
 {
     for number in 0..nodes {
         if let Err(halt) = timers_at(network, NodeId(number as u16), lines) {

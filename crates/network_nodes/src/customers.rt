@@ -56,7 +56,8 @@ impl NetworkNode {
         requires now { now < 2 ^ 63 }
         ensures answers { Answers core.now now (after (Active iface source group)) self.old self.new result }
         ensures only { IsOneOf (EdgeFault.Full ∷ []) result }
-        ensures fits { spent_in self.old ≡ None → OnTaken result (is_note_too_many (control_of (data_in self.old)) iface source group ≡ false) }
+        ensures fits { spent_in self.old ≡ None → OnTaken result
+            (is_note_too_many (control_of (data_in self.old)) iface source group ≡ false) }
         ensures full { result ≡ Err EdgeFault.Full →
             (is_note_too_many (control_of (data_in self.old)) iface source group ≡ true) × (self.new ≡ self.old) }
     {

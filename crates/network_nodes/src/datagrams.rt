@@ -1,4 +1,5 @@
-//! Datagrams that a site sends into a VRF, and copies that arrive under a label (RFC 6513 sections 9.1.1 and 12; RFC 3032). Nothing changes.
+//! Datagrams that a site sends into a VRF, and copies that arrive under a label (RFC 6513 sections 9.1.1 and 12; RFC 3032). Nothing
+//! changes.
 ghost use Rattle.std.specs.Prelude.{◌≡◌, IfOk, None};
 ghost use Rattle.mv_base.specs.Lists.{Among};
 ghost use Rattle.mv_base.specs.declared.ids.NodeId.{NodeId};

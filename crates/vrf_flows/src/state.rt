@@ -14,7 +14,8 @@ ghost use Rattle.tree_defs.specs.Keys.{same_flow};
 ghost use Rattle.tree_defs.specs.Flows.{asking, chosen_for, flow_of, gained, lost, is_from, is_noted, is_outside, outgoing, upstream_of};
 ghost use Rattle.vrf_flows.specs.Held.{lapsed, marked};
 ghost use Rattle.vrf_flows.specs.Sight.{ifaces_of, is_sent};
-ghost use Rattle.vrf_flows.specs.State.{IsSound, iface_in, no_vrf, compares_costs, given_at, is_announced_in, is_noted_in, needed_in, vrf_of};
+ghost use Rattle.vrf_flows.specs.State.{IsSound, iface_in, no_vrf, compares_costs};
+ghost use Rattle.vrf_flows.specs.State.{given_at, is_announced_in, is_noted_in, needed_in, vrf_of};
 
 use crate::held::{Cause, FlowTable, Kept, hold, hold_entries, hold_message};
 use crate::marks::{forget, mark, mark_between, mark_ended, mark_message};

@@ -35,7 +35,8 @@ PARTS = TOP / 'bench' / 'parts'
 EDGE = TOP / 'bench' / 'edge'
 SIZES = (8_000_000, 16_000_000)
 PIECES = (1, 7, 1000, 0)
-STREAMS = {'bgp_update': make.message(1), 'mldp_msgs': make.pdu(1)}
+# of each stream: the crate that it is in, and a unit of it
+STREAMS = {'bgp_update': ('bgp_messages', make.message(1)), 'mldp_msgs': ('mldp', make.pdu(1))}
 
 # Of each edge: what it has; its interfaces to receivers, the flows of which each peer tells routes, and the entries that come
 # first; and the kinds of acts behind these, each with a turn, and how many turns.
@@ -67,7 +68,7 @@ CALLS
 '''
 
 FUNCTION = '''
-fn run_CRATE(rt: &HostRuntime, size: usize, piece: usize) -> std::io::Result<()> {
+fn run_STREAM(rt: &HostRuntime, size: usize, piece: usize) -> std::io::Result<()> {
     let unit: [u8; LEN] = [OCTETS];
     let mut octets = Vec::new(rt.alloc());
     for _ in 0..size / LEN {
@@ -75,7 +76,7 @@ fn run_CRATE(rt: &HostRuntime, size: usize, piece: usize) -> std::io::Result<()>
     }
     let piece = if piece == 0 { octets.len().max(1) } else { piece };
     let begin = Instant::now(rt)?;
-    let mut stream = CRATE::Stream::of(rt.alloc());
+    let mut stream = CRATE::STREAM::Stream::of(rt.alloc());
     let mut messages = 0u64;
     let mut refused = 0u64;
     for part in octets.chunks(piece) {
@@ -90,7 +91,7 @@ fn run_CRATE(rt: &HostRuntime, size: usize, piece: usize) -> std::io::Result<()>
         }
     }
     let millis = begin.elapsed(rt)?.as_millis();
-    println!(rt; "row CRATE {size} {piece} {messages} {refused} {millis}")?;
+    println!(rt; "row STREAM {size} {piece} {messages} {refused} {millis}")?;
     Ok(())
 }
 '''
@@ -98,10 +99,10 @@ fn run_CRATE(rt: &HostRuntime, size: usize, piece: usize) -> std::io::Result<()>
 
 def program():
     functions, calls = '', ''
-    for crate, unit in STREAMS.items():
+    for stream, (crate, unit) in STREAMS.items():
         body = FUNCTION.replace('LEN', str(len(unit))).replace('OCTETS', ', '.join(map(str, unit)))
-        functions += body.replace('CRATE', crate)
-        calls += ''.join(f'    run_{crate}(&rt, {size}, {piece})?;\n' for size in SIZES for piece in PIECES)
+        functions += body.replace('CRATE', crate).replace('STREAM', stream)
+        calls += ''.join(f'    run_{stream}(&rt, {size}, {piece})?;\n' for size in SIZES for piece in PIECES)
     return PROGRAM.replace('FUNCTIONS', functions).replace('CALLS', calls.rstrip())
 
 
@@ -141,7 +142,7 @@ def crate_in(folder):
 
 
 def streams():
-    depends = 'mv_base framing route_targets mldp_fec pmsi_attr mvpn_nlri mldp_msgs bgp_attributes bgp_update'
+    depends = 'mv_base mldp bgp_values bgp_messages'
     printed = output(depends, {'src/main.rt': program()})
     rows = re.findall(r'^row (\w+) (\d+) (\d+) (\d+) 0 (\d+)$', printed, re.MULTILINE)
     if len(rows) != len(STREAMS) * len(SIZES) * len(PIECES):
@@ -149,8 +150,8 @@ def streams():
         return 1
     print('| stream | octets | piece | messages | seconds |')
     print('|---|---|---|---|---|')
-    for crate, size, piece, messages, millis in rows:
-        print(f'| {crate} | {int(size):,} | {int(piece):,} | {int(messages):,} | {int(millis) / 1000:.2f} |')
+    for stream, size, piece, messages, millis in rows:
+        print(f'| {stream} | {int(size):,} | {int(piece):,} | {int(messages):,} | {int(millis) / 1000:.2f} |')
     return 0
 
 

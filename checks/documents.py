@@ -1,27 +1,41 @@
 #!/usr/bin/env python3
-"""Looks whether the documents name what is there: `documents.py`.
+"""Looks whether the documents name what is there, and whether the crates are as they say: `documents.py`.
 
-Of each Markdown file of the repository: that no line is left of a merge; that the file of each link stands; that what looks
-like a path of this repository does, as `network_defs/specs/Acts.antt` or `checks/rows.py`; and in ARCHITECTURE that each crate
-stands in the list of kinds and, unless it has tests alone, in a section, and that the files which a section names are the
-crate's; and that CALLS has a row of each crate with public functions. A word in capitals, as in `crates/NAME`, stands for any
-name. Prints what is wrong, and then 'N passed, M failed', one for each document.
+Of each Markdown file of the repository: that no line is left of a merge; that the file and the heading of each link exist; that
+what looks like a path of this repository does, as `network_defs/specs/Acts.antt`, `checks/rows.py`, or `mv_base/framing`, a folder
+of a crate. A word in capitals, as in `crates/NAME`, stands for any name. In ARCHITECTURE: that each crate is in one room of the
+house; that in the table of rules a path without a crate is beside the one before it; and that the recipe for a new event names
+exactly the crates in which two events both have a case, with each file of `src` and `specs` that has both. In CALLS: that each
+crate with public functions has a row.
+
+Of the crates: that each begins with a paragraph about itself, at the head of `src/lib.rt` or `src/main.rt`; and that the ways
+down crates.txt, which `rt` walks at each start, are not too many.
+
+Prints what is wrong and how many crates, edges and ways there are, and then 'N passed, M failed', one for each document, one for
+the heads of the crates and one for crates.txt.
 """
 
+import functools
+import itertools
 import pathlib
 import re
 import subprocess
 import sys
 
 TOP = pathlib.Path(__file__).resolve().parent.parent
+CRATES = TOP / 'crates'
 ARCHITECTURE, CALLS = 'docs/ARCHITECTURE.md', 'docs/CALLS.md'
 # the folders of a crate, and those at the top whose files documents name
 PARTS = ('src', 'specs', 'proofs', 'must-fail')
 FOLDERS = ('checks', 'docs', 'bench', 'tools', 'examples', 'crates')
 MERGE = re.compile(r'^(<{7}|>{7}|\|{7}) |^={7}$')
-LINK = re.compile(r'\]\(([^)#\s]+)(?:#[^)\s]*)?\)')
+LINK = re.compile(r'\]\(([^)#\s]*)(?:#([^)\s]*))?\)')
 QUOTED = re.compile(r'`([A-Za-z0-9_./-]+)`')
 ANY_NAME = re.compile(r'(^|/)[A-Z]+(/|$)')
+# two events that are alike in nothing but that they are events: what has a case for both goes by cases over all of them
+EVENTS = (re.compile(r'\bIdle\b'), re.compile(r'\bUnselect\b'))
+LEAST_HEAD = 4
+MOST_WAYS = 100_000
 
 
 def documents():
@@ -30,89 +44,175 @@ def documents():
     return told.stdout.split()
 
 
-def crate_names():
+@functools.cache
+def lower_crates():
+    """The crates, each with those of the repository that its line of crates.txt names."""
     lines = (TOP / 'crates.txt').read_text().splitlines()
-    return [line.partition(':')[0] for line in lines if line and not line.startswith('#')]
+    parted = [line.partition(':') for line in lines if line and not line.startswith('#')]
+    named = {name: libraries.split() for name, _, libraries in parted}
+    return {name: [library for library in libraries if library in named] for name, libraries in named.items()}
 
 
 def is_there(path):
-    """Whether a path of a crate or of a folder at the top stands; None where it is neither."""
+    """Whether a path of a crate, a folder of one, or a path of a folder at the top exists; None where it is none of these."""
     first, _, rest = path.partition('/')
     if first in FOLDERS and rest:
         return (TOP / path).exists()
-    if rest.split('/')[0] in PARTS and (TOP / 'crates' / first).is_dir():
-        return (TOP / 'crates' / path).exists()
+    if rest and first in lower_crates():
+        if rest.split('/')[0] in PARTS:
+            return (CRATES / path).exists()
+        return (CRATES / first / 'src' / f'{rest}.rt').exists()
     return None
+
+
+@functools.cache
+def anchors(path):
+    """The names by which links reach the headings of a document."""
+    titles = re.findall(r'^#+ (.*)', path.read_text(), re.M)
+    return {re.sub(r'[^\w -]', '', title).lower().replace(' ', '-') for title in titles}
 
 
 def faults_of_line(document, line):
     """What is wrong in a line of any document."""
     if MERGE.match(line):
         yield 'a line of a merge'
-    for link in LINK.findall(line):
-        if '://' not in link and not (TOP / document).parent.joinpath(link).exists():
+    for link, anchor in LINK.findall(line):
+        path = (TOP / document).parent / link if link else TOP / document
+        if '://' in link:
+            continue
+        if not path.exists():
             yield f'no file {link}'
+        elif anchor and anchor not in anchors(path):
+            yield f'no heading {anchor} in {path.name}'
     for path in QUOTED.findall(line):
         if is_there(path) is False and not ANY_NAME.search(path):
             yield f'no path {path}'
 
 
-def has_file(crate, path):
-    """Whether the crate has the file, in any of its parts where the path names none."""
-    places = [path] if path.split('/')[0] in PARTS else [f'{part}/{path}' for part in PARTS]
-    return any((TOP / 'crates' / crate / place).exists() for place in places)
+def section(text, title):
+    """The number of the first line of the section with that title, and its lines."""
+    lines = text.splitlines()
+    start = lines.index(f'## {title}')
+    rest = itertools.takewhile(lambda line: not line.startswith('## '), lines[start + 1:])
+    return start + 1, [lines[start], *rest]
 
 
-def faults_of_sections(text):
-    """What is wrong in the sections of crates: those that are missing, and files that their tables name and the crates have not."""
-    crates, crate = set(crate_names()), None
-    found = set()
-    for number, line in enumerate(text.splitlines(), 1):
-        if line.startswith('#'):
-            names = [name for name in re.findall(r'\w+', line) if name in crates]
-            found |= set(names)
-            crate = names[0] if len(names) == 1 else None
-        elif crate and line.startswith('|'):
-            for path in QUOTED.findall(line.split('|')[1]):
-                if path.endswith(('.rt', '.antt')) and is_there(path) is None and not has_file(crate, path):
-                    yield number, f'{crate} has no file {path}'
-    kinds = text[text.index('## Kinds of crates'):text.index('## The crates')]
-    tests = set(QUOTED.findall(kinds[kinds.index('- **Tests**'):]))
-    for name in sorted(crates - found - tests):
-        yield 0, f'no section of {name}'
-    for name in sorted(crates - set(QUOTED.findall(kinds))):
-        yield 0, f'{name} is of no kind'
+def faults_of_rooms(text):
+    """The crates that are in no room of the house, or in two, and what is there and no crate."""
+    first, lines = section(text, 'The house on one page')
+    cells = [line.rstrip('|').rpartition('|')[2] for line in lines if line.startswith('| **')]
+    named = [name for cell in cells for name in QUOTED.findall(cell)]
+    for name in sorted({*named, *lower_crates()}):
+        if name not in lower_crates():
+            yield first, f'no crate {name}'
+        elif named.count(name) != 1:
+            yield first, f'{name} is in {named.count(name)} rooms'
+
+
+def faults_of_rules(text):
+    """The files of the table of rules that are not beside the path before them."""
+    first, lines = section(text, 'Where a rule is')
+    for number, line in enumerate(lines, first):
+        for cell in line.split('|'):
+            folder = None
+            for path in QUOTED.findall(cell):
+                if is_there(path):
+                    folder = (CRATES / path).parent
+                elif path.endswith(('.rt', '.antt', '/')) and folder and not (folder / path).exists():
+                    yield number, f'no {path} in {folder.relative_to(CRATES)}'
+
+
+def has_cases(text):
+    return all(event.search(text) for event in EVENTS)
+
+
+def texts_of(crate, part):
+    """The texts of the files of a part of a crate, by their paths."""
+    folder = CRATES / crate / part
+    files = sorted([*folder.rglob('*.rt'), *folder.rglob('*.antt')])
+    return {str(path.relative_to(CRATES)): path.read_text() for path in files}
+
+
+def files_with_cases(crate):
+    """The files of a crate's `src` and `specs` that have a case for both events; None where the crate has not."""
+    stated, proofs = texts_of(crate, 'src') | texts_of(crate, 'specs'), texts_of(crate, 'proofs')
+    if not has_cases(' '.join([*stated.values(), *proofs.values()])):
+        return None
+    return [path for path, text in stated.items() if has_cases(text)]
+
+
+def faults_of_recipe(text):
+    """What the recipe for a new event leaves out, or names for nothing."""
+    recipe = re.search(r'^\*\*A new event\*\*.*?(?=^\*\*)', text, re.M | re.S)
+    line = text.count('\n', 0, recipe.start()) + 1
+    named = set(QUOTED.findall(recipe[0]))
+    crates = {path.split('/')[0] for path in named}
+    for crate in lower_crates():
+        files = files_with_cases(crate)
+        if files is None:
+            if crate in crates:
+                yield line, f'{crate} does not go by cases over events'
+            continue
+        for missing in sorted({crate} - crates | set(files) - named):
+            yield line, f'the recipe for a new event does not name {missing}'
 
 
 def has_calls(crate):
     """Whether the crate is a library with public functions."""
-    sources = (TOP / 'crates' / crate / 'src').rglob('*.rt')
+    sources = (CRATES / crate / 'src').rglob('*.rt')
     return any(re.search(r'^\s*pub fn ', source.read_text(), re.M) for source in sources)
 
 
 def crates_without_row(text):
     """The crates with public functions that no row of the table names."""
     named = set(re.findall(r'^\| (\w+) \|', text, re.M))
-    return [name for name in crate_names() if name not in named and has_calls(name)]
+    return [name for name in lower_crates() if name not in named and has_calls(name)]
 
 
-def faults_of(document):
+def faults_of_document(document):
     text = (TOP / document).read_text()
     for number, line in enumerate(text.splitlines(), 1):
         for fault in faults_of_line(document, line):
             yield number, fault
     if document == ARCHITECTURE:
-        yield from faults_of_sections(text)
+        yield from faults_of_rooms(text)
+        yield from faults_of_rules(text)
+        yield from faults_of_recipe(text)
     if document == CALLS:
         yield from ((0, f'no row of {crate}') for crate in crates_without_row(text))
 
 
+def faults_of_heads():
+    """The crates that do not begin with a paragraph about themselves."""
+    for crate in lower_crates():
+        root = next(path for path in (CRATES / crate / 'src').iterdir() if path.name in ('lib.rt', 'main.rt'))
+        head = itertools.takewhile(lambda line: line.startswith('//!'), root.read_text().splitlines())
+        if len(list(head)) < LEAST_HEAD:
+            yield 1, f'{crate} does not begin with {LEAST_HEAD} lines about itself'
+
+
+def faults_of_ways():
+    """Whether the ways down from all crates, each to one below it, are too many. Prints how many they are."""
+    below = lower_crates()
+
+    @functools.cache
+    def ways(crate):
+        return sum(1 + ways(lower) for lower in below[crate])
+
+    count = sum(map(ways, below))
+    print(f'{len(below)} crates, {sum(map(len, below.values()))} edges, {count} ways')
+    if count > MOST_WAYS:
+        yield 0, f'more than {MOST_WAYS} ways'
+
+
 def main():
+    looked_at = [(document, faults_of_document(document)) for document in documents()]
+    looked_at += [('crates', faults_of_heads()), ('crates.txt', faults_of_ways())]
     passed, failed = 0, 0
-    for document in documents():
-        faults = list(faults_of(document))
+    for name, found in looked_at:
+        faults = list(found)
         for number, fault in faults:
-            print(f'{document}:{number} {fault}')
+            print(f'{name}:{number} {fault}')
         passed, failed = passed + (not faults), failed + bool(faults)
     print(f'{passed} passed, {failed} failed')
     return 1 if failed else 0

@@ -1,20 +1,26 @@
 #!/usr/bin/env python3
-"""Replays a scenario and its script by the definitions, plainly and slowly: `reference.py replay [--wire]`.
+"""Replays a scenario and its script by the definitions, plainly and slowly: `reference.py replay [--wire]`; or judges a finished
+report: `reference.py audit`.
 
-The text is read from standard input and taken as well formed. The report is written as by the program's `replay`; a line `halt`
-ends it with status 7.
+The text is read from standard input. What is written, and the status, are as by the program's `replay`: the report, with status 7
+where a line `halt` ends it, or the line of the text's first fault, with status 3. A text of `audit` is taken as well formed; the
+judgement is `yes`, or `no LINE REASON` with status 8.
 """
 
 import sys
 
+from reference.audit import audit
 from reference.replaying import replay
 
 
 def main(words):
-    if words not in (['replay'], ['replay', '--wire']):
-        print('usage: reference.py replay [--wire]')
+    if words == ['audit']:
+        text, status = audit(sys.stdin.read())
+    elif words in (['replay'], ['replay', '--wire']):
+        text, status = replay(sys.stdin.buffer.read(), words == ['replay', '--wire'])
+    else:
+        print('usage: reference.py replay [--wire] | audit')
         return 2
-    text, status = replay(sys.stdin.read(), words == ['replay', '--wire'])
     sys.stdout.write(text)
     return status
 

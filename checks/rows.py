@@ -3,8 +3,8 @@
 
 A row is the words of a command, its input, the whole output and the status. Rows stand in checks/rows/*.txt, and each
 examples/NAME.txt with its NAME.report is one more; its status is 7 where the last line of the report begins with `halt `, and else
-0. The command is `./mvpn` of this repository, unless another one is named. Rows of `replay` without a text fault are run by the
-reference program of the definitions too. With files, only rows of these are run.
+0. The command is `./mvpn` of this repository, unless another one is named. Rows of `replay` are run by the reference program of the
+definitions too. With files, only rows of these are run.
 
 A file of rows is made of blocks, and the first word of a block says what it is. Blank lines, and those that begin with
 `#`, are passed over.
@@ -43,8 +43,8 @@ REFERENCE = [sys.executable, str(TOP / 'checks' / 'reference.py')]
 ESCAPES = {'n': '\n', 'r': '\r', 't': '\t', '\\': '\\', '\n': ''}
 # the first words of blocks
 KINDS = ['short', 'scenario', 'table', 'row']
-# the statuses of a replay that came to its end, or to a halt
-REPLAYED = (0, 7)
+# the statuses of a replay that came to its end, to a fault of the text, or to a halt
+REPLAYED = (0, 3, 7)
 # seconds that a run may take: a program that is built without its proofs is not optimized, and slow at the limits
 LONGEST = 300
 
@@ -62,7 +62,7 @@ class Row:
     by: str = ''
 
     def runners(self):
-        """Who runs the row. The reference program takes a text as well formed, and has no command but `replay`."""
+        """Who runs the row. The reference program has no command but `replay` and `audit`; rows of `audit` name it as the one that runs them."""
         if self.by:
             return [self.by]
         is_replayed = self.words[:1] == ['replay'] and self.status in REPLAYED

@@ -17,7 +17,7 @@ import tempfile
 
 TOP = pathlib.Path(__file__).resolve().parent.parent
 
-CRATES = ['mv_base', 'framing', 'mldp_fec', 'tunnel_bindings']
+CRATES = ['mv_base', 'mldp', 'tunnel_bindings']
 
 SPENDS = 'pub fn spends(binding: Binding<Mapped>) -> Binding<Leaving> {\n    binding.leave()\n}\n'
 

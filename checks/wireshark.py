@@ -12,6 +12,11 @@ Each example is replayed with `--wire`. What a node puts for another one over BG
 to tshark as a stream of TCP in short segments. There may be no fault, no message may be missing, and the lines have to be
 those that the program writes of the stream.
 
+The file that `tools/wireshark.py` makes of each example and its report is one more case, and so is that of a network whose edges
+have tables of several segments. tshark may tell no malformed field, no error and no wrong checksum. It has to tell as many
+UPDATEs and messages of LDP as the nodes put; and in the order of the events, each at the tick that the reference program has for
+it, what they put, the Join/Prune messages, the copies on links with labels and TTLs, and the datagrams that leave.
+
 tshark 4.0.17 does not tell all, so the cases keep within this:
 - The key of a leaf route is told as octets. It is a route, so tshark reads them again in a message of their own.
 - Originators, roots, and endpoints of ingress replication are IPv4: those of IPv6 are not told, or told wrongly.
@@ -29,6 +34,7 @@ Prints the cases that differ, and then 'N passed, M failed'. Without tshark noth
 
 import argparse
 import ipaddress
+import itertools
 import pathlib
 import re
 import shlex
@@ -40,6 +46,9 @@ import sys
 import tempfile
 import xml.etree.ElementTree as xml
 
+from reference import events, report
+from reference.script import read
+from reference.world import clock_of, start
 from rows import REPLAYED, starts
 
 TOP = pathlib.Path(__file__).resolve().parent.parent
@@ -560,12 +569,12 @@ COMMANDS = {
 }
 
 
-def dissect(packets):
-    """What tshark tells of each packet: its elements with a name, in their order."""
+def dissect(capture, *options):
+    """What tshark tells of each packet of a file: its elements with a name, in their order."""
     with tempfile.NamedTemporaryFile(suffix='.pcap') as file:
-        file.write(pcap(packets))
+        file.write(capture)
         file.flush()
-        run = subprocess.run(['tshark', '-n', '-r', file.name, '-T', 'pdml'], capture_output=True, text=True)
+        run = subprocess.run(['tshark', '-n', '-r', file.name, '-T', 'pdml', *options], capture_output=True, text=True)
     if run.returncode:
         sys.exit(run.stderr)
     return [[element for element in packet.iter() if element.get('name')] for packet in xml.fromstring(run.stdout)]
@@ -593,7 +602,7 @@ def line_of(line, told):
 def lines_of(command, octets):
     """For each of the octets the lines of what tshark reads in them."""
     _, packet, message, first, line = COMMANDS[command]
-    packets = dissect(packet(place, message(o)) for place, o in enumerate(octets))
+    packets = dissect(pcap(packet(place, message(o)) for place, o in enumerate(octets)))
     return [[line_of(line, told) for told in values_of(elements, first)[1:]] for elements in packets]
 
 
@@ -641,7 +650,7 @@ def stream_lines(kind, octets):
     *_, first, line = COMMANDS[kind]
     places, packets = zip(*segments(kind, octets))
     lines = [[] for _ in octets]
-    for place, elements in zip(places, dissect(packets)):
+    for place, elements in zip(places, dissect(pcap(packets))):
         front, *values = values_of(elements, first)
         lines[place] += ['tshark: a fault'] * front.has_fault() + [line_of(line, told) for told in values]
     for own, stream in zip(lines, octets):
@@ -650,23 +659,161 @@ def stream_lines(kind, octets):
     return lines
 
 
-def replayed(program, path):
-    """What the program writes of the example, with the lines of the wire."""
-    run = subprocess.run([*program, 'replay', '--wire'], input=path.read_text(), capture_output=True, text=True)
+def replayed(program, name, text):
+    """What the program writes of a script, with the lines of the wire."""
+    run = subprocess.run([*program, 'replay', '--wire'], input=text, capture_output=True, text=True)
     if run.returncode not in REPLAYED:
-        sys.exit(f'{path.name}: status {run.returncode}')
+        sys.exit(f'{name}: status {run.returncode}')
     return run.stdout
 
 
-def example_cases(program, kind):
-    """The names, octets and lines of the streams of that kind in the examples."""
+def examples():
+    """The names and the texts of the examples."""
+    return {path.name: path.read_text() for path in sorted((TOP / 'examples').glob('*.txt'))}
+
+
+def example_cases(reports, kind):
+    """The names, octets and lines of the streams of that kind in the reports of the examples."""
     names, octets = [], []
-    for path in sorted((TOP / 'examples').glob('*.txt')):
-        for (own, *nodes), stream in streams_of(replayed(program, path)).items():
+    for name in examples():
+        for (own, *nodes), stream in streams_of(reports[name]).items():
             if own == kind:
-                names.append(' '.join([path.name, *nodes]))
+                names.append(' '.join([name, *nodes]))
                 octets.append(stream)
     return zip(names, octets, stream_lines(kind, octets))
+
+
+# ---- the files of tools/wireshark.py
+
+# payloads of the examples are shorter than a header of UDP; checksums are looked at
+SHOWN = ['--disable-protocol', 'udp', '-o', 'ip.check_checksum:TRUE', '-o', 'tcp.check_checksum:TRUE']
+STATUSES = ('ip.checksum.status', 'tcp.checksum.status', 'pim.cksum.status')
+# the severity of an error, and the status of a checksum that is right
+ERROR, GOOD = 0x800000, '1'
+TOOL_SEGMENT = 1460
+
+
+def many_sites():
+    """A network of two edges, of which one has so many sites that what it puts takes several segments."""
+    edges = ['edge E1 192.0.2.1', 'edge E2 192.0.2.2', 'link E1 E2 1']
+    vrfs = [f'vrf V{number} E{number} 1 65000:1 65000:1 highest' for number in (1, 2)]
+    sites = [line for n in range(1, 41) for line in (f'site S{n} 10.{n}.0.0/16', f'iface I{n} V1 S{n} 10.{n}.0.1')]
+    return ''.join(line + '\n' for line in [*edges, *vrfs, *sites, 'events', 'heal', 'move bgp E1 E2 7', 'settle'])
+
+
+def captured(name, text, told):
+    """The file that the tool writes of a script and its report."""
+    with tempfile.NamedTemporaryFile(suffix='.txt') as file:
+        file.write(text.encode())
+        file.flush()
+        tool = [sys.executable, str(TOP / 'tools' / 'wireshark.py'), file.name]
+        run = subprocess.run(tool, input=told.encode(), capture_output=True)
+    if run.returncode:
+        sys.exit(f'{name}: {run.stderr.decode()}')
+    return run.stdout
+
+
+def ends_text(scenario, line):
+    return f'{scenario.nodes[line.start].name} {scenario.nodes[line.end].name}'
+
+
+def flow_text(octets):
+    """Source and destination of a packet of IPv4 or IPv6."""
+    places = (12, 16, 20) if octets[0] >> 4 == 4 else (8, 24, 40)
+    return ' '.join(str(ipaddress.ip_address(octets[begin:end])) for begin, end in zip(places, places[1:]))
+
+
+def shown_of_line(scenario, line):
+    """How a line of a report is seen."""
+    match line:
+        case report.Put():
+            return [f'put {line.kind} {ends_text(scenario, line)}'] * -(-len(line.octets) // TOOL_SEGMENT)
+        case report.Hop():
+            return [f'hop {ends_text(scenario, line)} {line.label} {line.ttl}']
+        case report.Out():
+            return [f'out {scenario.ifaces[line.iface].name} {flow_text(bytes(line.octets))}']
+    return []
+
+
+def shown_of_event(scenario, event, reason):
+    """How an event is seen before its lines: a message of a customer's router, unless its octets are none."""
+    if event.word in ('join', 'prune', 'pim') and not (reason or '').startswith('bytes'):
+        return [f'pim {scenario.ifaces[event.iface].name}']
+    return []
+
+
+def wanted_shown(text):
+    """What the file of a script has to show, by the reference program: each with its tick."""
+    script = read(text)
+    scenario, world = script.scenario, start(script.scenario)
+    for timed in script.events:
+        tick, reason = clock_of(world), events.refusal(world, timed.event)
+        new = events.outcome(world, timed)
+        lines = [line for lines in new.acts for line in lines]
+        seen = [shown_of_event(scenario, timed.event, reason), *(shown_of_line(scenario, line) for line in lines)]
+        yield from (f'{tick} {one}' for several in seen for one in several)
+        if isinstance(new, events.Halted):
+            return
+        world = new.world
+
+
+def ends_told(scenario, told):
+    """The nodes between which a frame goes, by their Ethernet addresses."""
+    numbers = [int.from_bytes(bytes.fromhex(told.octets(name))[4:], 'big') for name in ('eth.src', 'eth.dst')]
+    return ' '.join(scenario.nodes[number].name for number in numbers)
+
+
+def shown_of_packet(scenario, told):
+    """How a packet is seen, or nothing where it has no octets of a line."""
+    kind, *nodes = told['frame.interface_name'].get('show').split(' ')
+    if kind in SESSIONS and nodes:
+        return f'put {kind} {ends_told(scenario, told)}' if told.number('tcp.len') else ''
+    if nodes:
+        return f'hop {ends_told(scenario, told)} {told.number("mpls.label")} {told.number("mpls.ttl")}'
+    if 'pim.type' in told:
+        return f'pim {kind}'
+    family = 'ip' if 'ip.src' in told else 'ipv6'
+    return f'out {kind} {told[family + ".src"].get("show")} {told[family + ".dst"].get("show")}'
+
+
+def tick_of(told):
+    seconds, nanoseconds = told['frame.time_epoch'].get('show').split('.')
+    return (int(seconds) * 10 ** 9 + int(nanoseconds)) // 10 ** 6
+
+
+def faults_told(told):
+    """The faults of a packet; the length of a next hop that tshark does not know is none."""
+    shows = [(field.get('name'), field.get('show')) for field in told.fields]
+    errors = sum(name == '_ws.expert.severity' and int(show) == ERROR for name, show in shows)
+    known = sum(name == EXPERT and show == SHORT_HOP for name, show in shows)
+    if errors > known or (MALFORMED in told and not errors):
+        yield 'a fault'
+    yield from (name for name, show in shows if name in STATUSES and show != GOOD)
+
+
+def file_differs(scenario, text, told_report, packets):
+    """In what tshark tells something else of a file than it has to."""
+    for place, told in enumerate(packets, 1):
+        yield from (f'packet {place}: {fault}' for fault in faults_told(told))
+    seen = [(tick_of(told), shown_of_packet(scenario, told)) for told in packets]
+    came, wanted = [f'{tick} {one}' for tick, one in seen if one], list(wanted_shown(text))
+    yield from (f'{own!r} and not {other!r}' for own, other in itertools.zip_longest(came, wanted) if own != other)
+    for kind, name in (('bgp', 'bgp.type'), ('ldp', 'ldp.msg.type')):
+        found = sum(field.get('name') == name for told in packets for field in told.fields)
+        put = sum(count_of(kind, octets) for (own, *_), octets in streams_of(told_report).items() if own == kind)
+        if found != put:
+            yield f'{found} messages of {kind}, and not {put}'
+
+
+def file_cases(program, reports):
+    """By name, in what the files of the tool differ from what they have to be."""
+    texts = {**examples(), 'many-sites': many_sites()}
+    for name, text in texts.items():
+        told_report = reports.get(name) or replayed(program, name, text)
+        packets = []
+        for elements in dissect(captured(name, text, told_report), *SHOWN):
+            packets += values_of(elements, 'frame.interface_name')[1:]
+        yield name, list(file_differs(read(text).scenario, text, told_report, packets))
 
 
 # ---- the comparison
@@ -695,16 +842,16 @@ def main():
     if not starts(program):
         print('the program does not start\n0 passed, 1 failed')
         return 1
+    reports = {name: replayed(program, name, text) for name, text in examples().items()}
     cases = [(command, *case) for command in COMMANDS for case in own_cases(command)]
-    cases += [(kind, *case) for kind in SESSIONS for case in example_cases(program, kind)]
-    failed = 0
-    for command, name, octets, lines in cases:
-        told = differs(program, command, octets, lines)
-        if told:
-            failed += 1
-            print(f'{command}, {name}: {told}')
-    print('%d passed, %d failed' % (len(cases) - failed, failed))
-    return 1 if failed else 0
+    cases += [(kind, *case) for kind in SESSIONS for case in example_cases(reports, kind)]
+    results = [(f'{command}, {name}', differs(program, command, octets, lines)) for command, name, octets, lines in cases]
+    results += [(f'file of {name}', '\n'.join(told)) for name, told in file_cases(program, reports)]
+    differing = [f'{name}: {told}' for name, told in results if told]
+    for told in differing:
+        print(told)
+    print('%d passed, %d failed' % (len(results) - len(differing), len(differing)))
+    return 1 if differing else 0
 
 
 if __name__ == '__main__':

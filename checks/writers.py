@@ -26,11 +26,11 @@ TOP = pathlib.Path(__file__).resolve().parent.parent
 PROGRAM = '''//! Writes again what messages say.
 #![tactic(auto)]
 
-use bgp_update::{Change, Message};
-use mldp_msgs::LabelMessage;
+use bgp_messages::bgp_update::{Change, Message};
+use mldp::mldp_msgs::LabelMessage;
 use mv_base::{Addr, Rd};
-use mvpn_nlri::Afi;
-use route_targets::{ExtComm, Target};
+use bgp_values::mvpn_nlri::Afi;
+use mv_base::route_targets::{ExtComm, Target};
 use std::alloc::Global;
 
 fn tell(rt: &HostRuntime, name: &str, same: bool) {
@@ -39,24 +39,24 @@ fn tell(rt: &HostRuntime, name: &str, same: bool) {
 
 fn route(rt: &HostRuntime, name: &str, afi: Afi, octets: &[u8]) {
     let mut out = [0xff; 257];
-    if let Ok((route, len)) = mvpn_nlri::decode(afi, octets) {
-        let written = mvpn_nlri::encode(&route, &mut out);
+    if let Ok((route, len)) = bgp_values::mvpn_nlri::decode(afi, octets) {
+        let written = bgp_values::mvpn_nlri::encode(&route, &mut out);
         tell(rt, name, len == octets.len() && &out[..written] == octets);
     }
 }
 
 fn pmsi(rt: &HostRuntime, name: &str, octets: &[u8]) {
     let mut out = [0xff; 101];
-    if let Ok(pmsi) = pmsi_attr::decode(octets) {
-        let written = pmsi_attr::encode(&pmsi, &mut out);
+    if let Ok(pmsi) = bgp_values::pmsi_attr::decode(octets) {
+        let written = bgp_values::pmsi_attr::encode(&pmsi, &mut out);
         tell(rt, name, &out[..written] == octets);
     }
 }
 
 fn fec(rt: &HostRuntime, name: &str, octets: &[u8]) {
     let mut out = [0xff; 86];
-    if let Ok((fec, len)) = mldp_fec::decode(octets) {
-        let written = mldp_fec::encode(&fec, &mut out);
+    if let Ok((fec, len)) = mldp::mldp_fec::decode(octets) {
+        let written = mldp::mldp_fec::encode(&fec, &mut out);
         tell(rt, name, len == octets.len() && &out[..written] == octets);
     }
 }
@@ -83,21 +83,21 @@ fn changes(alloc: Global, message: Message) -> Vec<Change> {
 }
 
 fn bgp(rt: &HostRuntime, name: &str, octets: &[u8]) {
-    let mut stream = bgp_update::Stream::of(rt.alloc());
+    let mut stream = bgp_messages::bgp_update::Stream::of(rt.alloc());
     let fed = stream.feed(octets).is_ok();
     while let Some(message) = stream.next() {
         for change in changes(rt.alloc(), message) {
-            let written = bgp_update::encode(rt.alloc(), &change).unwrap();
+            let written = bgp_messages::bgp_update::encode(rt.alloc(), &change).unwrap();
             tell(rt, name, fed && written.as_slice() == octets);
         }
     }
 }
 
 fn ldp(rt: &HostRuntime, name: &str, id: u32, octets: &[u8]) {
-    let mut stream = mldp_msgs::Stream::of(rt.alloc());
+    let mut stream = mldp::mldp_msgs::Stream::of(rt.alloc());
     let fed = stream.feed(octets).is_ok();
     while let Some(message) = stream.next() {
-        let written = mldp_msgs::encode(rt.alloc(), Addr::V4([192, 0, 2, 2]), id, &message).unwrap();
+        let written = mldp::mldp_msgs::encode(rt.alloc(), Addr::V4([192, 0, 2, 2]), id, &message).unwrap();
         tell(rt, name, fed && written.as_slice() == octets);
     }
 }
@@ -170,7 +170,7 @@ def calls():
 def main():
     crates = (TOP / 'crates.txt').read_text()
     named = dict(re.findall(r'^(\w+):(.*)$', crates, re.MULTILINE))
-    used = ['bgp_update', 'mldp_msgs', 'pim_joinprune', 'line_words']
+    used = ['bgp_messages', 'mldp', 'pim_joinprune', 'line_words']
     libraries = dict.fromkeys(' '.join([*(named[name] for name in used), *used]).split())
     program = PROGRAM.replace('CALLS', '\n'.join(f'    {call}' for _, call in calls()))
     with tempfile.TemporaryDirectory() as folder:

@@ -1,4 +1,5 @@
-"""The table that an edge holds towards each peer, and what it puts (table_defs: Changes; edge_defs: Held, Messages)."""
+"""The table that an edge holds towards each peer, and what it puts (mv_base/table_defs: Changes; edge_defs:
+Held, Messages)."""
 
 from .base import FinMap, found_in, from_entries
 from .octets import Advert, Mcast, Reach, SourceJoin, Unreach

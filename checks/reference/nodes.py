@@ -1,5 +1,5 @@
-"""The nodes of a network, what they do with messages and at calls, and what their steps put (network_defs: Nodes, System, Puts).
-A node's state is an `EdgeData`, or the `LabelData` of a core node."""
+"""The nodes of a network, what they do with messages and at calls, and what their steps put (network_defs: Nodes, System;
+network_defs/node_defs: Puts). A node's state is an `EdgeData`, or the `LabelData` of a core node."""
 
 from dataclasses import dataclass, replace
 

@@ -1,5 +1,6 @@
-"""Trees, tunnels, routes and messages as data, and the octets that are written of each (mldp_fec, pmsi_attr, mvpn_nlri,
-bgp_update Written, mldp_msgs, mvpn_model Packet). Routes and tunnels that no edge of this network originates are left out."""
+"""Trees, tunnels, routes and messages as data, and the octets that are written of each (mldp: mldp_fec, mldp_msgs; bgp_values:
+pmsi_attr, mvpn_nlri; bgp_messages/bgp_update: Written; mvpn_model: Packet). Routes and tunnels that no edge of this network
+originates are left out."""
 
 from dataclasses import dataclass
 

@@ -1,5 +1,5 @@
 """Readers of what nodes write: BGP messages and LDP PDUs, by the tables of their fields, and the streams that are fed with
-them in pieces (framing: Cut, Feed).
+them in pieces (mv_base/framing: Cut, Feed).
 
 A reader takes fields from the front of octets. Where a field cannot be what it has to be, it raises `Misread` with a word; the
 place within the message is not told, as no node of this network ever puts such octets.

@@ -1,4 +1,4 @@
-"""Why an event is refused, by the first of its conditions that holds (network_defs: Packets, Refusals; mvpn_model: Refused)."""
+"""Why an event is refused, by the first of its conditions that holds (network_defs: Refusals; mvpn_model: Packets, Refused)."""
 
 from .base import V4, V6, checksum, from_be_bytes, same_addr, slice_get
 from .joinprune import PimFault, decoded

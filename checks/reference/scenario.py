@@ -1,4 +1,4 @@
-"""Scenarios (scenario_defs: Vpn, Home), the sessions of a network (mvpn_model: Sessions), and its core (core_walks)."""
+"""Scenarios (scenario_defs: Vpn, Home), the sessions of a network (mvpn_model: Sessions), and its core (mv_base/core_walks)."""
 
 import functools
 from dataclasses import dataclass, replace

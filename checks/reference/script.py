@@ -1,9 +1,11 @@
-"""Events, and scenarios and scripts read from a text that is well formed."""
+"""Events, and scenarios and scripts read from a text, or its first fault (scenario_lines; scenario_text: event_lines)."""
 
 from dataclasses import dataclass
 
-from .base import V4, V6, Pattern, Prefix, flat_map, to_be_bytes
-from .scenario import Iface, Link, Node, Scenario, Site, Vrf
+from .base import Pattern
+from .lines import TextFault, lines_of, tried
+from .scenario import Iface, Link, Node, Scenario, Site, Vrf, least_costs
+from .words import addr_in, ipv4_in, is_name, is_unicast, prefixes_in, rd_in, targets_in
 
 
 @dataclass(frozen=True)
@@ -55,122 +57,232 @@ class Rpt:
     group: object
 
 
-# ---- words
+# ---- what the lines so far declared
 
-def addr_in(word):
-    if ':' in word:
-        return V6(flat_map(lambda group: to_be_bytes(2, int(group, 16)), word.split(':')))
-    return V4(tuple(int(number) for number in word.split('.')))
-
-
-def prefix_in(word):
-    addr, bits = word.split('/')
-    return Prefix(addr_in(addr), int(bits))
+# the highest value of each setting, and its value where it is not given
+SETTINGS = {'life': (1000, 2), 'delay': (1000, 3), 'labels': (65536, 4096), 'as': (65535, 65000)}
+RULES = ('highest', 'nearest', 'hash')
 
 
-def two_parts(word, by_number, by_address):
-    """`N:M` or `ADDR:M`, behind the two octets of either form."""
-    front, number = word.rsplit(':', 1)
-    if '.' in front:
-        return by_address + addr_in(front).octets + to_be_bytes(2, int(number))
-    return by_number + to_be_bytes(2, int(front)) + to_be_bytes(4, int(number))
+def joins(link, a, b):
+    return (link.a, link.b) in ((a, b), (b, a))
 
 
-def rd_in(word):
-    return two_parts(word, (0, 0), (0, 1))
+def same_family(*addrs):
+    """Whether those that are no wildcards are of one family."""
+    return len({type(addr) for addr in addrs if addr is not None}) <= 1
 
-
-def targets_in(word):
-    return tuple(two_parts(part, (0, 2), (1, 2)) for part in word.split(','))
-
-
-def octets_in(word):
-    return () if word == '-' else tuple(bytes.fromhex(word))
-
-
-def addr_or_any(word):
-    return None if word == '*' else addr_in(word)
-
-
-def entry_in(words):
-    if words[0] == '*':
-        return Star(addr_in(words[1]))
-    named = (addr_in(words[0]), addr_in(words[1]))
-    return Rpt(*named) if words[2:] == ['rpt'] else Source(*named)
-
-
-# ---- lines
 
 class Draft:
-    """What the lines so far declared."""
+    """What the lines so far declared, and what one line more says of it."""
 
     def __init__(self):
-        self.settings = {'life': 2, 'delay': 3, 'labels': 4096, 'as': 65000}
-        self.things = {'node': [], 'vrf': [], 'site': [], 'iface': []}
-        self.links = []
-
-    def number(self, kind, name):
-        return next(number for number, thing in enumerate(self.things[kind]) if thing.name == name)
-
-    def declare(self, words):
-        match words:
-            case ['life' | 'delay' | 'labels' | 'as' as setting, value]:
-                self.settings[setting] = int(value)
-            case ['edge' | 'core' as word, name, addr]:
-                self.things['node'].append(Node(name, addr_in(addr), word == 'edge'))
-            case ['link', a, b, cost]:
-                self.links.append(Link(self.number('node', a), self.number('node', b), int(cost)))
-            case ['vrf', name, edge, number, rd, targets, rule]:
-                self.things['vrf'].append(Vrf(name, self.number('node', edge), int(number), rd_in(rd), targets_in(targets), rule))
-            case ['site', name, prefixes]:
-                self.things['site'].append(Site(name, tuple(prefix_in(word) for word in prefixes.split(','))))
-            case ['iface', name, vrf, site, addr]:
-                self.things['iface'].append(Iface(name, self.number('vrf', vrf), self.number('site', site), addr_in(addr)))
+        self.settings = {}
+        self.nodes, self.links, self.vrfs, self.sites, self.ifaces = [], [], [], [], []
+        self.names = {}
 
     def scenario(self):
-        return Scenario(
-            self.settings['life'], self.settings['delay'], self.settings['labels'], self.settings['as'],
-            tuple(self.things['node']), tuple(self.links), tuple(self.things['vrf']), tuple(self.things['site']), tuple(self.things['iface']))
+        values = [self.settings.get(word, default) for word, (_, default) in SETTINGS.items()]
+        return Scenario(*values, tuple(self.nodes), tuple(self.links), tuple(self.vrfs), tuple(self.sites), tuple(self.ifaces))
 
-    def event(self, words):
-        word = words[0]
-        match words[1:]:
-            case [ticks] if word == 'tick':
-                return Event(word, count=int(ticks))
-            case [node] if word in ('timers', 'restart'):
-                return Event(word, a=self.number('node', node))
-            case [kind, a, b, *count] if word in ('move', 'lose', 'notice', 'raise'):
-                return Event(word, kind=kind, a=self.number('node', a), b=self.number('node', b), count=int(count[0]) if count else None)
-            case [iface, *named] if word in ('join', 'prune'):
-                return Event(word, iface=self.number('iface', iface), entry=entry_in(named))
-            case [iface, octets] if word == 'pim':
-                return Event(word, iface=self.number('iface', iface), octets=octets_in(octets))
-            case [iface, source, group] if word in ('active', 'idle'):
-                return Event(word, iface=self.number('iface', iface), source=addr_in(source), group=addr_in(group))
-            case [site, source, group, payload] if word == 'send':
-                return Event(word, site=self.number('site', site), source=addr_in(source), group=addr_in(group), octets=octets_in(payload))
-            case [site, octets] if word == 'packet':
-                return Event(word, site=self.number('site', site), octets=octets_in(octets))
-            case [vrf, source, group] if word in ('select', 'unselect'):
-                return Event(word, vrf=self.number('vrf', vrf), entry=Pattern(addr_or_any(source), addr_or_any(group)))
-            case [a, b, number] if word in ('hop', 'drop', 'cost'):
-                return Event(word, a=self.number('node', a), b=self.number('node', b), count=int(number))
-            case [] if word in ('heal', 'settle', 'drain', 'state'):
+    # ---- words that declare or name a thing
+
+    def new_name(self, line, place):
+        line.must(is_name(line.word(place)), place, 'name')
+        line.must(line.word(place) not in self.names, place, 'again')
+        return line.word(place)
+
+    def named(self, line, place, things):
+        """The number of the thing of that kind, which the word names."""
+        found, number = self.names.get(line.word(place), (None, None))
+        line.must(found is things, place, 'unknown')
+        return number
+
+    def edge_named(self, line, place):
+        number = self.named(line, place, self.nodes)
+        line.must(self.nodes[number].edge, place, 'unknown')
+        return number
+
+    def add(self, things, thing):
+        self.names[thing.name] = (things, len(things))
+        things.append(thing)
+
+    # ---- lines of the scenario
+
+    def declare(self, line):
+        """The line of a scenario; whether it ends it."""
+        word = line.word(0)
+        if word in SETTINGS:
+            self.set(line, word)
+        elif word in ('edge', 'core'):
+            self.add_node(line, word == 'edge')
+        elif word in ('link', 'vrf', 'site', 'iface'):
+            getattr(self, f'add_{word}')(line)
+        else:
+            line.must(word == 'events', 0, 'word')
+            line.counted(0)
+            if self.is_apart():
+                raise TextFault(line.number, 1, 'apart')
+        return word == 'events'
+
+    def is_apart(self):
+        return len(least_costs(len(self.nodes), tuple(self.links), 0)) < len(self.nodes)
+
+    def set(self, line, word):
+        line.counted(1)
+        line.must(word not in self.settings, 0, 'again')
+        self.settings[word] = line.number_to(1, SETTINGS[word][0])
+
+    def add_node(self, line, is_edge):
+        edges = sum(node.edge for node in self.nodes)
+        line.must(len(self.nodes) < 64 and not (is_edge and edges >= 32), 0, 'limit')
+        line.counted(2)
+        name, addr = self.new_name(line, 1), line.read(2, ipv4_in, 'address')
+        line.must(is_unicast(addr), 2, 'address')
+        line.must(all(node.addr != addr for node in self.nodes), 2, 'again')
+        self.add(self.nodes, Node(name, addr, is_edge))
+
+    def add_link(self, line):
+        line.must(len(self.links) < 256, 0, 'limit')
+        line.counted(3)
+        a, b = self.named(line, 1, self.nodes), self.named(line, 2, self.nodes)
+        line.must(not any(joins(link, a, b) for link in self.links), 2, 'again')
+        cost = line.number_to(3, 65535)
+        line.must(a != b, 2, 'self')
+        self.links.append(Link(a, b, cost))
+
+    def add_vrf(self, line):
+        line.must(len(self.vrfs) < 256, 0, 'limit')
+        line.counted(6)
+        name, edge = self.new_name(line, 1), self.edge_named(line, 2)
+        number = line.number_to(3, 4095)
+        beside = [vrf for vrf in self.vrfs if vrf.edge == edge]
+        line.must(all(vrf.number != number for vrf in beside), 3, 'again')
+        rd = line.read(4, rd_in, 'rd')
+        line.must(all(vrf.rd != rd for vrf in beside), 4, 'again')
+        targets = line.read(5, targets_in, 'targets')
+        line.must(line.word(6) in RULES, 6, 'choice')
+        own = set(targets)
+        line.must(all(own.isdisjoint(vrf.targets) or own == set(vrf.targets) for vrf in self.vrfs), 5, 'overlap')
+        line.must(all(own != set(vrf.targets) for vrf in beside), 5, 'vpn')
+        self.add(self.vrfs, Vrf(name, edge, number, rd, targets, line.word(6)))
+
+    def add_site(self, line):
+        line.must(len(self.sites) < 512, 0, 'limit')
+        line.counted(2)
+        name, prefixes = self.new_name(line, 1), line.read(2, prefixes_in, 'prefix')
+        self.add(self.sites, Site(name, prefixes))
+
+    def add_iface(self, line):
+        line.must(len(self.ifaces) < 1024, 0, 'limit')
+        line.counted(4)
+        name, vrf, site = self.new_name(line, 1), self.named(line, 2, self.vrfs), self.named(line, 3, self.sites)
+        addr = line.read(4, addr_in, 'address')
+        targets, prefixes = set(self.vrfs[vrf].targets), set(self.sites[site].prefixes)
+        of_vpn = [(iface.site, set(self.vrfs[iface.vrf].targets) == targets) for iface in self.ifaces]
+        line.must(all(is_same for other, is_same in of_vpn if other == site), 3, 'mixed')
+        taken = [other for other, is_same in of_vpn if other != site and is_same and prefixes & set(self.sites[other].prefixes)]
+        line.must(not taken, 3, 'taken')
+        self.add(self.ifaces, Iface(name, vrf, site, addr))
+
+    # ---- lines of events
+
+    def event(self, line):
+        """The event of a line that has as many words as it may."""
+        match line.word(0):
+            case 'tick' as word:
+                return Event(word, count=line.number_to(1, 1000000))
+            case 'timers' | 'restart' as word:
+                return Event(word, a=self.named(line, 1, self.nodes))
+            case 'move' | 'lose' | 'notice' | 'raise' as word:
+                return self.session_event(line, word)
+            case 'hop' | 'drop' | 'cost' as word:
+                return self.link_event(line, word)
+            case 'join' | 'prune' | 'active' | 'idle' as word:
+                return self.flow_event(line, word)
+            case 'select' | 'unselect' as word:
+                return self.select_event(line, word)
+            case 'pim' as word:
+                return Event(word, iface=self.named(line, 1, self.ifaces), octets=line.payload(2))
+            case 'packet' as word:
+                return Event(word, site=self.named(line, 1, self.sites), octets=line.payload(2))
+            case 'send' as word:
+                site, source, group = self.named(line, 1, self.sites), line.source(2), line.group(3)
+                octets = line.payload(4)
+                line.must(same_family(source, group), 3, 'family')
+                return Event(word, site=site, source=source, group=group, octets=octets)
+            case word:
                 return Event(word)
-        raise ValueError(' '.join(words))
+
+    def are_linked(self, line, a, b, place):
+        line.must(a != b, place, 'self')
+        line.must(any(joins(link, a, b) for link in self.links), place, 'link')
+
+    def session_event(self, line, word):
+        kind = line.word(1)
+        line.must(kind in ('bgp', 'ldp'), 1, 'choice')
+        a, b = [self.edge_named(line, place) if kind == 'bgp' else self.named(line, place, self.nodes) for place in (2, 3)]
+        count = line.number_to(4, 999999999) if word == 'move' else None
+        if kind == 'bgp':
+            line.must(a != b, 3, 'self')
+        else:
+            self.are_linked(line, a, b, 3)
+        return Event(word, kind=kind, a=a, b=b, count=count)
+
+    def link_event(self, line, word):
+        a, b = self.named(line, 1, self.nodes), self.named(line, 2, self.nodes)
+        count = line.number_to(3, 65535 if word == 'cost' else 999999999)
+        self.are_linked(line, a, b, 2)
+        return Event(word, a=a, b=b, count=count)
+
+    def flow_event(self, line, word):
+        iface, is_rpt = self.named(line, 1, self.ifaces), len(line.words) == 5
+        is_star = line.word(2) == '*' and word in ('join', 'prune') and not is_rpt
+        source, group = None if is_star else line.source(2), line.group(3)
+        line.must(not is_rpt or line.word(4) == 'rpt', 4, 'choice')
+        line.must(same_family(self.ifaces[iface].addr, source, group), 3, 'family')
+        if word in ('active', 'idle'):
+            return Event(word, iface=iface, source=source, group=group)
+        entry = Star(group) if is_star else Rpt(source, group) if is_rpt else Source(source, group)
+        return Event(word, iface=iface, entry=entry)
+
+    def select_event(self, line, word):
+        vrf = self.named(line, 1, self.vrfs)
+        source = None if line.word(2) == '*' else line.source(2)
+        group = None if line.word(3) == '*' else line.group(3)
+        line.must(same_family(source, group), 3, 'family')
+        return Event(word, vrf=vrf, entry=Pattern(source, group))
+
+
+# ---- the text
+
+# the words that begin a line of an event, by how many words are behind them
+BEHIND = {
+    0: ('heal', 'settle', 'drain', 'state'), 1: ('tick', 'timers', 'restart'), 2: ('pim', 'packet'),
+    3: ('lose', 'notice', 'raise', 'hop', 'drop', 'cost', 'active', 'idle', 'select', 'unselect'), 4: ('move', 'send')}
+COUNTS = {word: (count, count) for count, words in BEHIND.items() for word in words} | {'join': (3, 4), 'prune': (3, 4)}
+EVENT_LIMIT = 200000
+
+
+def event_of(draft, line, before):
+    line.must(line.word(0) in COUNTS, 0, 'word')
+    line.must(before < EVENT_LIMIT, 0, 'limit')
+    line.counted(*COUNTS[line.word(0)])
+    return draft.event(line)
 
 
 def read(text):
-    """The script that the text says."""
+    """The script that the text says, in octets or as a str. Raises its first TextFault."""
     draft, events, is_script = Draft(), [], False
-    for number, line in enumerate(text.split('\n'), 1):
-        words = line.removesuffix('\r').split()
-        if not words or line.startswith('#'):
+    rows = lines_of(text if isinstance(text, bytes) else text.encode())
+    for number, row in enumerate(rows, 1):
+        line = tried(number, row)
+        if line is None:
             continue
         if is_script:
-            events.append(Timed(number, draft.event(words)))
-        elif words == ['events']:
-            is_script = True
+            events.append(Timed(number, event_of(draft, line, len(events))))
         else:
-            draft.declare(words)
+            is_script = draft.declare(line)
+    if not is_script:
+        raise TextFault(len(rows) + 1, 1, 'events')
     return Script(draft.scenario(), tuple(events))

@@ -1,5 +1,5 @@
-"""A network whose nodes send each other messages over sessions, with octets in transit (session_defs: Message, System, Octets).
-The fields over directions are tables over all directions of the network. A system is two functions: what is behind a message
+"""A network whose nodes send each other messages over sessions, with octets in transit (network_defs/session_defs:
+Message, System, Octets). The fields over directions are tables over all directions of the network. A system is two functions: what is behind a message
 that is taken, and behind a call; None where there is no step."""
 
 from dataclasses import dataclass, replace

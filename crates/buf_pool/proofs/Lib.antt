@@ -1,4 +1,4 @@
-pub mod BlockGetMut
+pub mod BlockShare
 pub mod BlockForm
 pub mod BlockShows
 pub mod BlockSteps

@@ -7,7 +7,7 @@ use Rattle.std.specs.Ordering.{nat_cmp, eq_by_cmp}
 use Rattle.std.specs.Cmp.{nat_cmp_total}
 use Rattle.std.specs.FinMap.{get, insert, remove, len, contains_key, empty_of_len, get-empty, get-insert, get-remove, len-empty, len-insert, len-remove, same_map, nat_cmp-IsAntisymmetric}
 use Rattle.buf_pool.proofs.KeyLemmas.{not_both, same_key, one_key, other_key}
-use Rattle.buf_pool.specs.Held.{Held, held, Buffers, IsLive, HasRoom, with_more, shared, with_less, given_back}
+use Rattle.buf_pool.specs.Held.{Held, held, AreHeld, Buffers, IsLive, HasRoom, with_more, shared, with_less, given_back}
 use Rattle.buf_pool.specs.Stock.{Stock, stock}
 use Rattle.buf_pool.specs.Table.{place, buffers, count_at, next_at, chain, AllFree, Lacks, AllApart, IsTable}
 use Rattle.buf_pool.specs.declared.node.Node.{Node}
@@ -31,6 +31,11 @@ num_some : (octets : List ℕ) (n : ℕ) → T (is_some (held_num octets n)) →
 unfolding held_num
 num_some octets zero h = absurd h
 num_some octets (suc n) h = omega arith
+
+num_held : (octets : List ℕ) (n : ℕ) (h : Held) → held_num octets n ≡ Some h → 0 < h.count
+unfolding held_num
+num_held octets zero h e = absurd cc
+num_held octets (suc n) h e = subst (λ (o : Option Held). IfSome o (λ x. 0 < x.count)) (sym (num_live octets (suc n) (omega arith)) ∙ e) (omega arith)
 
 held_of : Node → Option Held
 held_of node = held_num node.octets.items node.count
@@ -122,6 +127,12 @@ module _ {A : Type 0} where
   held_count [] k h = absurd h
   held_count (b ∷ bs) zero h = num_some b.value.octets.items b.value.count h
   held_count (b ∷ bs) (suc k) h = held_count bs k h
+
+  held_some : (bs : List (Block Node A)) (k : ℕ) (h : Held) → held_at bs k ≡ Some h → 0 < h.count
+  unfolding held_at held_of
+  held_some [] k h e = absurd cc
+  held_some (b ∷ bs) zero h e = num_held b.value.octets.items b.value.count h e
+  held_some (b ∷ bs) (suc k) h e = held_some bs k h e
 
   held_none : (bs : List (Block Node A)) (k : ℕ) → count_at bs k ≡ 0 → held_at bs k ≡ None
   unfolding held_at held_of
@@ -312,6 +323,9 @@ module _ {A : Type 0} where
 
   live_at : (bs : List (Block Node A)) (m : Buffers) (k name : ℕ) → buffers 0 bs ≡ m → k ≡ name → IsLive m name → T (is_some (held_at bs k))
   live_at bs m k name view is live = subst (λ (o : Option Held). T (is_some o)) ((λ i. get (sym view i) (sym is i)) ∙ tells bs k) live
+
+  pub all_held : (bs : List (Block Node A)) (m : Buffers) → buffers 0 bs ≡ m → AreHeld m
+  all_held bs m view name h is = held_some bs name h (sym (tells bs name) ∙ (ap (λ (x : Buffers). get x name) view ∙ is))
 
   pub live_inside : (bs : List (Block Node A)) (m : Buffers) (k name : ℕ) → buffers 0 bs ≡ m → k ≡ name → IsLive m name → k < length bs
   live_inside bs m k name view is live = held_inside bs k (live_at bs m k name view is live)

@@ -1,5 +1,5 @@
 -- What contracts see of a pool: a finite map from the name of a buffer to its octets and its count.
-use Rattle.std.specs.Prelude.{ℕ, ◌+◌, ◌-◌, ◌<◌, ◌==◌, ◌^◌, T, cond, List, None, Some, is_some, IfSome, refl}
+use Rattle.std.specs.Prelude.{◌≡◌, ℕ, ◌+◌, ◌-◌, ◌<◌, ◌==◌, ◌^◌, T, cond, List, None, Some, is_some, IfSome, refl}
 use Rattle.std.specs.declared.option.Option.{Option}
 use Rattle.std.specs.Coded.{Coded, code_by, coded×, coded_ℕ, coded_list}
 use Rattle.std.specs.Ordering.{nat_cmp}
@@ -23,6 +23,10 @@ Buffers = FinMap nat_cmp Held
 
 abbrev pub buffers_code : Coded Buffers
 buffers_code = code coded_ℕ held_code
+
+-- each buffer is held by someone
+abbrev pub AreHeld : Buffers → Type 0
+AreHeld m = (name : ℕ) (h : Held) → get m name ≡ Some h → 0 < h.count
 
 abbrev pub IsLive : Buffers → ℕ → Type 0
 IsLive m name = T (is_some (get m name))

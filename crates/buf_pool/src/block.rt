@@ -23,7 +23,7 @@ impl<T, A: Allocator> Model for Block<T, A> {
 
 impl<T: Drop, A: Allocator + Drop> Drop for Block<T, A> {
     fn drop(self) {
-        let (value, alloc) = self.into_inner();
+        let (value, alloc) = self.give_back();
         drop(value);
         drop(alloc);
     }
@@ -32,8 +32,8 @@ impl<T: Drop, A: Allocator + Drop> Drop for Block<T, A> {
 impl<T, A: Allocator> Block<T, A> {
     ghost use Rattle.buf_pool.specs.Block.{block_follows};
 
-    /// A new block with this value. Both come back where there is no memory.
-    pub(crate) fn new(alloc: A, value: T) -> Result<Block<T, A>, (T, A)>
+    /// The value is put into a new block. It comes back, with the allocator, where there is no memory.
+    pub(crate) fn put(alloc: A, value: T) -> Result<Block<T, A>, (T, A)>
         ensures { MatchResult result (λ b. b.value ≡ value) (λ e. e.0 ≡ value) }
     {
         match alloc.allocate(size_of::<T>(), align_of::<T>()) {
@@ -55,16 +55,16 @@ impl<T, A: Allocator> Block<T, A> {
         unsafe { &*self.ptr }
     }
 
-    /// The value, to be changed in place.
-    pub(crate) fn get_mut(&mut self) -> &mut T
+    /// The value, lent to be changed in place.
+    pub(crate) fn share(&mut self) -> &mut T
         ensures* writes_back { sem 𝓛 (block_follows T.row A.row A.Allocator self.entry result) }
         ensures value { result.now ≡ self.old.value }
     {
         unsafe { &mut *self.ptr.cast_mut() }
     }
 
-    /// The value and the allocator, to which the block's memory goes back.
-    pub(crate) fn into_inner(self) -> (T, A)
+    /// The block's memory goes back to the allocator. The value comes out, and the allocator with it.
+    pub(crate) fn give_back(self) -> (T, A)
         ensures { result.0 ≡ self.value }
     {
         let ptr = self.ptr.cast_mut();

@@ -1,7 +1,7 @@
 //! Shared buffers of octets, each with a count of those who hold it.
 ghost use Rattle.std.specs.Prelude.{◌≡◌, ◌<◌, ◌+◌, ◌^◌, None, IfOk, IfErr, IfSome};
 ghost use Rattle.std.specs.FinMap as map;
-ghost use Rattle.buf_pool.specs.Held.{held, IsLive, HasRoom, shared, given_back};
+ghost use Rattle.buf_pool.specs.Held.{held, AreHeld, IsLive, HasRoom, shared, given_back};
 
 use crate::table::Table;
 use mv_base::NoMemory;
@@ -86,9 +86,10 @@ impl Pool {
         self.table.give_back(buf.name);
     }
 
-    /// How many buffers are live.
+    /// How many buffers are live. Each is held by someone.
     pub fn live(&self) -> usize
-        ensures { result ≡ map.len self.now }
+        ensures live { result ≡ map.len self.now }
+        ensures held { AreHeld self.now }
     {
         self.table.live()
     }

@@ -1,7 +1,7 @@
 //! The blocks of a pool, and which of them are free.
 ghost use Rattle.std.specs.Prelude.{◌≡◌, ◌<◌, ◌+◌, ◌≤◌, None, IfOk, IfErr, IfSome};
 ghost use Rattle.std.specs.FinMap as map;
-ghost use Rattle.buf_pool.specs.Held.{held, IsLive, HasRoom, shared, given_back};
+ghost use Rattle.buf_pool.specs.Held.{held, AreHeld, IsLive, HasRoom, shared, given_back};
 
 use crate::block::Block;
 use crate::node::Node;
@@ -64,14 +64,14 @@ impl Table {
                 next: 0,
                 octets,
             };
-            let Ok(block) = Block::new(self.alloc, node) else {
+            let Ok(block) = Block::put(self.alloc, node) else {
                 return Err(NoMemory);
             };
             self.blocks.push(block)?;
             return Ok(name);
         }
         let name = self.free;
-        let node = self.blocks[name].get_mut();
+        let node = self.blocks[name].share();
         node.count = copies;
         node.octets = octets;
         self.free = node.next;
@@ -93,7 +93,7 @@ impl Table {
         requires room { HasRoom self.old.held name more }
         ensures { self.new ≡ record { held = shared self.old.held name more; blocks = self.old.blocks } }
     {
-        self.blocks[name].get_mut().count += more;
+        self.blocks[name].share().count += more;
     }
 
     /// One fewer holds the buffer. It ends where none is left.
@@ -101,7 +101,7 @@ impl Table {
         requires { IsLive self.old.held name }
         ensures { self.new ≡ record { held = given_back self.old.held name; blocks = self.old.blocks } }
     {
-        let node = self.blocks[name].get_mut();
+        let node = self.blocks[name].share();
         node.count -= 1;
         if node.count == 0 {
             node.octets = Vec::new(self.alloc);
@@ -111,9 +111,10 @@ impl Table {
         }
     }
 
-    /// How many buffers are live.
+    /// How many buffers are live. Each is held by someone.
     pub(crate) fn live(&self) -> usize
-        ensures { result ≡ map.len self.now.held }
+        ensures live { result ≡ map.len self.now.held }
+        ensures held { AreHeld self.now.held }
     {
         self.blocks.len() - self.spare
     }

@@ -1,8 +1,8 @@
 -- The best one of the routes that cover a source.
 use Rattle.std.proofs.Common.{◌≡◌, ℕ, Bool, true, false, inl, inr, List, [], ◌∷◌, Option, Some, None, refl, sym, ap, subst, ◌∙◌, cond}
-use Rattle.mv_base.specs.Prefix.{covers}
-use Rattle.mv_base.specs.declared.addr.Addr.{Addr}
-use Rattle.mv_base.specs.declared.ids.NodeId.{NodeId}
+use Rattle.scenario_defs.specs.mv_base.Prefix.{covers}
+use Rattle.scenario_defs.specs.mv_base.declared.addr.Addr.{Addr}
+use Rattle.scenario_defs.specs.mv_base.declared.ids.NodeId.{NodeId}
 use Rattle.choice_defs.specs.declared.known_route.KnownRoute.{KnownRoute}
 use Rattle.choice_defs.specs.Choice.{Among, route_cmp, is_better, better_of, best_route, IsUncovered}
 use Rattle.choice_defs.proofs.OrderLemmas.{not_less, is_less, not_itself, not_both, not_less_chain, route_total}

@@ -4,15 +4,15 @@ use Rattle.std.proofs.lemmas.Bool.Decides.{nat_tests}
 use Rattle.std.proofs.lemmas.Option.{same_Some}
 use Rattle.std.specs.Ordering.{nat_cmp, is_lt, ordering_then}
 use Rattle.std.specs.declared.cmp.Ordering.TheVariants.{Less}
-use Rattle.mv_base.specs.Prefix.{covers, same_front}
-use Rattle.mv_base.specs.declared.addr.Addr.{Addr}
-use Rattle.mv_base.specs.declared.addr.Addr.TheVariants.{V4, V6}
-use Rattle.mv_base.specs.declared.ids.NodeId.{NodeId}
-use Rattle.mv_base.specs.declared.ids.SiteId.{SiteId}
-use Rattle.mv_base.specs.declared.prefix.Prefix.{Prefix}
-use Rattle.mv_base.specs.declared.rd.Rd.{Rd}
-use Rattle.mv_base.specs.declared.rd.Rule.{Rule}
-use Rattle.mv_base.specs.declared.rd.Rule.TheVariants.{Highest, Nearest, Hash}
+use Rattle.scenario_defs.specs.mv_base.Prefix.{covers, same_front}
+use Rattle.scenario_defs.specs.mv_base.declared.addr.Addr.{Addr}
+use Rattle.scenario_defs.specs.mv_base.declared.addr.Addr.TheVariants.{V4, V6}
+use Rattle.scenario_defs.specs.mv_base.declared.ids.NodeId.{NodeId}
+use Rattle.scenario_defs.specs.mv_base.declared.ids.SiteId.{SiteId}
+use Rattle.scenario_defs.specs.mv_base.declared.prefix.Prefix.{Prefix}
+use Rattle.scenario_defs.specs.mv_base.declared.rd.Rd.{Rd}
+use Rattle.scenario_defs.specs.mv_base.declared.rd.Rule.{Rule}
+use Rattle.scenario_defs.specs.mv_base.declared.rd.Rule.TheVariants.{Highest, Nearest, Hash}
 use Rattle.choice_defs.specs.declared.known_route.KnownRoute.{KnownRoute}
 use Rattle.choice_defs.specs.declared.origin.Origin.{Origin}
 use Rattle.choice_defs.specs.declared.origin.Origin.TheVariants.{Local, Remote}

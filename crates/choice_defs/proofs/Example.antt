@@ -1,9 +1,9 @@
 -- The worked VRF.
 use Rattle.std.proofs.Common.{◌≡◌, ◌⊎◌, ◌↔◌, inl, inr, refl, sym, ap, subst, ◌∙◌, arith}
-use Rattle.mv_base.specs.declared.addr.Addr.{Addr}
-use Rattle.mv_base.specs.declared.ids.NodeId.{NodeId}
-use Rattle.mv_base.specs.declared.ids.SiteId.{SiteId}
-use Rattle.mv_base.specs.declared.rd.Rd.{Rd}
+use Rattle.scenario_defs.specs.mv_base.declared.addr.Addr.{Addr}
+use Rattle.scenario_defs.specs.mv_base.declared.ids.NodeId.{NodeId}
+use Rattle.scenario_defs.specs.mv_base.declared.ids.SiteId.{SiteId}
+use Rattle.scenario_defs.specs.mv_base.declared.rd.Rd.{Rd}
 use Rattle.choice_defs.specs.declared.known_route.KnownRoute.{KnownRoute}
 use Rattle.choice_defs.specs.declared.origin.Origin.TheVariants.{Local, Remote}
 use Rattle.choice_defs.specs.Choice.{Among, IsLower, AreOfEdges, AreOfSites}

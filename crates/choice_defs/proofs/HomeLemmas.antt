@@ -4,11 +4,11 @@ use Rattle.std.proofs.lemmas.Bool.{cases_Bool}
 use Rattle.std.proofs.lemmas.Bool.Decides.{nat_tests}
 use Rattle.std.specs.Ordering.{is_lt, ordering_then}
 use Rattle.std.specs.declared.cmp.Ordering.TheVariants.{Less, Equal, Greater}
-use Rattle.mv_base.specs.Prefix.{covers}
-use Rattle.mv_base.specs.declared.addr.Addr.{Addr}
-use Rattle.mv_base.specs.declared.ids.NodeId.{NodeId}
-use Rattle.mv_base.specs.declared.ids.SiteId.{SiteId}
-use Rattle.mv_base.specs.declared.rd.Rule.{Rule}
+use Rattle.scenario_defs.specs.mv_base.Prefix.{covers}
+use Rattle.scenario_defs.specs.mv_base.declared.addr.Addr.{Addr}
+use Rattle.scenario_defs.specs.mv_base.declared.ids.NodeId.{NodeId}
+use Rattle.scenario_defs.specs.mv_base.declared.ids.SiteId.{SiteId}
+use Rattle.scenario_defs.specs.mv_base.declared.rd.Rule.{Rule}
 use Rattle.scenario_defs.specs.declared.scenario.Route.{Route}
 use Rattle.scenario_defs.specs.Home.{longest_after, home_by}
 use Rattle.choice_defs.specs.declared.known_route.KnownRoute.{KnownRoute}

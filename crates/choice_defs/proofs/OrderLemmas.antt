@@ -7,10 +7,10 @@ use Rattle.std.specs.Cmp.{IsTotalOrder, tied_itself, ranks, nat_cmp_total}
 use Rattle.std.specs.Cmp.Lexicographic.{nat_list_cmp_total}
 use Rattle.std.specs.FinMap.{nat_cmp-IsAntisymmetric, slice_cmp-IsAntisymmetric}
 use Rattle.std.proofs.lemmas.Cmp.{on_total, back_total, then_total}
-use Rattle.mv_base.specs.declared.addr.Addr.{Addr}
-use Rattle.mv_base.specs.declared.addr.Addr.TheVariants.{V4, V6}
-use Rattle.mv_base.specs.declared.ids.NodeId.{NodeId}
-use Rattle.mv_base.specs.declared.rd.Rd.{Rd}
+use Rattle.scenario_defs.specs.mv_base.declared.addr.Addr.{Addr}
+use Rattle.scenario_defs.specs.mv_base.declared.addr.Addr.TheVariants.{V4, V6}
+use Rattle.scenario_defs.specs.mv_base.declared.ids.NodeId.{NodeId}
+use Rattle.scenario_defs.specs.mv_base.declared.rd.Rd.{Rd}
 use Rattle.choice_defs.specs.declared.known_route.KnownRoute.{KnownRoute}
 use Rattle.choice_defs.specs.declared.origin.Origin.{Origin}
 use Rattle.choice_defs.specs.declared.origin.Origin.TheVariants.{Local, Remote}

@@ -5,18 +5,18 @@ use Rattle.std.specs.Ordering.{nat_cmp, is_lt, ordering_then}
 use Rattle.std.specs.declared.cmp.Ordering.{Ordering}
 use Rattle.std.specs.declared.cmp.Ordering.TheVariants.{Less, Equal, Greater}
 use Rattle.std.specs.Cmp.Lexicographic.{slice_cmp}
-pub use Rattle.mv_base.specs.Lists.{Among}
-use Rattle.mv_base.specs.Address.{addr_octets}
-pub use Rattle.mv_base.specs.Address.{addr_key}
-use Rattle.mv_base.specs.Prefix.{covers, same_front}
-use Rattle.mv_base.specs.declared.addr.Addr.{Addr}
-use Rattle.mv_base.specs.declared.addr.Addr.TheVariants.{V4, V6}
-use Rattle.mv_base.specs.declared.ids.NodeId.{NodeId}
-use Rattle.mv_base.specs.declared.ids.SiteId.{SiteId}
-use Rattle.mv_base.specs.declared.prefix.Prefix.{Prefix}
-use Rattle.mv_base.specs.declared.rd.Rd.{Rd}
-use Rattle.mv_base.specs.declared.rd.Rule.{Rule}
-use Rattle.mv_base.specs.declared.rd.Rule.TheVariants.{Highest, Nearest, Hash}
+pub use Rattle.scenario_defs.specs.mv_base.Lists.{Among}
+use Rattle.scenario_defs.specs.mv_base.Address.{addr_octets}
+pub use Rattle.scenario_defs.specs.mv_base.Address.{addr_key}
+use Rattle.scenario_defs.specs.mv_base.Prefix.{covers, same_front}
+use Rattle.scenario_defs.specs.mv_base.declared.addr.Addr.{Addr}
+use Rattle.scenario_defs.specs.mv_base.declared.addr.Addr.TheVariants.{V4, V6}
+use Rattle.scenario_defs.specs.mv_base.declared.ids.NodeId.{NodeId}
+use Rattle.scenario_defs.specs.mv_base.declared.ids.SiteId.{SiteId}
+use Rattle.scenario_defs.specs.mv_base.declared.prefix.Prefix.{Prefix}
+use Rattle.scenario_defs.specs.mv_base.declared.rd.Rd.{Rd}
+use Rattle.scenario_defs.specs.mv_base.declared.rd.Rule.{Rule}
+use Rattle.scenario_defs.specs.mv_base.declared.rd.Rule.TheVariants.{Highest, Nearest, Hash}
 use Rattle.scenario_defs.specs.declared.scenario.Route.{Route}
 use Rattle.choice_defs.specs.declared.known_route.KnownRoute.{KnownRoute}
 use Rattle.choice_defs.specs.declared.origin.Origin.{Origin}

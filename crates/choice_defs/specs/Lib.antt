@@ -1,2 +1,3 @@
+pub use Rattle.scenario_defs.specs as scenario_defs
 pub mod Choice
 pub mod Example

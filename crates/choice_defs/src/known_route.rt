@@ -1,6 +1,6 @@
 //! Routes that a VRF knows.
 use crate::Origin;
-use mv_base::Prefix;
+use scenario_defs::of_mv_base::Prefix;
 
 /// A route that a VRF knows: a local one, or one imported from another edge.
 #[derive(Clone, Copy, PartialEq, Eq)]

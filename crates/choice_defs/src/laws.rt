@@ -1,8 +1,8 @@
 //! Laws of the upstream choice.
 ghost use Rattle.std.specs.Prelude.{◌≡◌, ℕ, ◌↔◌, List, map, None, Some, option_map};
-ghost use Rattle.mv_base.specs.declared.addr.Addr.{Addr};
-ghost use Rattle.mv_base.specs.declared.ids.NodeId.{NodeId};
-ghost use Rattle.mv_base.specs.declared.rd.Rule.{Rule};
+ghost use Rattle.scenario_defs.specs.mv_base.declared.addr.Addr.{Addr};
+ghost use Rattle.scenario_defs.specs.mv_base.declared.ids.NodeId.{NodeId};
+ghost use Rattle.scenario_defs.specs.mv_base.declared.rd.Rule.{Rule};
 ghost use Rattle.scenario_defs.specs.declared.scenario.Route.{Route};
 ghost use Rattle.scenario_defs.specs.Home.{home_by};
 ghost use Rattle.choice_defs.specs.declared.known_route.KnownRoute.{KnownRoute};

@@ -1,5 +1,5 @@
 //! Where routes are from.
-use mv_base::{Addr, NodeId, Rd, SiteId};
+use scenario_defs::of_mv_base::{Addr, NodeId, Rd, SiteId};
 
 /// Where a route that a VRF knows is from.
 #[derive(Clone, Copy, PartialEq, Eq)]

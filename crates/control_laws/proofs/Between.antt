@@ -9,29 +9,29 @@ use Rattle.std.specs.FinSet.{FinSet}
 use Rattle.std.proofs.lemmas.Bool.{eq-eqb, eqb-true}
 use Rattle.mv_base.specs.Lists.{Among}
 use Rattle.mv_base.specs.declared.ids.VrfId.{VrfId}
-use Rattle.core_walks.specs.Core.{Core}
+use Rattle.mv_base.specs.core_walks.Core.{Core}
 use Rattle.pim_defs.specs.Entries.{Entries}
 use Rattle.scenario_defs.specs.Rules.{Rules}
 use Rattle.selective.specs.Roots.{is_of}
 use Rattle.label_defs.specs.Keys.{node_cmp}
-use Rattle.tree_defs.specs.declared.flow.Flow.{Flow}
-use Rattle.tree_defs.specs.Flows as tree_flows
-use Rattle.tree_defs.specs.Keys as tree_keys
-use Rattle.tree_defs.specs.Trees.{TreeData, wanted_by}
+use Rattle.vrf_words.specs.declared.tree_defs.flow.Flow.{Flow}
+use Rattle.vrf_words.specs.tree_defs.Flows as tree_flows
+use Rattle.vrf_words.specs.tree_defs.Keys as tree_keys
+use Rattle.vrf_words.specs.tree_defs.Trees.{TreeData, wanted_by}
 use Rattle.edge_defs.specs.Edge.{VrfFlow, Upstream, Site, Remote, Taken, Control}
 use Rattle.edge_defs.specs.Flows.{flows_at}
 use Rattle.edge_defs.specs.Originated.{is_iface_of}
 use Rattle.edge_defs.specs.Place.{EdgePlace, OwnVrf, vrfs_from, own_vrfs}
 use Rattle.edge_defs.specs.Steps.{Call, control_step, effect, is_vrf_step, refreshed}
 use Rattle.edge_defs.specs.Upstream.{known_routes}
-use Rattle.edge_home.specs.Home.{place_of}
-use Rattle.calm_laws.proofs.Lists.{map_among, among_map, not_both}
-use Rattle.edge_words.specs.Known.{AreNodes}
-use Rattle.edge_words.proofs.Flows.{is_asked}
-use Rattle.tree_laws.specs.TreeOf.{choice_of, edge_note, flow_in}
-use Rattle.tree_laws.specs.Refreshed.{with_flows}
-use Rattle.tree_laws.specs.Whole.{AreWhole}
-use Rattle.tree_laws.proofs.Flows.{looked_up}
+use Rattle.edge_routes.specs.edge_home.Home.{place_of}
+use Rattle.vrf_words.proofs.edge_words.calm_laws.Lists.{map_among, among_map, not_both}
+use Rattle.vrf_words.specs.edge_words.Known.{AreNodes}
+use Rattle.vrf_words.proofs.edge_words.Flows.{is_asked}
+use Rattle.vrf_words.specs.tree_laws.TreeOf.{choice_of, edge_note, flow_in}
+use Rattle.vrf_words.specs.tree_laws.Refreshed.{with_flows}
+use Rattle.vrf_words.specs.tree_laws.Whole.{AreWhole}
+use Rattle.vrf_words.proofs.tree_laws.Flows.{looked_up}
 use Rattle.control_laws.specs.Control.{Kept, OwnTree, trees_of, upstream_by, control_of, AreTrees}
 use Rattle.control_laws.specs.Customers.{Makes}
 use Rattle.control_laws.specs.Peers.{as_wanted, IsTreeBetween}

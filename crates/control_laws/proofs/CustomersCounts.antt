@@ -26,19 +26,19 @@ use Rattle.label_defs.proofs.MemberLemmas.{contains_in_order}
 use Rattle.selective_defs.specs.declared.selection.Selection.{Selection}
 use Rattle.selective.specs.Roots.{IsSelected, is_of, is_waiting, run_due, selected_now}
 use Rattle.selective.proofs.RootLemmas.{one_pattern}
-use Rattle.tree_defs.specs.declared.flow.Note as tree_notes
-use Rattle.tree_defs.specs.Keys as tree_keys
-use Rattle.tree_defs.specs.Trees.{TreeData}
-use Rattle.tree_defs.proofs.KeyLemmas.{note_total as tree_note_total, note_exact as tree_note_exact}
+use Rattle.vrf_words.specs.declared.tree_defs.flow.Note as tree_notes
+use Rattle.vrf_words.specs.tree_defs.Keys as tree_keys
+use Rattle.vrf_words.specs.tree_defs.Trees.{TreeData}
+use Rattle.vrf_words.proofs.tree_defs.KeyLemmas.{note_total as tree_note_total, note_exact as tree_note_exact}
 use Rattle.edge_defs.specs.Due.{is_selection_due}
 use Rattle.edge_defs.specs.Edge.{Note, VrfPattern, Selected, Control, note_cmp, pattern_cmp}
 use Rattle.edge_defs.specs.Originated.{is_iface_of}
 use Rattle.edge_defs.specs.Place.{OwnVrf, vrfs_from}
 use Rattle.edge_defs.proofs.KeyLemmas.{note_total, note_exact, pattern_total, pattern_exact}
-use Rattle.calm_laws.proofs.Lists.{among_map, map_among, not_both}
-use Rattle.calm_laws.proofs.Maps.{entry_get}
-use Rattle.edge_words.proofs.Members.{contained}
-use Rattle.tree_laws.specs.TreeOf.{edge_note}
+use Rattle.vrf_words.proofs.edge_words.calm_laws.Lists.{among_map, map_among, not_both}
+use Rattle.vrf_words.proofs.edge_words.calm_laws.Maps.{entry_get}
+use Rattle.vrf_words.proofs.edge_words.Members.{contained}
+use Rattle.vrf_words.specs.tree_laws.TreeOf.{edge_note}
 use Rattle.control_laws.specs.Control.{own_trees, Kept, OwnTree, trees_of, control_of, selected_by, AreTrees, with_tree}
 use Rattle.control_laws.specs.Customers.{AreSingle, pim_taken}
 use Rattle.control_laws.proofs.Gathered.{gathered_alike, contains-gathered}

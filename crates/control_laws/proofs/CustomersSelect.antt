@@ -8,22 +8,22 @@ use Rattle.std.proofs.lemmas.List.Folds.{find-append}
 use Rattle.mv_base.specs.Lists.{Among}
 use Rattle.mv_base.specs.declared.ids.VrfId.{VrfId}
 use Rattle.mv_base.specs.declared.pattern.Pattern.{Pattern}
-use Rattle.core_walks.specs.Core.{Core}
+use Rattle.mv_base.specs.core_walks.Core.{Core}
 use Rattle.selective_defs.specs.Selective.{AreDistinct, IsLeastNumber, free_number, next_number}
 use Rattle.selective_defs.specs.declared.selection.Selection.{Selection}
 use Rattle.selective_defs.proofs.NumberLemmas.{least_number}
 use Rattle.selective.specs.Patterns.{same_pattern}
 use Rattle.selective.specs.Roots.{IsSelected, is_of, selected_now}
 use Rattle.selective.proofs.RootLemmas.{one_pattern, pattern_itself}
-use Rattle.table_laws.proofs.CompareLemmas.{own_key}
-use Rattle.tree_defs.specs.Trees.{TreeData}
+use Rattle.edge_defs.proofs.table_laws.CompareLemmas.{own_key}
+use Rattle.vrf_words.specs.tree_defs.Trees.{TreeData}
 use Rattle.edge_defs.specs.Edge.{VrfPattern, Selected, Control}
 use Rattle.edge_defs.specs.Steps.{Select, Unselect, effect, is_used, with_selection}
 use Rattle.edge_defs.proofs.KeyLemmas.{pattern_total}
-use Rattle.edge_home.specs.Home.{place_of}
-use Rattle.calm_laws.proofs.Lists.{among_either, filter_among, not_both}
-use Rattle.edge_words.specs.Known.{IsLeastFree}
-use Rattle.edge_words.proofs.Numbers.{numbered}
+use Rattle.edge_routes.specs.edge_home.Home.{place_of}
+use Rattle.vrf_words.proofs.edge_words.calm_laws.Lists.{among_either, filter_among, not_both}
+use Rattle.vrf_words.specs.edge_words.Known.{IsLeastFree}
+use Rattle.vrf_words.proofs.edge_words.Numbers.{numbered}
 use Rattle.control_laws.specs.Control.{Kept, OwnTree, trees_of, control_of, AreTrees, with_tree}
 use Rattle.control_laws.specs.Customers.{Makes, selected, unselected}
 use Rattle.control_laws.proofs.Owned.{with}

@@ -9,7 +9,7 @@ use Rattle.mv_base.specs.Lists.{Among}
 use Rattle.mv_base.specs.declared.addr.Addr.{Addr}
 use Rattle.mv_base.specs.declared.ids.IfaceId.{IfaceId}
 use Rattle.mv_base.specs.declared.ids.VrfId.{VrfId}
-use Rattle.core_walks.specs.Core.{Core}
+use Rattle.mv_base.specs.core_walks.Core.{Core}
 use Rattle.pim_joinprune.specs.declared.message.JoinPrune.{JoinPrune}
 use Rattle.pim_defs.specs.declared.expiry.Expiry.{Expiry}
 use Rattle.pim_defs.specs.Entries.{Entries, applied}
@@ -17,16 +17,16 @@ use Rattle.pim_defs.specs.Mention.{mention_of, expiry_after}
 use Rattle.pim_defs.proofs.EntriesLemmas.{get-applied}
 use Rattle.scenario_defs.specs.declared.event.IfaceEntry.{IfaceEntry}
 use Rattle.scenario_defs.specs.declared.scenario.Scenario.{Scenario}
-use Rattle.tree_defs.specs.declared.flow.Note as tree_notes
-use Rattle.tree_defs.specs.Keys as tree_keys
-use Rattle.tree_defs.specs.Trees.{TreeData}
-use Rattle.tree_defs.proofs.KeyLemmas.{note_total as tree_note_total, note_exact as tree_note_exact}
+use Rattle.vrf_words.specs.declared.tree_defs.flow.Note as tree_notes
+use Rattle.vrf_words.specs.tree_defs.Keys as tree_keys
+use Rattle.vrf_words.specs.tree_defs.Trees.{TreeData}
+use Rattle.vrf_words.proofs.tree_defs.KeyLemmas.{note_total as tree_note_total, note_exact as tree_note_exact}
 use Rattle.edge_defs.specs.Edge.{Note, note_cmp}
 use Rattle.edge_defs.specs.Originated.{is_iface_of}
 use Rattle.edge_defs.specs.Steps.{Pim, Active, Idle, effect}
 use Rattle.edge_defs.proofs.KeyLemmas.{note_total}
-use Rattle.edge_home.specs.Home.{place_of}
-use Rattle.calm_laws.proofs.Lists.{not_both}
+use Rattle.edge_routes.specs.edge_home.Home.{place_of}
+use Rattle.vrf_words.proofs.edge_words.calm_laws.Lists.{not_both}
 use Rattle.control_laws.specs.Control.{Kept, OwnTree, trees_of, control_of, AreTrees, with_tree}
 use Rattle.control_laws.specs.Customers.{Makes, pim_taken, note_of, noted, unnoted}
 use Rattle.control_laws.proofs.Owned.{with}

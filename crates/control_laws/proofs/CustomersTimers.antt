@@ -16,7 +16,7 @@ use Rattle.edge_defs.specs.Originated.{is_iface_of}
 use Rattle.edge_defs.specs.Place.{OwnVrf}
 use Rattle.edge_defs.specs.Steps.{selection_run, selections_run}
 use Rattle.edge_defs.proofs.KeyLemmas.{pattern_total, pattern_exact}
-use Rattle.calm_laws.proofs.Lists.{map_among}
+use Rattle.vrf_words.proofs.edge_words.calm_laws.Lists.{map_among}
 use Rattle.control_laws.specs.Control.{Kept, OwnTree, trees_of, control_of, AreTrees, with_trees}
 use Rattle.control_laws.specs.Customers.{Makes, timers_run}
 use Rattle.control_laws.proofs.Gathered.{options}

@@ -5,16 +5,17 @@ use Rattle.std.specs.List.{AllByRecursion}
 use Rattle.std.specs.declared.cmp.Ordering.{Ordering}
 use Rattle.std.specs.Cmp.{IsTotalOrder}
 use Rattle.std.specs.FinMap as maps
-use Rattle.std.specs.FinMap.{IsAntisymmetric, find}
+use Rattle.std.specs.FinMap.{FinMap, IsAntisymmetric, find}
 use Rattle.std.proofs.lemmas.List.Sums.{sum_by-cons}
 use Rattle.mv_base.specs.Lists.{Among}
 use Rattle.mv_base.specs.Number.{◌>>?◌}
 use Rattle.mv_base.specs.declared.ids.NodeId.{NodeId}
 use Rattle.mv_base.specs.declared.pattern.Pattern.{Pattern}
 use Rattle.mv_base.specs.declared.rd.Rd.{Rd}
-use Rattle.core_walks.specs.Core.{Core}
-use Rattle.bgp_attributes.specs.declared.key.Key.{Key}
-use Rattle.bgp_update.specs.Written.{IsWritableKey}
+use Rattle.mv_base.specs.core_walks.Core.{Core}
+use Rattle.bgp_messages.specs.declared.bgp_attributes.key.Key.{Key}
+use Rattle.bgp_messages.specs.bgp_update.Written.{IsWritableKey}
+use Rattle.label_defs.specs.Keys.{node_cmp}
 use Rattle.label_defs.proofs.KeyLemmas.{node_cmp_total}
 use Rattle.label_defs.specs.LabelData as labels
 use Rattle.label_defs.specs.LabelData.{LabelData}
@@ -27,16 +28,16 @@ use Rattle.selective.specs.declared.route_key.Learned.{Learned}
 use Rattle.selective.specs.declared.route_key.Place.TheVariants as selective_kinds
 use Rattle.selective.specs.declared.route_key.RouteKey.{RouteKey}
 use Rattle.selective.proofs.OrderLemmas.{route_exact}
-use Rattle.tree_defs.specs.Trees.{TreeData}
+use Rattle.vrf_words.specs.tree_defs.Trees.{TreeData}
 use Rattle.edge_defs.specs.Due.{due, due_delays, due_from}
 use Rattle.edge_defs.specs.Edge.{Control, Taken, TakenRoute}
 use Rattle.edge_defs.specs.Imported.{ImportedSelective, found_in, imported_selective}
 use Rattle.edge_defs.specs.Place.{EdgePlace, OwnVrf, addr_of, label_place, own_vrfs}
 use Rattle.edge_defs.proofs.KeyLemmas.{key_total}
-use Rattle.edge_home.specs.Home.{place_of}
-use Rattle.calm_laws.proofs.Lists.{among_flat_map, flat_map_among, among_found, found_among, found_step}
-use Rattle.calm_laws.proofs.Maps.{some_found, found_stands}
-use Rattle.edge_words.proofs.Members.{taken_of, table_of}
+use Rattle.edge_routes.specs.edge_home.Home.{place_of}
+use Rattle.vrf_words.proofs.edge_words.calm_laws.Lists.{among_flat_map, flat_map_among, among_found, found_among, found_step}
+use Rattle.vrf_words.proofs.edge_words.calm_laws.Maps.{some_found, found_stands}
+use Rattle.vrf_words.proofs.edge_words.Members.{taken_of, table_of}
 use Rattle.control_laws.specs.Control.{AreTrees, Kept, OwnTree, trees_of, control_of}
 use Rattle.control_laws.specs.Customers.{AreSingle}
 use Rattle.control_laws.specs.Peers.{AreWritable, IsTreeBetween, pattern_of}
@@ -298,9 +299,9 @@ module _ (kept : Kept) (trees : AreTrees kept) (writable : AreWritable (control_
   abbrev waiting : TreeData → ℕ
   waiting tree = count_by (is_waiting tree.leaf.delay now) (maps.values tree.leaf.routes)
 
-  pub due_counted : (core : Core) (part : LabelData) → due (place_of kept.home core) now (record { control = control_of kept; part = part })
+  pub due_counted : (core : Core) (part : LabelData) (raised : FinMap node_cmp ℕ) → due (place_of kept.home core) now (record { control = control_of kept; part = part; raised = raised })
       ≡ labels.due (label_place kept.home.scenario core kept.home.me) now part + sum_by (tree_due now) kept.trees
-  due_counted core part =
+  due_counted core part raised =
       let a = entries_due kept (full_of kept trees) (parts_of kept trees) now in
       let b = selections_due kept (full_of kept trees) (parts_of kept trees) single now in
       let c = delays_counted kept (are_between kept trees) writable now in

@@ -1,3 +1,4 @@
+pub use Rattle.vrf_words.proofs.edge_words as edge_words
 pub mod Gathered
 pub mod Owned
 pub mod Together

@@ -5,9 +5,9 @@ use Rattle.std.proofs.lemmas.Bool.{eqb-true}
 use Rattle.mv_base.specs.Lists.{Among}
 use Rattle.mv_base.specs.declared.ids.NodeId.{NodeId}
 use Rattle.scenario_defs.specs.declared.scenario.Vrf.{Vrf}
-use Rattle.tree_defs.specs.Trees.{TreeData}
+use Rattle.vrf_words.specs.tree_defs.Trees.{TreeData}
 use Rattle.edge_defs.specs.Place.{OwnVrf, vrfs_from}
-use Rattle.calm_laws.proofs.Lists.{among_front, among_behind}
+use Rattle.vrf_words.proofs.edge_words.calm_laws.Lists.{among_front, among_behind}
 use Rattle.control_laws.specs.Control.{OwnTree, own_trees}
 use Rattle.control_laws.proofs.Gathered.{gathered, HasNone, gathered_none, gathered_one, gathered_same}
 

@@ -12,7 +12,7 @@ use Rattle.mv_base.specs.declared.ids.SiteId.{SiteId}
 use Rattle.mv_base.specs.declared.ids.VrfId.{VrfId}
 use Rattle.mv_base.specs.declared.pattern.Pattern.{Pattern}
 use Rattle.mv_base.specs.declared.prefix.Prefix.{Prefix}
-use Rattle.core_walks.specs.Core.{Core}
+use Rattle.mv_base.specs.core_walks.Core.{Core}
 use Rattle.scenario_defs.specs.declared.event.IfaceEntry.{IfaceEntry}
 use Rattle.scenario_defs.specs.declared.scenario.Iface.{Iface}
 use Rattle.scenario_defs.specs.declared.scenario.Scenario.{Scenario}
@@ -32,23 +32,23 @@ use Rattle.umh_select.specs.declared.key.RouteKey.{RouteKey}
 use Rattle.umh_select.specs.declared.route.Choice.{Choice}
 use Rattle.umh_select.specs.declared.route.Choice.TheVariants as choices
 use Rattle.label_defs.specs.Keys.{fec_cmp, node_cmp}
-use Rattle.tree_defs.specs.declared.flow.ActiveRoute.{ActiveRoute}
-use Rattle.tree_defs.specs.declared.flow.Flow.{Flow}
-use Rattle.tree_defs.specs.declared.flow.Note.{Note}
-use Rattle.tree_defs.specs.declared.flow.SiteIface.{SiteIface}
-use Rattle.tree_defs.specs.declared.flow.TakenJoin.{TakenJoin}
-use Rattle.tree_defs.specs.Keys.{active_cmp}
-use Rattle.tree_defs.specs.Trees.{TreeData, join_cmp, wanted_by}
+use Rattle.vrf_words.specs.declared.tree_defs.flow.ActiveRoute.{ActiveRoute}
+use Rattle.vrf_words.specs.declared.tree_defs.flow.Flow.{Flow}
+use Rattle.vrf_words.specs.declared.tree_defs.flow.Note.{Note}
+use Rattle.vrf_words.specs.declared.tree_defs.flow.SiteIface.{SiteIface}
+use Rattle.vrf_words.specs.declared.tree_defs.flow.TakenJoin.{TakenJoin}
+use Rattle.vrf_words.specs.tree_defs.Keys.{active_cmp}
+use Rattle.vrf_words.specs.tree_defs.Trees.{TreeData, join_cmp, wanted_by}
 use Rattle.edge_defs.specs.Edge.{VrfPattern, Selected, VrfFlow, Taken, Control, no_control}
 use Rattle.edge_defs.specs.Originated.{is_iface_of}
 use Rattle.edge_defs.specs.Place.{EdgePlace, OwnVrf, vrfs_from}
 use Rattle.edge_defs.specs.Tunnels.{selection_of, selections_of}
 use Rattle.edge_defs.proofs.KeyLemmas.{pattern_total, pattern_exact}
-use Rattle.edge_home.specs.Home.{Home, place_of}
-use Rattle.calm_laws.proofs.Lists.{among_map, map_among, among_filter, filter_among}
-use Rattle.calm_laws.proofs.Maps.{entry_get, get_entry}
-use Rattle.edge_words.proofs.Members.{iface_of}
-use Rattle.tree_laws.specs.TreeOf.{IsTreeOf, IsActiveTaken, IsJoinTaken, IsAttachedAt, IsSelectiveAt, edge_note, flow_in, choice_of, held_at, site_ifaces}
+use Rattle.edge_routes.specs.edge_home.Home.{Home, place_of}
+use Rattle.vrf_words.proofs.edge_words.calm_laws.Lists.{among_map, map_among, among_filter, filter_among}
+use Rattle.vrf_words.proofs.edge_words.calm_laws.Maps.{entry_get, get_entry}
+use Rattle.vrf_words.proofs.edge_words.Members.{iface_of}
+use Rattle.vrf_words.specs.tree_laws.TreeOf.{IsTreeOf, IsActiveTaken, IsJoinTaken, IsAttachedAt, IsSelectiveAt, edge_note, flow_in, choice_of, held_at, site_ifaces}
 use Rattle.control_laws.specs.Control.{Kept, OwnTree, trees_of, upstream_by, control_of, AreTrees}
 use Rattle.control_laws.proofs.Gathered.{options, truths}
 use Rattle.control_laws.proofs.Owned.{AreApart, apart_from, of_each, each_of, IsOfOne, of_number, IsOwned, all_none, all_of}

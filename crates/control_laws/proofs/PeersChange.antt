@@ -11,12 +11,12 @@ use Rattle.mv_base.specs.declared.addr.Addr.{Addr}
 use Rattle.mv_base.specs.declared.ids.NodeId.{NodeId}
 use Rattle.mv_base.specs.declared.prefix.Prefix.{Prefix}
 use Rattle.mv_base.specs.declared.rd.Rd.{Rd}
-use Rattle.mvpn_nlri.specs.declared.route.Afi.{Afi}
-use Rattle.mvpn_nlri.specs.declared.route.Route.TheVariants as routes
-use Rattle.bgp_attributes.specs.declared.key.Key.{Key}
-use Rattle.bgp_attributes.specs.declared.key.Key.TheVariants.{Mcast, Unicast}
-use Rattle.bgp_attributes.specs.declared.update.Change.{Change}
-use Rattle.bgp_update.specs.Written.{IsWritableKey}
+use Rattle.bgp_values.specs.declared.mvpn_nlri.route.Afi.{Afi}
+use Rattle.bgp_values.specs.declared.mvpn_nlri.route.Route.TheVariants as routes
+use Rattle.bgp_messages.specs.declared.bgp_attributes.key.Key.{Key}
+use Rattle.bgp_messages.specs.declared.bgp_attributes.key.Key.TheVariants.{Mcast, Unicast}
+use Rattle.bgp_messages.specs.declared.bgp_attributes.update.Change.{Change}
+use Rattle.bgp_messages.specs.bgp_update.Written.{IsWritableKey}
 use Rattle.selective.specs.Leaves as leaves
 use Rattle.selective.specs.Order.{route_cmp, route_total}
 use Rattle.selective.proofs.OrderLemmas.{route_exact}
@@ -28,20 +28,20 @@ use Rattle.umh_select.specs.Routes.{key_from, peer_of, rd_of}
 use Rattle.umh_select.specs.declared.key.RouteKey.{RouteKey}
 use Rattle.umh_select.specs.declared.route.Held.{Held}
 use Rattle.umh_select.proofs.OrderLemmas as unicast_lemmas
-use Rattle.tree_defs.specs.declared.flow.ActiveRoute.{ActiveRoute}
-use Rattle.tree_defs.specs.declared.flow.TakenJoin.{TakenJoin}
-use Rattle.tree_defs.specs.Keys.{active_cmp}
-use Rattle.tree_defs.specs.Trees.{TreeData, join_cmp}
-use Rattle.tree_defs.proofs.KeyLemmas.{active_total, active_exact}
+use Rattle.vrf_words.specs.declared.tree_defs.flow.ActiveRoute.{ActiveRoute}
+use Rattle.vrf_words.specs.declared.tree_defs.flow.TakenJoin.{TakenJoin}
+use Rattle.vrf_words.specs.tree_defs.Keys.{active_cmp}
+use Rattle.vrf_words.specs.tree_defs.Trees.{TreeData, join_cmp}
+use Rattle.vrf_words.proofs.tree_defs.KeyLemmas.{active_total, active_exact}
 use Rattle.edge_defs.specs.Edge.{Control, Taken, TakenRoute}
 use Rattle.edge_defs.specs.Imported.{FlowRoute, ImportedSelective, imported_active, imported_join, imported_selective}
 use Rattle.edge_defs.specs.Place.{EdgePlace, OwnVrf, addr_of}
 use Rattle.edge_defs.specs.Steps.{taken_change}
-use Rattle.edge_laws.proofs.Taken.{put_own}
+use Rattle.vrf_words.proofs.edge_words.edge_laws.Taken.{put_own}
 use Rattle.label_defs.specs.Keys.{node_cmp}
 use Rattle.label_defs.proofs.KeyLemmas.{node_cmp_total, node_cmp_exact}
 use Rattle.mv_base.specs.Lists.{Among}
-use Rattle.tree_laws.specs.TreeOf.{flow_route, held_from}
+use Rattle.vrf_words.specs.tree_laws.TreeOf.{flow_route, held_from}
 use Rattle.control_laws.specs.Peers.{AreWritable, IsTreeBetween, active_of, actives_with, joined_with, key_of, learned_with, left_with, pattern_of, route_behind, same_route, selective_with, selective_without, told_active, told_join, told_selective, told_unicast, tree_change, tree_taking, tree_updated, tree_with}
 use Rattle.control_laws.proofs.PeersKeys.{active_one, join_one, selective_one}
 use Rattle.control_laws.proofs.PeersKinds.{ActiveAt, active_where, join_where, selective_where, tables_of, tell_active, tell_join, tell_selective, tell_unicast, unicast_where}

@@ -6,16 +6,16 @@ use Rattle.mv_base.specs.Lists.{Among}
 use Rattle.mv_base.specs.Number.{◌>>?◌, only_if}
 use Rattle.mv_base.proofs.CutLemmas.{if_some, next_some}
 use Rattle.mv_base.specs.declared.ids.NodeId.{NodeId}
-use Rattle.mldp_fec.specs.declared.fec.Fec.{Fec}
-use Rattle.bgp_attributes.specs.declared.key.Key.{Key}
-use Rattle.bgp_attributes.specs.declared.update.Change.{Change}
+use Rattle.mldp.specs.declared.mldp_fec.fec.Fec.{Fec}
+use Rattle.bgp_messages.specs.declared.bgp_attributes.key.Key.{Key}
+use Rattle.bgp_messages.specs.declared.bgp_attributes.update.Change.{Change}
 use Rattle.edge_defs.specs.Edge.{Control, Taken, TakenRoute}
 use Rattle.edge_defs.specs.Imported.{imported_inclusive, is_admitted, lsp_of, taken_from, tunnel_by}
 use Rattle.edge_defs.specs.Imported as imports
 use Rattle.edge_defs.specs.Keys.{Value}
 use Rattle.edge_defs.proofs.KeyLemmas.{key_exact}
 use Rattle.label_defs.proofs.KeyLemmas.{node_cases, node_cmp_total}
-use Rattle.calm_laws.proofs.Maps.{entry_get, get_entry}
+use Rattle.vrf_words.proofs.edge_words.calm_laws.Maps.{entry_get, get_entry}
 use Rattle.std.proofs.lemmas.Bool.{and_parts}
 use Rattle.mv_base.specs.declared.addr.Addr.{Addr}
 use Rattle.control_laws.proofs.PeersTimers.{ran, timeless, with_run}
@@ -25,8 +25,8 @@ use Rattle.std.specs.Ordering.{eq_by_cmp}
 use Rattle.edge_defs.specs.Place.{EdgePlace, OwnVrf, addr_of}
 use Rattle.edge_defs.specs.Steps.{taken_change}
 use Rattle.edge_defs.specs.Tunnels.{inclusive_tunnels}
-use Rattle.calm_laws.proofs.Lists.{among_flat_map, among_found, flat_map_among, found_among}
-use Rattle.edge_words.proofs.Members.{table_of, taken_of}
+use Rattle.vrf_words.proofs.edge_words.calm_laws.Lists.{among_flat_map, among_found, flat_map_among, found_among}
+use Rattle.vrf_words.proofs.edge_words.Members.{table_of, taken_of}
 use Rattle.control_laws.specs.Peers.{inclusive_of, key_of, route_behind, told_inclusive}
 use Rattle.control_laws.proofs.PeersKinds.{tables_of}
 use Rattle.control_laws.proofs.PeersTables.{changed, with_table}

@@ -5,17 +5,17 @@ use Rattle.std.specs.FinMap as maps
 use Rattle.std.specs.FinMap.{FinMap}
 use Rattle.mv_base.specs.Lists.{Among}
 use Rattle.mv_base.specs.declared.ids.NodeId.{NodeId}
-use Rattle.core_walks.specs.Core.{Core}
-use Rattle.bgp_attributes.specs.declared.update.Change.{Change}
-use Rattle.bgp_update.specs.Written.{IsWritableKey}
+use Rattle.mv_base.specs.core_walks.Core.{Core}
+use Rattle.bgp_messages.specs.declared.bgp_attributes.update.Change.{Change}
+use Rattle.bgp_messages.specs.bgp_update.Written.{IsWritableKey}
 use Rattle.label_defs.specs.Keys.{node_cmp}
-use Rattle.tree_defs.specs.Trees.{TreeData}
+use Rattle.vrf_words.specs.tree_defs.Trees.{TreeData}
 use Rattle.edge_defs.specs.Edge.{Taken}
 use Rattle.edge_defs.specs.Imported.{taken_from}
 use Rattle.edge_defs.specs.Place.{EdgePlace, OwnVrf, own_vrfs}
 use Rattle.edge_defs.specs.Steps.{peers_run, taken_change}
-use Rattle.edge_home.specs.Home.{place_of}
-use Rattle.calm_laws.proofs.Lists.{among_map}
+use Rattle.edge_routes.specs.edge_home.Home.{place_of}
+use Rattle.vrf_words.proofs.edge_words.calm_laws.Lists.{among_map}
 use Rattle.control_laws.specs.Control.{Kept, OwnTree, control_of, trees_of}
 use Rattle.control_laws.specs.Between.{AreTreesBetween, HasRoutes, KeepsCustomers, MakesBetween}
 use Rattle.control_laws.proofs.Between.{between_at, routes_make}

@@ -7,9 +7,9 @@ use Rattle.mv_base.proofs.CutLemmas.{next_some, if_some}
 use Rattle.mv_base.specs.declared.ids.NodeId.{NodeId}
 use Rattle.mv_base.specs.declared.pattern.Pattern.{Pattern}
 use Rattle.mv_base.specs.declared.rd.Rd.{Rd}
-use Rattle.mvpn_nlri.specs.declared.route.Route.TheVariants as routes
-use Rattle.bgp_attributes.specs.declared.key.Key.{Key}
-use Rattle.bgp_attributes.specs.declared.key.Key.TheVariants.{Mcast, Unicast}
+use Rattle.bgp_values.specs.declared.mvpn_nlri.route.Route.TheVariants as routes
+use Rattle.bgp_messages.specs.declared.bgp_attributes.key.Key.{Key}
+use Rattle.bgp_messages.specs.declared.bgp_attributes.key.Key.TheVariants.{Mcast, Unicast}
 use Rattle.selective_defs.specs.declared.learned_route.LearnedRoute.{LearnedRoute}
 use Rattle.selective.specs.Leaves as leaves
 use Rattle.selective.specs.declared.route_key.Learned.{Learned}
@@ -20,12 +20,12 @@ use Rattle.umh_select.specs.declared.key.Place.{Place}
 use Rattle.umh_select.specs.declared.key.Place.TheVariants.{First, Here, From, Last}
 use Rattle.umh_select.specs.declared.key.RouteKey.{RouteKey}
 use Rattle.umh_select.specs.declared.route.Held.{Held}
-use Rattle.tree_defs.specs.declared.flow.ActiveRoute.{ActiveRoute}
-use Rattle.tree_defs.specs.declared.flow.TakenJoin.{TakenJoin}
+use Rattle.vrf_words.specs.declared.tree_defs.flow.ActiveRoute.{ActiveRoute}
+use Rattle.vrf_words.specs.declared.tree_defs.flow.TakenJoin.{TakenJoin}
 use Rattle.edge_defs.specs.Edge.{Control, TakenRoute}
 use Rattle.edge_defs.specs.Imported.{FlowRoute, ImportedSelective, imported_active, imported_join, imported_selective, is_admitted, taken_from}
 use Rattle.edge_defs.specs.Place.{EdgePlace, OwnVrf, addr_of}
-use Rattle.tree_laws.specs.TreeOf.{IsActiveTaken, IsJoinTaken, IsSelectiveAt, IsSelectiveTaken, flow_route, held_at, held_from}
+use Rattle.vrf_words.specs.tree_laws.TreeOf.{IsActiveTaken, IsJoinTaken, IsSelectiveAt, IsSelectiveTaken, flow_route, held_at, held_from}
 use Rattle.control_laws.specs.Peers.{active_of, join_of, pattern_of}
 use Rattle.control_laws.proofs.PeersTold.{Tables, Told}
 

@@ -1,5 +1,5 @@
 -- What the tree of a VRF keeps where all routes of a peer are lost.
-use Rattle.calm_laws.proofs.Lists.{not_both}
+use Rattle.vrf_words.proofs.edge_words.calm_laws.Lists.{not_both}
 use Rattle.std.proofs.lemmas.Option.{same_Some}
 use Rattle.std.proofs.Common.{◌≡◌, ◌↔◌, ◌==◌, Bool, true, false, cond, inl, inr, not, List, [], ◌∷◌, is_some, fold, Option, Some, None, refl, sym, ap, subst, ◌∙◌}
 use Rattle.std.specs.declared.cmp.Ordering.{Ordering}
@@ -15,9 +15,9 @@ use Rattle.mv_base.specs.Lists.{Among}
 use Rattle.mv_base.specs.Number.{◌>>?◌}
 use Rattle.mv_base.proofs.CutLemmas.{next_some}
 use Rattle.mv_base.specs.declared.ids.NodeId.{NodeId}
-use Rattle.mvpn_nlri.specs.declared.route.Route.TheVariants as routes
-use Rattle.bgp_attributes.specs.declared.key.Key.{Key}
-use Rattle.bgp_attributes.specs.declared.key.Key.TheVariants.{Mcast, Unicast}
+use Rattle.bgp_values.specs.declared.mvpn_nlri.route.Route.TheVariants as routes
+use Rattle.bgp_messages.specs.declared.bgp_attributes.key.Key.{Key}
+use Rattle.bgp_messages.specs.declared.bgp_attributes.key.Key.TheVariants.{Mcast, Unicast}
 use Rattle.label_defs.specs.Keys.{node_cmp}
 use Rattle.label_defs.proofs.KeyLemmas.{node_cases, node_equal, node_itself}
 use Rattle.selective.specs.Leaves as leaves
@@ -30,19 +30,19 @@ use Rattle.umh_select.specs.Routes.{is_from, key_from, without_peer}
 use Rattle.umh_select.specs.declared.key.RouteKey.{RouteKey}
 use Rattle.umh_select.specs.declared.route.Held.{Held}
 use Rattle.umh_select.proofs.OrderLemmas as unicast_lemmas
-use Rattle.tree_defs.specs.declared.flow.ActiveRoute.{ActiveRoute}
-use Rattle.tree_defs.specs.declared.flow.TakenJoin.{TakenJoin}
-use Rattle.tree_defs.specs.Keys.{active_cmp}
-use Rattle.tree_defs.specs.Trees.{TreeData, join_cmp}
-use Rattle.tree_defs.proofs.KeyLemmas.{active_total, active_exact}
+use Rattle.vrf_words.specs.declared.tree_defs.flow.ActiveRoute.{ActiveRoute}
+use Rattle.vrf_words.specs.declared.tree_defs.flow.TakenJoin.{TakenJoin}
+use Rattle.vrf_words.specs.tree_defs.Keys.{active_cmp}
+use Rattle.vrf_words.specs.tree_defs.Trees.{TreeData, join_cmp}
+use Rattle.vrf_words.proofs.tree_defs.KeyLemmas.{active_total, active_exact}
 use Rattle.edge_defs.specs.Edge.{Control, Taken, TakenRoute}
 use Rattle.edge_defs.specs.Imported.{FlowRoute, imported_join, taken_from}
 use Rattle.edge_defs.specs.Keys.{key_cmp}
 use Rattle.edge_defs.specs.Place.{EdgePlace, OwnVrf}
 use Rattle.edge_defs.proofs.KeyLemmas.{key_exact}
-use Rattle.edge_laws.proofs.Taken.{table_in, taken_off, kept_other}
-use Rattle.calm_laws.proofs.Maps.{get_entry}
-use Rattle.tree_laws.specs.TreeOf.{held_from}
+use Rattle.vrf_words.proofs.edge_words.edge_laws.Taken.{table_in, taken_off, kept_other}
+use Rattle.vrf_words.proofs.edge_words.calm_laws.Maps.{get_entry}
+use Rattle.vrf_words.specs.tree_laws.TreeOf.{held_from}
 use Rattle.control_laws.specs.Peers.{AreWritable, IsTreeBetween, active_of, join_of, left_with, tree_lost, tree_without, with_actives, with_joined, with_learned, with_selective}
 use Rattle.control_laws.proofs.PeersKinds.{active_where, join_where, selective_where, tables_of, tell_active, tell_join, tell_selective, tell_unicast}
 use Rattle.control_laws.proofs.PeersMaps.{itself_by, join_by, join_exact, join_total, one_by, set_dropped}

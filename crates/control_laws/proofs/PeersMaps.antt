@@ -18,16 +18,16 @@ use Rattle.selective.specs.Leaves.{learned_now}
 use Rattle.selective.specs.Order.{route_cmp, route_total}
 use Rattle.selective.specs.declared.route_key.Learned.{Learned}
 use Rattle.selective.specs.declared.route_key.RouteKey as selective_keys
-use Rattle.tree_defs.specs.declared.flow.TakenJoin.{TakenJoin}
-use Rattle.tree_defs.specs.Keys.{flow_parts}
-use Rattle.tree_defs.specs.Trees.{join_cmp}
+use Rattle.vrf_words.specs.declared.tree_defs.flow.TakenJoin.{TakenJoin}
+use Rattle.vrf_words.specs.tree_defs.Keys.{flow_parts}
+use Rattle.vrf_words.specs.tree_defs.Trees.{join_cmp}
 use Rattle.umh_select.specs.Order as unicast_order
 use Rattle.umh_select.specs.declared.key.RouteKey.{RouteKey}
 use Rattle.umh_select.specs.declared.route.Held.{Held}
 use Rattle.edge_defs.specs.Imported.{FlowRoute, ImportedSelective}
-use Rattle.tree_defs.specs.declared.flow.ActiveRoute.{ActiveRoute}
-use Rattle.tree_defs.specs.Keys.{active_cmp}
-use Rattle.tree_defs.proofs.KeyLemmas.{active_total}
+use Rattle.vrf_words.specs.declared.tree_defs.flow.ActiveRoute.{ActiveRoute}
+use Rattle.vrf_words.specs.tree_defs.Keys.{active_cmp}
+use Rattle.vrf_words.proofs.tree_defs.KeyLemmas.{active_total}
 use Rattle.control_laws.specs.Peers.{actives_with, join_of, joined_with, learned_with, left_with, pattern_of, selective_with, selective_without}
 use Rattle.control_laws.proofs.PeersParts.{flag}
 use Rattle.control_laws.proofs.PeersTold.{dropped, first_of, put}

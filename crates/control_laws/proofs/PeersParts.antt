@@ -9,16 +9,16 @@ use Rattle.selective.specs.declared.route_key.Learned.{Learned}
 use Rattle.selective.specs.declared.route_key.RouteKey as selective_keys
 use Rattle.umh_select.specs.declared.key.RouteKey.{RouteKey}
 use Rattle.umh_select.specs.declared.route.Held.{Held}
-use Rattle.tree_defs.specs.declared.flow.ActiveRoute.{ActiveRoute}
-use Rattle.tree_defs.specs.declared.flow.TakenJoin.{TakenJoin}
-use Rattle.tree_defs.specs.Trees.{TreeData}
+use Rattle.vrf_words.specs.declared.tree_defs.flow.ActiveRoute.{ActiveRoute}
+use Rattle.vrf_words.specs.declared.tree_defs.flow.TakenJoin.{TakenJoin}
+use Rattle.vrf_words.specs.tree_defs.Trees.{TreeData}
 use Rattle.pim_defs.specs.Entries.{Entries}
 use Rattle.selective_defs.specs.declared.selection.Selection.{Selection}
 use Rattle.umh_select.specs.declared.route.Choice.{Choice}
-use Rattle.tree_defs.specs.Keys.{flow_cmp, note_cmp}
+use Rattle.vrf_words.specs.tree_defs.Keys.{flow_cmp, note_cmp}
 use Rattle.edge_defs.specs.Edge.{Control, Taken}
 use Rattle.edge_defs.specs.Place.{EdgePlace, OwnVrf}
-use Rattle.tree_laws.specs.TreeOf.{held_at}
+use Rattle.vrf_words.specs.tree_laws.TreeOf.{held_at}
 use Rattle.control_laws.specs.Peers.{IsTreeBetween, with_actives, with_joined, with_learned, with_selective}
 use Rattle.control_laws.proofs.PeersKinds.{tables_of, tell_unicast, unicast_told, told_unicast, tell_active, active_told, told_active, tell_join, join_told, told_join, tell_selective, selective_told, told_selective}
 use Rattle.control_laws.proofs.PeersTold.{Tables, Told, same_told}

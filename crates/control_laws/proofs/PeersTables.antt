@@ -3,17 +3,17 @@ use Rattle.std.proofs.lemmas.Option.{same_Some}
 use Rattle.std.proofs.Common.{◌≡◌, ◌≢◌, ℕ, Bool, true, false, cond, inl, inr, is_some, Option, Some, None, refl, sym, ap, subst, ◌∙◌}
 use Rattle.std.specs.FinMap as maps
 use Rattle.mv_base.specs.declared.ids.NodeId.{NodeId}
-use Rattle.bgp_attributes.specs.declared.key.Key.{Key}
-use Rattle.bgp_attributes.specs.declared.update.Change.{Change}
-use Rattle.bgp_attributes.specs.declared.update.Change.TheVariants as updates
-use Rattle.bgp_update.specs.Written.{IsWritableKey}
+use Rattle.bgp_messages.specs.declared.bgp_attributes.key.Key.{Key}
+use Rattle.bgp_messages.specs.declared.bgp_attributes.update.Change.{Change}
+use Rattle.bgp_messages.specs.declared.bgp_attributes.update.Change.TheVariants as updates
+use Rattle.bgp_messages.specs.bgp_update.Written.{IsWritableKey}
 use Rattle.label_defs.proofs.KeyLemmas.{node_cases, ties, apart}
 use Rattle.edge_defs.specs.Edge.{Control, Taken, TakenRoute}
 use Rattle.edge_defs.specs.Keys.{Value, key_cmp, same_value}
 use Rattle.edge_defs.specs.Steps.{learned, taken_change}
 use Rattle.edge_defs.proofs.KeyLemmas.{key_total, key_exact, value_exact}
-use Rattle.edge_laws.proofs.Taken.{table_in, put_own, put_other}
-use Rattle.calm_laws.proofs.Tables.{taken_is}
+use Rattle.vrf_words.proofs.edge_words.edge_laws.Taken.{table_in, put_own, put_other}
+use Rattle.vrf_words.proofs.edge_words.calm_laws.Tables.{taken_is}
 use Rattle.control_laws.specs.Peers.{key_of, route_behind, same_route}
 use Rattle.control_laws.proofs.PeersKinds.{tables_of}
 use Rattle.control_laws.proofs.PeersTold.{Tables, Changes, here_or_not}

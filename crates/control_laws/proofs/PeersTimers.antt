@@ -10,22 +10,22 @@ use Rattle.mv_base.specs.Lists.{Among}
 use Rattle.mv_base.specs.Number.{◌>>?◌}
 use Rattle.mv_base.proofs.CutLemmas.{next_some}
 use Rattle.mv_base.specs.declared.ids.NodeId.{NodeId}
-use Rattle.bgp_attributes.specs.declared.key.Key.{Key}
-use Rattle.bgp_attributes.specs.declared.key.Key.TheVariants.{Mcast, Unicast}
-use Rattle.mvpn_nlri.specs.declared.route.Route.TheVariants as routes
+use Rattle.bgp_messages.specs.declared.bgp_attributes.key.Key.{Key}
+use Rattle.bgp_messages.specs.declared.bgp_attributes.key.Key.TheVariants.{Mcast, Unicast}
+use Rattle.bgp_values.specs.declared.mvpn_nlri.route.Route.TheVariants as routes
 use Rattle.selective.specs.Leaves as leaves
 use Rattle.selective.specs.Leaves.{routes_run, run_due}
 use Rattle.selective.specs.Order.{route_cmp}
 use Rattle.selective.specs.declared.route_key.Learned.{Learned}
 use Rattle.selective.specs.declared.route_key.RouteKey as selective_keys
-use Rattle.tree_defs.specs.Trees.{TreeData}
+use Rattle.vrf_words.specs.tree_defs.Trees.{TreeData}
 use Rattle.edge_defs.specs.Edge.{Control, Taken, TakenRoute}
 use Rattle.edge_defs.specs.Imported.{ImportedSelective, imported_selective}
 use Rattle.edge_defs.specs.Place.{EdgePlace, OwnVrf, addr_of, own_vrfs}
 use Rattle.edge_defs.specs.Steps.{is_imported, peers_run}
-use Rattle.edge_laws.proofs.Taken.{get-peers_run, run_at, run_taken, table_in}
-use Rattle.calm_laws.proofs.Lists.{any_from}
-use Rattle.calm_laws.proofs.Maps.{find-map}
+use Rattle.vrf_words.proofs.edge_words.edge_laws.Taken.{get-peers_run, run_at, run_taken, table_in}
+use Rattle.vrf_words.proofs.edge_words.calm_laws.Lists.{any_from}
+use Rattle.vrf_words.proofs.edge_words.calm_laws.Maps.{find-map}
 use Rattle.control_laws.specs.Peers.{AreWritable, IsTreeBetween, pattern_of, tree_run, with_selective}
 use Rattle.control_laws.proofs.PeersKinds.{tables_of, tell_active, tell_join, tell_selective, tell_unicast}
 use Rattle.control_laws.proofs.PeersParts.{Parts, joins, parts_of, tree_of}

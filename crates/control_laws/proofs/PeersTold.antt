@@ -1,5 +1,5 @@
 -- What a tree keeps of the routes of its peers, where one of these changes, or those of one peer are lost.
-use Rattle.calm_laws.proofs.Lists.{not_both}
+use Rattle.vrf_words.proofs.edge_words.calm_laws.Lists.{not_both}
 use Rattle.std.proofs.lemmas.Option.{same_Some}
 use Rattle.std.proofs.Common.{◌≡◌, ◌↔◌, Bool, true, false, cond, ◌⊎◌, inl, inr, Option, Some, None, refl, sym, ap, subst, ◌∙◌}
 use Rattle.std.specs.Ordering.{eq_by_cmp}
@@ -8,7 +8,7 @@ use Rattle.std.proofs.lemmas.Bool.{cases_Bool}
 use Rattle.mv_base.specs.Number.{◌>>?◌}
 use Rattle.mv_base.proofs.CutLemmas.{next_some}
 use Rattle.mv_base.specs.declared.ids.NodeId.{NodeId}
-use Rattle.bgp_attributes.specs.declared.key.Key.{Key}
+use Rattle.bgp_messages.specs.declared.bgp_attributes.key.Key.{Key}
 use Rattle.label_defs.proofs.KeyLemmas.{node_cases, ties}
 use Rattle.edge_defs.specs.Edge.{TakenRoute}
 use Rattle.edge_defs.specs.Keys.{key_cmp}

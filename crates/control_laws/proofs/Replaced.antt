@@ -13,13 +13,13 @@ use Rattle.scenario_defs.specs.declared.event.IfaceEntry.{IfaceEntry}
 use Rattle.selective_defs.specs.declared.selection.Selection.{Selection}
 use Rattle.selective.specs.Roots.{is_of}
 use Rattle.umh_select.specs.declared.route.Choice.{Choice}
-use Rattle.tree_defs.specs.Keys as tree_keys
-use Rattle.tree_defs.specs.Trees.{TreeData}
+use Rattle.vrf_words.specs.tree_defs.Keys as tree_keys
+use Rattle.vrf_words.specs.tree_defs.Trees.{TreeData}
 use Rattle.edge_defs.specs.Edge.{Note, VrfPattern, Selected, VrfFlow, Upstream, Control, note_cmp, pattern_cmp, flow_cmp}
 use Rattle.edge_defs.specs.Originated.{is_iface_of}
 use Rattle.edge_defs.specs.Place.{OwnVrf, vrfs_from}
 use Rattle.edge_defs.proofs.KeyLemmas.{note_total, note_exact, pattern_total, pattern_exact, flow_total, flow_exact}
-use Rattle.calm_laws.proofs.Lists.{among_behind, map_among}
+use Rattle.vrf_words.proofs.edge_words.calm_laws.Lists.{among_behind, map_among}
 use Rattle.control_laws.specs.Control.{Kept, OwnTree, trees_of, upstream_by, control_of, AreTrees, with_tree, with_trees}
 use Rattle.control_laws.proofs.Gathered.{gathered, HasNone, gathered_same, gathered_alike, gathered_map, options, truths}
 use Rattle.control_laws.proofs.Owned.{AreApart, IsOneOf, one_of, paired, with, IsOfOne, of_number, IsOwned, all_changed, all_through, trees_map}

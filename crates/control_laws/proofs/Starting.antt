@@ -5,12 +5,12 @@ use Rattle.std.specs.FinSet as sets
 use Rattle.mv_base.specs.Lists.{Among}
 use Rattle.pim_defs.specs.Entries.{entry_cmp}
 use Rattle.selective.specs.Roots.{is_of}
-use Rattle.tree_defs.specs.Keys as tree_keys
-use Rattle.tree_defs.specs.Trees.{TreeData}
+use Rattle.vrf_words.specs.tree_defs.Keys as tree_keys
+use Rattle.vrf_words.specs.tree_defs.Trees.{TreeData}
 use Rattle.edge_defs.specs.Edge.{Control, note_cmp, pattern_cmp, flow_cmp, no_control}
-use Rattle.edge_home.specs.Home.{place_of}
-use Rattle.tree_laws.specs.TreeOf.{IsTreeOf}
-use Rattle.tree_laws.proofs.Start.{started}
+use Rattle.edge_routes.specs.edge_home.Home.{place_of}
+use Rattle.vrf_words.specs.tree_laws.TreeOf.{IsTreeOf}
+use Rattle.vrf_words.proofs.tree_laws.Start.{started}
 use Rattle.control_laws.specs.Control.{Kept, OwnTree, trees_of, control_of, upstream_by}
 use Rattle.control_laws.specs.Customers.{Makes}
 use Rattle.control_laws.specs.Start.{IsFirst, AreFirst}

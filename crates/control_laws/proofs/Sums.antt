@@ -17,8 +17,8 @@ use Rattle.std.proofs.lemmas.List.Folds.{list_any-append}
 use Rattle.mv_base.specs.Lists.{Among}
 use Rattle.label_defs.specs.Members.{in_order}
 use Rattle.label_defs.proofs.MemberLemmas.{front_of, back_of, not_tied, contains_in_order}
-use Rattle.calm_laws.proofs.Lists.{any_among}
-use Rattle.calm_laws.proofs.Maps.{found_stands, empty_entries}
+use Rattle.vrf_words.proofs.edge_words.calm_laws.Lists.{any_among}
+use Rattle.vrf_words.proofs.edge_words.calm_laws.Maps.{found_stands, empty_entries}
 use Rattle.edge_defs.specs.Place.{OwnVrf}
 use Rattle.control_laws.specs.Control.{OwnTree}
 use Rattle.control_laws.proofs.Gathered.{options, truths, gathered_none, find-append, find-gathered, any-gathered}

@@ -17,15 +17,15 @@ use Rattle.selective.specs.Roots.{is_of}
 use Rattle.selective.specs.Patterns.{same_pattern}
 use Rattle.selective.proofs.RootLemmas.{one_pattern, pattern_itself}
 use Rattle.umh_select.specs.declared.route.Choice.{Choice}
-use Rattle.tree_defs.specs.declared.flow.Flow.{Flow}
-use Rattle.tree_defs.specs.declared.flow.Note.{Note}
-use Rattle.tree_defs.specs.Keys as tree_keys
-use Rattle.tree_defs.specs.Keys.{active_cmp}
+use Rattle.vrf_words.specs.declared.tree_defs.flow.Flow.{Flow}
+use Rattle.vrf_words.specs.declared.tree_defs.flow.Note.{Note}
+use Rattle.vrf_words.specs.tree_defs.Keys as tree_keys
+use Rattle.vrf_words.specs.tree_defs.Keys.{active_cmp}
 use Rattle.edge_defs.specs.Edge as edges
 use Rattle.edge_defs.specs.Edge.{VrfPattern, Selected, VrfFlow, Upstream, Site, Remote, Taken, Control, note_cmp, pattern_cmp, flow_cmp, no_control}
 use Rattle.edge_defs.proofs.KeyLemmas.{note_total, pattern_total, pattern_exact, flow_total, flow_exact}
-use Rattle.tree_defs.proofs.KeyLemmas.{flow_total as tree_flow_total, flow_exact as tree_flow_exact}
-use Rattle.tree_laws.specs.TreeOf.{edge_note, flow_in}
+use Rattle.vrf_words.proofs.tree_defs.KeyLemmas.{flow_total as tree_flow_total, flow_exact as tree_flow_exact}
+use Rattle.vrf_words.specs.tree_laws.TreeOf.{edge_note, flow_in}
 use Rattle.control_laws.specs.Control.{Kept, OwnTree, trees_of, upstream_by, flows_by, selected_by, control_of}
 use Rattle.control_laws.proofs.Gathered.{gathered, gathered_alike, get-gathered, contains-gathered}
 

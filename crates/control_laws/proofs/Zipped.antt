@@ -3,7 +3,7 @@ use Rattle.std.proofs.Common.{◌≡◌, suc, inl, inr, List, [], ◌∷◌, map
 use Rattle.std.specs.List.{AllZip}
 use Rattle.std.proofs.lemmas.List.{length-map}
 use Rattle.mv_base.specs.Lists.{Among}
-use Rattle.tree_defs.specs.Trees.{TreeData}
+use Rattle.vrf_words.specs.tree_defs.Trees.{TreeData}
 use Rattle.edge_defs.specs.Place.{OwnVrf}
 use Rattle.control_laws.specs.Control.{Kept, OwnTree, own_trees, trees_of}
 use Rattle.control_laws.proofs.Gathered.{gathered}

@@ -4,18 +4,18 @@ use Rattle.std.specs.List.{AllByRecursion}
 use Rattle.std.specs.FinMap as maps
 use Rattle.std.specs.FinMap.{FinMap}
 use Rattle.mv_base.specs.declared.ids.NodeId.{NodeId}
-use Rattle.core_walks.specs.Core.{Core}
+use Rattle.mv_base.specs.core_walks.Core.{Core}
 use Rattle.label_defs.specs.Keys.{node_cmp}
 use Rattle.pim_defs.specs.Entries as entries
 use Rattle.selective.specs.Leaves as leaves
 use Rattle.selective.specs.Roots as roots
-use Rattle.tree_defs.specs.declared.flow.Flow.{Flow}
-use Rattle.tree_defs.specs.Flows.{flow_of}
-use Rattle.tree_defs.specs.Trees.{TreeData}
+use Rattle.vrf_words.specs.declared.tree_defs.flow.Flow.{Flow}
+use Rattle.vrf_words.specs.tree_defs.Flows.{flow_of}
+use Rattle.vrf_words.specs.tree_defs.Trees.{TreeData}
 use Rattle.edge_defs.specs.Edge.{Control, Taken}
 use Rattle.edge_defs.specs.Place.{vrfs_from}
-use Rattle.edge_home.specs.Home.{place_of}
-use Rattle.tree_laws.specs.Refreshed.{with_flows}
+use Rattle.edge_routes.specs.edge_home.Home.{place_of}
+use Rattle.vrf_words.specs.tree_laws.Refreshed.{with_flows}
 use Rattle.control_laws.specs.Control.{Kept, OwnTree, control_of, trees_of}
 use Rattle.control_laws.specs.Peers.{IsTreeBetween}
 

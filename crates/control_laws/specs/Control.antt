@@ -11,11 +11,11 @@ use Rattle.umh_select.specs.declared.route.Choice.TheVariants as choices
 use Rattle.label_defs.specs.Keys.{node_cmp}
 use Rattle.edge_defs.specs.Edge.{VrfPattern, Selected, VrfFlow, Upstream, Site, Remote, Taken, Control}
 use Rattle.edge_defs.specs.Place.{OwnVrf, vrfs_from}
-use Rattle.edge_home.specs.Home.{Home, place_of}
-use Rattle.core_walks.specs.Core.{Core}
-use Rattle.tree_defs.specs.declared.flow.Flow.{Flow}
-use Rattle.tree_defs.specs.Trees.{TreeData}
-use Rattle.tree_laws.specs.TreeOf.{IsTreeOf, edge_note, flow_in}
+use Rattle.edge_routes.specs.edge_home.Home.{Home, place_of}
+use Rattle.mv_base.specs.core_walks.Core.{Core}
+use Rattle.vrf_words.specs.declared.tree_defs.flow.Flow.{Flow}
+use Rattle.vrf_words.specs.tree_defs.Trees.{TreeData}
+use Rattle.vrf_words.specs.tree_laws.TreeOf.{IsTreeOf, edge_note, flow_in}
 
 -- What is kept: where the edge stands, a tree for each of its VRFs, in their order, and the peers whose session is up, each with the table
 -- that was taken from it.

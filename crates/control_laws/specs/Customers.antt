@@ -9,8 +9,8 @@ use Rattle.selective_defs.specs.declared.selection.Selection.{Selection}
 use Rattle.pim_joinprune.specs.declared.message.JoinPrune.{JoinPrune}
 use Rattle.pim_defs.specs.Entries.{applied, kept_at}
 use Rattle.selective.specs.Roots.{is_of, run_due, selected_now}
-use Rattle.tree_defs.specs.declared.flow.Note.{Note}
-use Rattle.tree_defs.specs.Trees.{TreeData}
+use Rattle.vrf_words.specs.declared.tree_defs.flow.Note.{Note}
+use Rattle.vrf_words.specs.tree_defs.Trees.{TreeData}
 use Rattle.edge_defs.specs.Edge.{Control}
 use Rattle.control_laws.specs.Control.{Kept, AreTrees, control_of}
 

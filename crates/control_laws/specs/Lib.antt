@@ -3,3 +3,4 @@ pub mod Customers
 pub mod Peers
 pub mod Between
 pub mod Start
+pub mod group_laws

@@ -11,23 +11,23 @@ use Rattle.mv_base.specs.declared.addr.Addr.{Addr}
 use Rattle.mv_base.specs.declared.ids.NodeId.{NodeId}
 use Rattle.mv_base.specs.declared.pattern.Pattern.{Pattern}
 use Rattle.mv_base.specs.declared.rd.Rd.{Rd}
-use Rattle.mvpn_nlri.specs.declared.route.Route.TheVariants as routes
-use Rattle.bgp_attributes.specs.declared.key.Key.{Key}
-use Rattle.bgp_attributes.specs.declared.key.Key.TheVariants.{Mcast, Unicast}
-use Rattle.bgp_attributes.specs.declared.update.Change.{Change}
-use Rattle.bgp_attributes.specs.declared.update.Change.TheVariants as updates
-use Rattle.bgp_update.specs.Written.{IsWritableKey}
-use Rattle.mldp_fec.specs.declared.fec.Fec.{Fec}
+use Rattle.bgp_values.specs.declared.mvpn_nlri.route.Route.TheVariants as routes
+use Rattle.bgp_messages.specs.declared.bgp_attributes.key.Key.{Key}
+use Rattle.bgp_messages.specs.declared.bgp_attributes.key.Key.TheVariants.{Mcast, Unicast}
+use Rattle.bgp_messages.specs.declared.bgp_attributes.update.Change.{Change}
+use Rattle.bgp_messages.specs.declared.bgp_attributes.update.Change.TheVariants as updates
+use Rattle.bgp_messages.specs.bgp_update.Written.{IsWritableKey}
+use Rattle.mldp.specs.declared.mldp_fec.fec.Fec.{Fec}
 use Rattle.selective.specs.Leaves as leaves
 use Rattle.selective.specs.Leaves.{learned_now}
 use Rattle.umh_select.specs.Order as unicast_order
 use Rattle.umh_select.specs.Routes.{key_from, without_peer}
 use Rattle.umh_select.specs.declared.key.RouteKey.{RouteKey}
 use Rattle.umh_select.specs.declared.route.Held.{Held}
-use Rattle.tree_defs.specs.declared.flow.ActiveRoute.{ActiveRoute}
-use Rattle.tree_defs.specs.declared.flow.TakenJoin.{TakenJoin}
-use Rattle.tree_defs.specs.Keys.{active_cmp}
-use Rattle.tree_defs.specs.Trees.{TreeData, join_cmp, wanted_by}
+use Rattle.vrf_words.specs.declared.tree_defs.flow.ActiveRoute.{ActiveRoute}
+use Rattle.vrf_words.specs.declared.tree_defs.flow.TakenJoin.{TakenJoin}
+use Rattle.vrf_words.specs.tree_defs.Keys.{active_cmp}
+use Rattle.vrf_words.specs.tree_defs.Trees.{TreeData, join_cmp, wanted_by}
 use Rattle.edge_defs.specs.Edge.{Control, Taken, TakenRoute}
 use Rattle.edge_defs.specs.Imported.{FlowRoute, ImportedSelective, imported_active, imported_inclusive, imported_join}
 use Rattle.edge_defs.specs.Imported.{imported_selective, taken_from}
@@ -35,9 +35,9 @@ use Rattle.edge_defs.specs.Keys.{same_value}
 use Rattle.edge_defs.specs.Place.{EdgePlace, OwnVrf, addr_of}
 use Rattle.edge_defs.specs.Steps.{learned, taken_change}
 use Rattle.edge_defs.specs.Tunnels.{inclusive_tunnels}
-use Rattle.core_walks.specs.Core.{Core}
-use Rattle.edge_home.specs.Home.{place_of}
-use Rattle.tree_laws.specs.TreeOf.{IsTreeOf, held_from}
+use Rattle.mv_base.specs.core_walks.Core.{Core}
+use Rattle.edge_routes.specs.edge_home.Home.{place_of}
+use Rattle.vrf_words.specs.tree_laws.TreeOf.{IsTreeOf, held_from}
 use Rattle.control_laws.specs.Control.{Kept, control_of, trees_of}
 
 -- ---- routes of peers

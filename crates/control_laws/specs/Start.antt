@@ -4,11 +4,11 @@ use Rattle.std.specs.List.{AllByRecursion}
 use Rattle.std.specs.FinMap as maps
 use Rattle.std.specs.FinMap.{FinMap}
 use Rattle.mv_base.specs.declared.ids.SiteId.{SiteId}
-use Rattle.core_walks.specs.Core.{Core}
+use Rattle.mv_base.specs.core_walks.Core.{Core}
 use Rattle.umh_select.specs.Order.{key_cmp}
 use Rattle.umh_select.specs.declared.key.RouteKey.{RouteKey}
-use Rattle.edge_home.specs.Home.{Home, place_of}
-use Rattle.tree_laws.specs.TreeOf.{IsAttachedAt, start_tree}
+use Rattle.edge_routes.specs.edge_home.Home.{Home, place_of}
+use Rattle.vrf_words.specs.tree_laws.TreeOf.{IsAttachedAt, start_tree}
 use Rattle.control_laws.specs.Control.{Kept, OwnTree, trees_of}
 
 -- The tree of a VRF has its interfaces and the prefixes of the sites that are attached at it, and nothing else.

@@ -4,21 +4,21 @@ ghost use Rattle.std.specs.FinMap as maps;
 ghost use Rattle.std.specs.FinMap.{FinMap};
 ghost use Rattle.std.specs.List.{AllByRecursion, AllZip};
 ghost use Rattle.mv_base.specs.Lists.{Among};
-ghost use Rattle.core_walks.specs.Core.{Core};
+ghost use Rattle.mv_base.specs.core_walks.Core.{Core};
 ghost use Rattle.label_defs.specs.Keys.{node_cmp};
 ghost use Rattle.label_defs.specs.LabelData as labels;
 ghost use Rattle.label_defs.specs.LabelData.{LabelData};
 ghost use Rattle.scenario_defs.specs.Rules.{Rules};
 ghost use Rattle.selective.specs.Leaves.{is_waiting};
-ghost use Rattle.tree_defs.specs.Trees.{TreeData};
+ghost use Rattle.vrf_words.specs.tree_defs.Trees.{TreeData};
 ghost use Rattle.edge_defs.specs.Due.{due, due_from};
 ghost use Rattle.edge_defs.specs.Edge.{Taken};
 ghost use Rattle.edge_defs.specs.Place.{OwnVrf, label_place, own_vrfs};
 ghost use Rattle.edge_defs.specs.Steps.{Call, control_step, effect, is_vrf_step, refreshed};
 ghost use Rattle.edge_defs.specs.Upstream.{known_routes};
-ghost use Rattle.edge_home.specs.Home.{place_of};
-ghost use Rattle.edge_words.specs.Known.{AreNodes};
-ghost use Rattle.tree_laws.specs.Whole.{AreWhole};
+ghost use Rattle.edge_routes.specs.edge_home.Home.{place_of};
+ghost use Rattle.vrf_words.specs.edge_words.Known.{AreNodes};
+ghost use Rattle.vrf_words.specs.tree_laws.Whole.{AreWhole};
 ghost use Rattle.control_laws.specs.Control.{AreTrees, Kept, control_of, trees_of};
 ghost use Rattle.control_laws.specs.Customers.{AreSingle, Makes};
 ghost use Rattle.control_laws.specs.Peers.{AreWritable};
@@ -62,6 +62,7 @@ pub fn delays_are_counted()
 pub fn timers_are_counted()
     ensures { (kept : Kept) (core : Core) (now : ℕ) (part : LabelData) → AreTrees kept → AreWritable (control_of kept) →
         AllByRecursion (λ (tree : TreeData). AreSingle tree.root.selections) kept.trees →
-        due (place_of kept.home core) now (record { control = control_of kept; part = part })
+        (raised : FinMap node_cmp ℕ) →
+        due (place_of kept.home core) now (record { control = control_of kept; part = part; raised = raised })
         ≡ labels.due (label_place kept.home.scenario core kept.home.me) now part + sum_by (tree_due now) kept.trees }
 {}

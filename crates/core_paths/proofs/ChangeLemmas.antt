@@ -2,9 +2,9 @@
 use Rattle.std.proofs.Common.{◌≡◌, ◌∙◌, ◌≤◌, ℕ, List, subst, sym, ap}
 use Rattle.mv_base.specs.declared.core_link.Link.{Link}
 use Rattle.mv_base.specs.declared.ids.NodeId.{NodeId}
-use Rattle.core_walks.specs.Topology.{IsTopology, IsConnected}
-use Rattle.core_walks.specs.Costs.{with_cost}
-use Rattle.core_walks.proofs.CostLemmas.{priced_topology, priced_connected}
+use Rattle.mv_base.specs.core_walks.Topology.{IsTopology, IsConnected}
+use Rattle.mv_base.specs.core_walks.Costs.{with_cost}
+use Rattle.mv_base.proofs.core_walks.CostLemmas.{priced_topology, priced_connected}
 use Rattle.core_paths.specs.Tables.{IsCore, IsCostTable, IsStepTable}
 
 -- The new links are those of a core as well.

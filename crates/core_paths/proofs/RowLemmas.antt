@@ -7,10 +7,10 @@ use Rattle.std.proofs.lemmas.List.Sums.{sum_by-set, count_by-le-length, AllPass-
 use Rattle.std.proofs.lemmas.Bool.{and_parts, cases_eq, cases_lt}
 use Rattle.std.proofs.lemmas.Bool.Decides.{nat_tests}
 use Rattle.mv_base.specs.declared.core_link.Link.{Link}
-use Rattle.core_walks.specs.Walks.{IsLinked, IsWalk}
-use Rattle.core_walks.specs.Topology.{HasEnds, IsTopology}
+use Rattle.mv_base.specs.core_walks.Walks.{IsLinked, IsWalk}
+use Rattle.mv_base.specs.core_walks.Topology.{HasEnds, IsTopology}
 use Rattle.core_paths.specs.Rows.{far, relaxed, relaxed_link, relaxed_all, is_tight, IsCostRow}
-use Rattle.core_walks.proofs.WalkLemmas.{IsGood, good, further, linked_there, linked_here}
+use Rattle.mv_base.proofs.core_walks.WalkLemmas.{IsGood, good, further, linked_there, linked_here}
 
 pub record HasWalk (links : List Link) (from to cost : ℕ) : Type 0 where
   pub steps : List ℕ

@@ -6,10 +6,10 @@ use Rattle.std.proofs.lemmas.List.Elements.{All-nil, All-cons, All-contains, All
 use Rattle.std.proofs.lemmas.Bool.{cases_eq}
 use Rattle.std.proofs.lemmas.Bool.Decides.{nat_tests}
 use Rattle.mv_base.specs.declared.core_link.Link.{Link}
-use Rattle.core_walks.specs.Walks.{IsLinked, IsWalk, IsLeast, IsFirstStep, IsToward}
-use Rattle.core_walks.specs.Topology.{IsTopology}
+use Rattle.mv_base.specs.core_walks.Walks.{IsLinked, IsWalk, IsLeast, IsFirstStep, IsToward}
+use Rattle.mv_base.specs.core_walks.Topology.{IsTopology}
 use Rattle.core_paths.specs.Rows.{far, noted, noted_link, noted_all, IsCostRow, IsStepRow}
-use Rattle.core_walks.proofs.WalkLemmas.{good, further, linked_there, linked_here}
+use Rattle.mv_base.proofs.core_walks.WalkLemmas.{good, further, linked_there, linked_here}
 use Rattle.core_paths.proofs.RowLemmas.{whole}
 
 -- the entry for which no first step is known

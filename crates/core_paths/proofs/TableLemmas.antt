@@ -4,11 +4,11 @@ use Rattle.std.proofs.lemmas.Bool.{cases_eq}
 use Rattle.std.proofs.lemmas.Nat.{mul-add-lt}
 use Rattle.std.proofs.lemmas.List.{get_or_append_left, get_or-append-add, get_or_read}
 use Rattle.mv_base.specs.declared.core_link.Link.{Link}
-use Rattle.core_walks.specs.Walks.{Reaches, IsLeast, IsToward}
-use Rattle.core_walks.specs.Topology.{Topology, IsConnected, IsFirstUnreached}
+use Rattle.mv_base.specs.core_walks.Walks.{Reaches, IsLeast, IsToward}
+use Rattle.mv_base.specs.core_walks.Topology.{Topology, IsConnected, IsFirstUnreached}
 use Rattle.core_paths.specs.Rows.{far, IsCostRow, IsStepRow, IsFirstFar, IsNear}
 use Rattle.core_paths.specs.Tables.{IsCostTable, IsStepTable}
-use Rattle.core_walks.proofs.WalkLemmas.{reaches_back, reaches_through}
+use Rattle.mv_base.proofs.core_walks.WalkLemmas.{reaches_back, reaches_through}
 
 -- An entry of the earlier rows, and one of the row behind them.
 entry_before : (table row : List ℕ) (nodes upto from to : ℕ) → length table ≡ upto * nodes → from < nodes → to < upto → get_or (table ++ row) (to * nodes + from) 0 ≡ get_or table (to * nodes + from) 0

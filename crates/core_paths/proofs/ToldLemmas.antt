@@ -4,8 +4,8 @@ use Rattle.std.specs.Prelude.{slice_index}
 use Rattle.std.proofs.lemmas.Bool.{cases_Bool, lt-ltb, le-ltb, eq-eqb, ne_eqb}
 use Rattle.mv_base.specs.declared.core_link.Link.{Link}
 use Rattle.mv_base.specs.declared.ids.NodeId.{NodeId}
-use Rattle.core_walks.specs.Core.{Core, IsCoreOf}
-use Rattle.core_walks.specs.Walks.{IsLeast, IsToward}
+use Rattle.mv_base.specs.core_walks.Core.{Core, IsCoreOf}
+use Rattle.mv_base.specs.core_walks.Walks.{IsLeast, IsToward}
 use Rattle.core_paths.specs.Tables.{IsCore}
 
 abbrev within : ℕ → NodeId → NodeId → Bool

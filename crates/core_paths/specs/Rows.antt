@@ -2,7 +2,7 @@
 use Rattle.std.specs.Prelude.{◌≡◌, ◌≢◌, ◌+◌, ◌<◌, ◌≤◌, ◌&&◌, ◌==◌, ℕ, Bool, nat_lt, nat_le}
 use Rattle.std.specs.Prelude.{List, fold, length, slice_index, slice_set, if◌then◌else◌}
 use Rattle.mv_base.specs.declared.core_link.Link.{Link}
-use Rattle.core_walks.specs.Walks.{Reaches, IsLeast, IsToward}
+use Rattle.mv_base.specs.core_walks.Walks.{Reaches, IsLeast, IsToward}
 
 -- the entry of a node from which no walk is known
 abbrev pub far : ℕ

@@ -1,8 +1,8 @@
 -- The tables of a core: the rows toward node 0, node 1 and so on, end to end.
 use Rattle.std.specs.Prelude.{◌≡◌, ◌≢◌, ◌+◌, ◌*◌, ◌<◌, ℕ, List, length, slice_index}
 use Rattle.mv_base.specs.declared.core_link.Link.{Link}
-use Rattle.core_walks.specs.Walks.{IsLeast, IsToward}
-use Rattle.core_walks.specs.Topology.{IsTopology, IsConnected}
+use Rattle.mv_base.specs.core_walks.Walks.{IsLeast, IsToward}
+use Rattle.mv_base.specs.core_walks.Topology.{IsTopology, IsConnected}
 
 -- the least costs toward each node below `upto`
 pub record IsCostTable (links : List Link) (nodes upto : ℕ) (costs : List ℕ) : Type 0 where

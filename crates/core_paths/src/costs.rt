@@ -1,6 +1,6 @@
 //! Links whose costs change.
 ghost use Rattle.std.specs.Prelude.{◌≡◌, IfOk};
-ghost use Rattle.core_walks.specs.Costs.{joins, priced, with_cost};
+ghost use Rattle.mv_base.specs.core_walks.Costs.{joins, priced, with_cost};
 
 use mv_base::{Link, NoMemory, NodeId};
 use std::alloc::Global;

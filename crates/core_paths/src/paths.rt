@@ -1,10 +1,10 @@
 //! The core of the provider's network.
 ghost use Rattle.std.specs.Prelude.{◌≡◌, ◌<◌, ◌≤◌, ◌+◌, ◌*◌, ◌↔◌, IfOk, IfErr, IfSome};
 ghost use Rattle.mv_base.specs.declared.ids.NodeId.{NodeId};
-ghost use Rattle.core_walks.specs.Core.{Core as Walks, IsCoreOf};
-ghost use Rattle.core_walks.specs.Walks.{IsLeast, IsToward};
-ghost use Rattle.core_walks.specs.Topology.{IsTopology, IsConnected, IsFirstUnreached};
-ghost use Rattle.core_walks.specs.Costs.{with_cost};
+ghost use Rattle.mv_base.specs.core_walks.Core.{Core as Walks, IsCoreOf};
+ghost use Rattle.mv_base.specs.core_walks.Walks.{IsLeast, IsToward};
+ghost use Rattle.mv_base.specs.core_walks.Topology.{IsTopology, IsConnected, IsFirstUnreached};
+ghost use Rattle.mv_base.specs.core_walks.Costs.{with_cost};
 
 use crate::costs::with_cost;
 use crate::tables::{Tables, all_rows, first_unreached};
@@ -22,7 +22,7 @@ pub struct Core {
 }
 
 impl Model for Core {
-    ghost use Rattle.core_walks.specs.Topology.{Topology};
+    ghost use Rattle.mv_base.specs.core_walks.Topology.{Topology};
     ghost use Rattle.core_paths.specs.Tables.{IsCore};
 
     ghost Value = { Topology };

@@ -1,7 +1,7 @@
 //! Rows of least costs: what a walk to one node costs at least, from each node.
 ghost use Rattle.std.specs.Prelude.{◌≡◌, ◌<◌, length, All, IfOk};
 ghost use Rattle.std.specs.List.{list_all};
-ghost use Rattle.core_walks.specs.Topology.{HasEnds, IsTopology};
+ghost use Rattle.mv_base.specs.core_walks.Topology.{HasEnds, IsTopology};
 ghost use Rattle.core_paths.specs.Rows.{relaxed, relaxed_link, relaxed_all, is_tight, IsCostRow};
 
 use mv_base::{Link, NoMemory};

@@ -1,6 +1,6 @@
 //! Rows of first steps: where the walks of least cost to one node lead first, from each node.
 ghost use Rattle.std.specs.Prelude.{◌≡◌, ◌<◌, ℕ, length, All, IfOk, slice_index};
-ghost use Rattle.core_walks.specs.Topology.{HasEnds, IsTopology};
+ghost use Rattle.mv_base.specs.core_walks.Topology.{HasEnds, IsTopology};
 ghost use Rattle.core_paths.specs.Rows.{noted, noted_link, noted_all, far, IsCostRow, IsStepRow};
 
 use mv_base::{Link, NoMemory};

@@ -1,6 +1,6 @@
 //! The tables of a core.
 ghost use Rattle.std.specs.Prelude.{◌≡◌, IfOk, IfSome, IfNone};
-ghost use Rattle.core_walks.specs.Topology.{IsTopology, IsConnected, IsFirstUnreached};
+ghost use Rattle.mv_base.specs.core_walks.Topology.{IsTopology, IsConnected, IsFirstUnreached};
 ghost use Rattle.core_paths.specs.Rows.{IsFirstFar, IsNear};
 ghost use Rattle.core_paths.specs.Tables.{IsCostTable, IsStepTable};
 

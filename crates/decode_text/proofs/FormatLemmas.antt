@@ -5,25 +5,25 @@ use Rattle.std.proofs.lemmas.Result.{IfOk-weaker}
 use Rattle.mv_base.specs.Cursor.{start}
 use Rattle.mv_base.specs.Octets.{IsOctets}
 use Rattle.mv_base.proofs.Fields.{ok_or_err}
-use Rattle.mldp_fec.specs.declared.fec.Fec.{Fec}
-use Rattle.mldp_fec.specs.declared.fault.FecFault.{FecFault}
-use Rattle.mldp_fec.specs.Spelling as fecs
-use Rattle.mldp_fec.specs.FirstFault as fec_faults
-use Rattle.mldp_fec.proofs.CallLemmas as fec_calls
-use Rattle.mldp_fec.proofs.FecLemmas.{fec_again, fails_fec}
-use Rattle.pmsi_attr.proofs.PmsiLemmas.{pmsi_again, fails_pmsi}
+use Rattle.mldp.specs.declared.mldp_fec.fec.Fec.{Fec}
+use Rattle.mldp.specs.declared.mldp_fec.fault.FecFault.{FecFault}
+use Rattle.mldp.specs.mldp_fec.Spelling as fecs
+use Rattle.mldp.specs.mldp_fec.FirstFault as fec_faults
+use Rattle.mldp.proofs.mldp_fec.CallLemmas as fec_calls
+use Rattle.mldp.proofs.mldp_fec.FecLemmas.{fec_again, fails_fec}
+use Rattle.bgp_values.proofs.pmsi_attr.PmsiLemmas.{pmsi_again, fails_pmsi}
 use Rattle.pim_joinprune.proofs.Whole.{message_again, fails_message}
-use Rattle.mvpn_nlri.specs.declared.route.Route.{Route}
-use Rattle.mvpn_nlri.specs.declared.route.Afi.TheVariants.{Ipv4}
-use Rattle.mvpn_nlri.specs.declared.fault.RouteFault.{RouteFault}
-use Rattle.mvpn_nlri.specs.Spelling as routes
-use Rattle.mvpn_nlri.specs.FirstFault as route_faults
-use Rattle.mvpn_nlri.specs.Reading.{route_at}
-use Rattle.mvpn_nlri.proofs.CallLemmas as route_calls
-use Rattle.mldp_msgs.specs.Reading.{pdu_front}
-use Rattle.mldp_msgs.proofs.Pdus.{pdu_format}
-use Rattle.bgp_update.specs.Reading.{message_front}
-use Rattle.bgp_update.proofs.Messages.{message_format}
+use Rattle.bgp_values.specs.declared.mvpn_nlri.route.Route.{Route}
+use Rattle.bgp_values.specs.declared.mvpn_nlri.route.Afi.TheVariants.{Ipv4}
+use Rattle.bgp_values.specs.declared.mvpn_nlri.fault.RouteFault.{RouteFault}
+use Rattle.bgp_values.specs.mvpn_nlri.Spelling as routes
+use Rattle.bgp_values.specs.mvpn_nlri.FirstFault as route_faults
+use Rattle.bgp_values.specs.mvpn_nlri.Reading.{route_at}
+use Rattle.bgp_values.proofs.mvpn_nlri.CallLemmas as route_calls
+use Rattle.mldp.specs.mldp_msgs.Reading.{pdu_front}
+use Rattle.mldp.proofs.mldp_msgs.Pdus.{pdu_format}
+use Rattle.bgp_messages.specs.bgp_update.Reading.{message_front}
+use Rattle.bgp_messages.proofs.bgp_update.Messages.{message_format}
 use Rattle.decode_text.specs.declared.format.Format.{Format}
 use Rattle.decode_text.specs.declared.format.Format.TheVariants as formats
 use Rattle.decode_text.specs.declared.telling.Told.{Told}

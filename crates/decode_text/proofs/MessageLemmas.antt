@@ -1,29 +1,29 @@
 -- The messages of BGP and LDP that are spelled can be told.
 use Rattle.std.proofs.Common.{ℕ, List, [], ◌∷◌, ◌++◌, Option, Some, None, sym, subst}
 use Rattle.std.specs.List.{flat_map, AllByRecursion}
-use Rattle.framing.specs.Parts.{ArePartsAfter}
-use Rattle.route_targets.specs.declared.communities.ExtComm.{ExtComm}
-use Rattle.pmsi_attr.specs.declared.pmsi.Pmsi.{Pmsi}
-use Rattle.pmsi_attr.proofs.PmsiLemmas.{written_spells}
-use Rattle.bgp_attributes.specs.declared.key.Key.{Key}
-use Rattle.bgp_attributes.specs.declared.update.Advert.{Advert}
-use Rattle.bgp_attributes.specs.declared.update.Update.{Update}
-use Rattle.bgp_attributes.specs.declared.update.Message.{Message}
-use Rattle.bgp_attributes.specs.declared.update.Message.TheVariants as messages
-use Rattle.bgp_attributes.specs.declared.attribute.Attribute.{Attribute}
-use Rattle.bgp_attributes.specs.declared.attribute.Attribute.TheVariants.{Reach, Unreach, Communities, Tunnel, Passed}
-use Rattle.bgp_attributes.specs.Spelling.{SpellsAttribute, IsNew, Spells, pmsi_of, comms_of, adverts_in}
-use Rattle.bgp_attributes.specs.declared.fault.StreamFault.{StreamFault}
-use Rattle.bgp_update.specs.FirstFault.{UnitFault}
-use Rattle.bgp_update.specs.Spelling.{SpellsMessage, Means}
-use Rattle.mldp_msgs.specs.declared.message.LabelMessage.{LabelMessage}
+use Rattle.mv_base.specs.framing.Parts.{ArePartsAfter}
+use Rattle.mv_base.specs.declared.route_targets.communities.ExtComm.{ExtComm}
+use Rattle.bgp_values.specs.declared.pmsi_attr.pmsi.Pmsi.{Pmsi}
+use Rattle.bgp_values.proofs.pmsi_attr.PmsiLemmas.{written_spells}
+use Rattle.bgp_messages.specs.declared.bgp_attributes.key.Key.{Key}
+use Rattle.bgp_messages.specs.declared.bgp_attributes.update.Advert.{Advert}
+use Rattle.bgp_messages.specs.declared.bgp_attributes.update.Update.{Update}
+use Rattle.bgp_messages.specs.declared.bgp_attributes.update.Message.{Message}
+use Rattle.bgp_messages.specs.declared.bgp_attributes.update.Message.TheVariants as messages
+use Rattle.bgp_messages.specs.declared.bgp_attributes.attribute.Attribute.{Attribute}
+use Rattle.bgp_messages.specs.declared.bgp_attributes.attribute.Attribute.TheVariants.{Reach, Unreach, Communities, Tunnel, Passed}
+use Rattle.bgp_messages.specs.bgp_attributes.Spelling.{SpellsAttribute, IsNew, Spells, pmsi_of, comms_of, adverts_in}
+use Rattle.bgp_messages.specs.declared.bgp_attributes.fault.StreamFault.{StreamFault}
+use Rattle.bgp_messages.specs.bgp_update.FirstFault.{UnitFault}
+use Rattle.bgp_messages.specs.bgp_update.Spelling.{SpellsMessage, Means}
+use Rattle.mldp.specs.declared.mldp_msgs.message.LabelMessage.{LabelMessage}
 use Rattle.value_text.specs.MessageText.{HasOctets, IsTellable}
-use Rattle.bgp_update.specs.Reading.{message_front}
-use Rattle.bgp_update.proofs.Messages.{message_format}
-use Rattle.mldp_msgs.specs.FirstFault.{PduFault}
-use Rattle.mldp_msgs.specs.Reading.{pdu_front}
-use Rattle.mldp_msgs.specs.Spelling.{SpellsPdu}
-use Rattle.mldp_msgs.proofs.Pdus.{pdu_format}
+use Rattle.bgp_messages.specs.bgp_update.Reading.{message_front}
+use Rattle.bgp_messages.proofs.bgp_update.Messages.{message_format}
+use Rattle.mldp.specs.mldp_msgs.FirstFault.{PduFault}
+use Rattle.mldp.specs.mldp_msgs.Reading.{pdu_front}
+use Rattle.mldp.specs.mldp_msgs.Spelling.{SpellsPdu}
+use Rattle.mldp.proofs.mldp_msgs.Pdus.{pdu_format}
 use Rattle.decode_text.specs.Sessions.{IsSession}
 use Rattle.decode_text.proofs.SessionLemmas.{is_session}
 use Rattle.decode_text.proofs.TellLemmas.{all_append}

@@ -4,14 +4,14 @@ use Rattle.std.specs.List.{flat_map, AllByRecursion}
 use Rattle.std.proofs.lemmas.List.{length-append, take-append-drop}
 use Rattle.std.proofs.lemmas.Grind.{flat_map-append}
 use Rattle.mv_base.specs.Octets.{IsOctets}
-use Rattle.framing.specs.Units.{Begins, Spelled, Splits, AreUnits as AreSpelled, octets_of, messages_of}
-use Rattle.framing.specs.Cut.{Front, Fails, NoFault}
-use Rattle.framing.specs.Feed.{Fed, unfed, further}
-use Rattle.framing.specs.Feeding.{Feeds, Adds, Stops, unfinished}
-use Rattle.framing.specs.declared.fault.FeedFault.{FeedFault}
-use Rattle.framing.specs.declared.fault.FeedFault.TheVariants as faults
-use Rattle.framing.proofs.Cuts.{IsOctets-before, IsOctets-behind, begun_more, none_whole, nothing_begun}
-use Rattle.framing.proofs.Feedings.{IsFormat, no_fault, whole_rest, whole_fails}
+use Rattle.mv_base.specs.framing.Units.{Begins, Spelled, Splits, AreUnits as AreSpelled, octets_of, messages_of}
+use Rattle.mv_base.specs.framing.Cut.{Front, Fails, NoFault}
+use Rattle.mv_base.specs.framing.Feed.{Fed, unfed, further}
+use Rattle.mv_base.specs.framing.Feeding.{Feeds, Adds, Stops, unfinished}
+use Rattle.mv_base.specs.declared.framing.fault.FeedFault.{FeedFault}
+use Rattle.mv_base.specs.declared.framing.fault.FeedFault.TheVariants as faults
+use Rattle.mv_base.proofs.framing.Cuts.{IsOctets-before, IsOctets-behind, begun_more, none_whole, nothing_begun}
+use Rattle.mv_base.proofs.framing.Feedings.{IsFormat, no_fault, whole_rest, whole_fails}
 use Rattle.value_text.specs.ValueText.{refused_line}
 use Rattle.decode_text.specs.Sessions.{Session, AreUnits, StopsAt, TellsStop, TellsSession, IsSession, TellsFault, TellsEnd}
 use Rattle.decode_text.specs.Sessions.StopsAt.{faulty, inside}

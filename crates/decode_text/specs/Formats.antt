@@ -1,31 +1,31 @@
 -- The formats of `decode`: which octets are whole, where they have a fault, and what is told of them.
 use Rattle.std.specs.Prelude.{ℕ, ◌+◌, Bool, List}
 use Rattle.mv_base.specs.Cursor.{start}
-use Rattle.mldp_fec.specs.declared.fault.FecFault.{FecFault}
-use Rattle.mldp_fec.specs.declared.fec.Fec.{Fec}
-use Rattle.mldp_fec.specs.FirstFault as fec_faults
-use Rattle.mldp_fec.specs.Spelling as fecs
-use Rattle.pmsi_attr.specs.declared.fault.PmsiFault.{PmsiFault}
-use Rattle.pmsi_attr.specs.declared.pmsi.Pmsi.{Pmsi}
-use Rattle.pmsi_attr.specs.FirstFault as pmsi_faults
-use Rattle.pmsi_attr.specs.Spelling as pmsis
+use Rattle.mldp.specs.declared.mldp_fec.fault.FecFault.{FecFault}
+use Rattle.mldp.specs.declared.mldp_fec.fec.Fec.{Fec}
+use Rattle.mldp.specs.mldp_fec.FirstFault as fec_faults
+use Rattle.mldp.specs.mldp_fec.Spelling as fecs
+use Rattle.bgp_values.specs.declared.pmsi_attr.fault.PmsiFault.{PmsiFault}
+use Rattle.bgp_values.specs.declared.pmsi_attr.pmsi.Pmsi.{Pmsi}
+use Rattle.bgp_values.specs.pmsi_attr.FirstFault as pmsi_faults
+use Rattle.bgp_values.specs.pmsi_attr.Spelling as pmsis
 use Rattle.pim_joinprune.specs.declared.fault.PimFault.{PimFault}
 use Rattle.pim_joinprune.specs.declared.message.JoinPrune.{JoinPrune}
 use Rattle.pim_joinprune.specs.FirstFault as joinprune_faults
 use Rattle.pim_joinprune.specs.Spelling as joinprunes
-use Rattle.mvpn_nlri.specs.declared.fault.RouteFault.{RouteFault}
-use Rattle.mvpn_nlri.specs.declared.route.Route.{Route}
-use Rattle.mvpn_nlri.specs.declared.route.Afi.TheVariants.{Ipv4}
-use Rattle.mvpn_nlri.specs.FirstFault as route_faults
-use Rattle.mvpn_nlri.specs.Spelling as routes
-use Rattle.bgp_attributes.specs.declared.fault.StreamFault.{StreamFault}
-use Rattle.bgp_attributes.specs.declared.update.Message.{Message}
-use Rattle.bgp_update.specs.FirstFault.{UnitFault}
-use Rattle.bgp_update.specs.Spelling.{SpellsMessage}
-use Rattle.mldp_msgs.specs.declared.fault.LdpFault.{LdpFault}
-use Rattle.mldp_msgs.specs.declared.message.LabelMessage.{LabelMessage}
-use Rattle.mldp_msgs.specs.FirstFault.{PduFault}
-use Rattle.mldp_msgs.specs.Spelling.{SpellsPdu}
+use Rattle.bgp_values.specs.declared.mvpn_nlri.fault.RouteFault.{RouteFault}
+use Rattle.bgp_values.specs.declared.mvpn_nlri.route.Route.{Route}
+use Rattle.bgp_values.specs.declared.mvpn_nlri.route.Afi.TheVariants.{Ipv4}
+use Rattle.bgp_values.specs.mvpn_nlri.FirstFault as route_faults
+use Rattle.bgp_values.specs.mvpn_nlri.Spelling as routes
+use Rattle.bgp_messages.specs.declared.bgp_attributes.fault.StreamFault.{StreamFault}
+use Rattle.bgp_messages.specs.declared.bgp_attributes.update.Message.{Message}
+use Rattle.bgp_messages.specs.bgp_update.FirstFault.{UnitFault}
+use Rattle.bgp_messages.specs.bgp_update.Spelling.{SpellsMessage}
+use Rattle.mldp.specs.declared.mldp_msgs.fault.LdpFault.{LdpFault}
+use Rattle.mldp.specs.declared.mldp_msgs.message.LabelMessage.{LabelMessage}
+use Rattle.mldp.specs.mldp_msgs.FirstFault.{PduFault}
+use Rattle.mldp.specs.mldp_msgs.Spelling.{SpellsPdu}
 use Rattle.value_text.specs.MessageText.{message_lines, bgp_word, label_message_line, ldp_word}
 use Rattle.value_text.specs.JoinPruneText.{joinprune_lines, pim_word}
 use Rattle.decode_text.specs.declared.format.Format.{Format}

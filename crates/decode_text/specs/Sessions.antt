@@ -3,10 +3,10 @@
 use Rattle.std.specs.Prelude.{◌≡◌, ℕ, ◌+◌, ◌<◌, Bool, true, false, List, [], ◌++◌, length, codes, Option, None, Some}
 use Rattle.std.specs.List.{flat_map, AllByRecursion}
 use Rattle.mv_base.specs.Octets.{IsOctets}
-use Rattle.framing.specs.Units.{Begins, NoUnit, Splits}
-use Rattle.framing.specs.Cut.{Fails, NoFault}
-use Rattle.framing.specs.declared.fault.FeedFault.{FeedFault}
-use Rattle.framing.specs.declared.fault.FeedFault.TheVariants as faults
+use Rattle.mv_base.specs.framing.Units.{Begins, NoUnit, Splits}
+use Rattle.mv_base.specs.framing.Cut.{Fails, NoFault}
+use Rattle.mv_base.specs.declared.framing.fault.FeedFault.{FeedFault}
+use Rattle.mv_base.specs.declared.framing.fault.FeedFault.TheVariants as faults
 use Rattle.value_text.specs.ValueText.{refused_line}
 
 -- How the units of a session are spelled and told: the octets of a unit with its messages, the first fault of octets with

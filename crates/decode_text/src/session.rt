@@ -1,13 +1,13 @@
 //! The lines of the messages of a session.
 ghost use Rattle.std.specs.Prelude.{◌≡◌, [], ◌++◌, IfOk, OnOk};
 ghost use Rattle.std.specs.List.{flat_map, AllByRecursion};
-ghost use Rattle.framing.specs.Feed.{unfed};
+ghost use Rattle.mv_base.specs.framing.Feed.{unfed};
 ghost use Rattle.decode_text.specs.Formats.{of_bgp, of_ldp};
 ghost use Rattle.decode_text.specs.Sessions.{session_of, IsSession, TellsFault, TellsEnd, TellsSession};
 
 use crate::stream::SessionStream;
 use crate::telling::Told;
-use framing::FeedFault;
+use mv_base::framing::FeedFault;
 use mv_base::{Bytes, NoMemory};
 use std::alloc::Global;
 use value_text::{Lined, Worded, put_refused};
@@ -98,7 +98,7 @@ fn tell_session<S: SessionStream>(
 pub fn tell_bgp(alloc: Global, octets: &[u8]) -> Result<Told, NoMemory>
     ensures { IfOk result (λ told. TellsSession of_bgp told.refused octets.now told.text) }
 {
-    tell_session(alloc, bgp_update::Stream::of(alloc), octets)
+    tell_session(alloc, bgp_messages::bgp_update::Stream::of(alloc), octets)
 }
 
 /// The lines of the label messages in PDUs of LDP.
@@ -106,5 +106,5 @@ pub fn tell_bgp(alloc: Global, octets: &[u8]) -> Result<Told, NoMemory>
 pub fn tell_ldp(alloc: Global, octets: &[u8]) -> Result<Told, NoMemory>
     ensures { IfOk result (λ told. TellsSession of_ldp told.refused octets.now told.text) }
 {
-    tell_session(alloc, mldp_msgs::Stream::of(alloc), octets)
+    tell_session(alloc, mldp::mldp_msgs::Stream::of(alloc), octets)
 }

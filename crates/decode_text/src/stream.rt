@@ -1,9 +1,9 @@
 //! Streams of the octets of a session.
 ghost use Rattle.std.specs.Prelude.{◌≡◌, List, ℕ};
-ghost use Rattle.framing.specs.Feed.{Fed};
-ghost use Rattle.framing.specs.Feeding.{Feeds, NextIs, unfinished};
+ghost use Rattle.mv_base.specs.framing.Feed.{Fed};
+ghost use Rattle.mv_base.specs.framing.Feeding.{Feeds, NextIs, unfinished};
 
-use framing::FeedFault;
+use mv_base::framing::FeedFault;
 use value_text::{Lined, Worded};
 
 /// A stream of the octets of a session, which come in pieces.

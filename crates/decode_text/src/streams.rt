@@ -1,16 +1,16 @@
 //! The streams of sessions of BGP and LDP.
 use crate::stream::SessionStream;
-use bgp_update::{Message, StreamFault};
-use framing::FeedFault;
-use mldp_msgs::{LabelMessage, LdpFault};
+use bgp_messages::bgp_update::{Message, StreamFault};
+use mldp::mldp_msgs::{LabelMessage, LdpFault};
+use mv_base::framing::FeedFault;
 
-impl SessionStream for bgp_update::Stream {
+impl SessionStream for bgp_messages::bgp_update::Stream {
     type Message = Message;
 
     type Fault = StreamFault;
 
-    ghost use Rattle.bgp_update.specs.FirstFault.{UnitFault};
-    ghost use Rattle.bgp_update.specs.Spelling.{SpellsMessage};
+    ghost use Rattle.bgp_messages.specs.bgp_update.FirstFault.{UnitFault};
+    ghost use Rattle.bgp_messages.specs.bgp_update.Spelling.{SpellsMessage};
 
     ghost spells = { SpellsMessage };
 
@@ -21,25 +21,25 @@ impl SessionStream for bgp_update::Stream {
     ghost state = { λ s. s };
 
     fn feed(&mut self, piece: &[u8]) -> Result<(), FeedFault<StreamFault>> {
-        bgp_update::Stream::feed(self, piece)
+        bgp_messages::bgp_update::Stream::feed(self, piece)
     }
 
     fn next(&mut self) -> Option<Message> {
-        bgp_update::Stream::next(self)
+        bgp_messages::bgp_update::Stream::next(self)
     }
 
     fn unfinished(&self) -> Option<u64> {
-        bgp_update::Stream::unfinished(self)
+        bgp_messages::bgp_update::Stream::unfinished(self)
     }
 }
 
-impl SessionStream for mldp_msgs::Stream {
+impl SessionStream for mldp::mldp_msgs::Stream {
     type Message = LabelMessage;
 
     type Fault = LdpFault;
 
-    ghost use Rattle.mldp_msgs.specs.FirstFault.{PduFault};
-    ghost use Rattle.mldp_msgs.specs.Spelling.{SpellsPdu};
+    ghost use Rattle.mldp.specs.mldp_msgs.FirstFault.{PduFault};
+    ghost use Rattle.mldp.specs.mldp_msgs.Spelling.{SpellsPdu};
 
     ghost spells = { SpellsPdu };
 
@@ -50,14 +50,14 @@ impl SessionStream for mldp_msgs::Stream {
     ghost state = { λ s. s };
 
     fn feed(&mut self, piece: &[u8]) -> Result<(), FeedFault<LdpFault>> {
-        mldp_msgs::Stream::feed(self, piece)
+        mldp::mldp_msgs::Stream::feed(self, piece)
     }
 
     fn next(&mut self) -> Option<LabelMessage> {
-        mldp_msgs::Stream::next(self)
+        mldp::mldp_msgs::Stream::next(self)
     }
 
     fn unfinished(&self) -> Option<u64> {
-        mldp_msgs::Stream::unfinished(self)
+        mldp::mldp_msgs::Stream::unfinished(self)
     }
 }

@@ -7,9 +7,9 @@ ghost use Rattle.decode_text.specs.Values.{TellsEach};
 use crate::format::Format;
 use crate::session::{tell_bgp, tell_ldp};
 use crate::value::Value;
-use mldp_fec::Fec;
+use bgp_values::mvpn_nlri::Route;
+use mldp::mldp_fec::Fec;
 use mv_base::{Bytes, NoMemory};
-use mvpn_nlri::Route;
 use pim_joinprune::DecodeFault;
 use std::alloc::Global;
 use value_text::{put_joinprune_fault, put_joinprune_lines, put_pmsi_fault, put_pmsi_line};
@@ -53,7 +53,7 @@ fn tell_pmsi(alloc: Global, octets: &[u8]) -> Result<Told, NoMemory>
     ensures { IfOk result (λ told. TellsOne of_pmsi told.refused octets.now told.text) }
 {
     let mut text = Bytes::new(alloc);
-    match pmsi_attr::decode(octets) {
+    match bgp_values::pmsi_attr::decode(octets) {
         Ok(pmsi) => {
             put_pmsi_line(&mut text, &pmsi)?;
             Ok(Told {

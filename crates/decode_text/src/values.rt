@@ -1,8 +1,8 @@
 //! The values that stand end to end: FEC elements, and routes of AFI 1.
 use crate::value::Value;
-use mldp_fec::{Fec, FecFault};
+use bgp_values::mvpn_nlri::{Afi, Route, RouteFault};
+use mldp::mldp_fec::{Fec, FecFault};
 use mv_base::{Bytes, NoMemory};
-use mvpn_nlri::{Afi, Route, RouteFault};
 use value_text::{put_fec_fault, put_fec_line, put_route_fault, put_route_line};
 
 impl Value for Fec {
@@ -13,7 +13,7 @@ impl Value for Fec {
     ghost telling = { of_fecs };
 
     fn read(octets: &[u8]) -> Result<(Fec, usize), FecFault> {
-        mldp_fec::decode(octets)
+        mldp::mldp_fec::decode(octets)
     }
 
     fn put_line(&self, out: &mut Bytes) -> Result<(), NoMemory> {
@@ -33,7 +33,7 @@ impl Value for Route {
     ghost telling = { of_routes };
 
     fn read(octets: &[u8]) -> Result<(Route, usize), RouteFault> {
-        mvpn_nlri::decode(Afi::Ipv4, octets)
+        bgp_values::mvpn_nlri::decode(Afi::Ipv4, octets)
     }
 
     fn put_line(&self, out: &mut Bytes) -> Result<(), NoMemory> {

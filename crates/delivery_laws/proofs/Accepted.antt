@@ -17,9 +17,9 @@ use Rattle.scenario_defs.specs.declared.report.ReportLine.TheVariants as lines
 use Rattle.scenario_defs.specs.declared.scenario.Vrf.{Vrf}
 use Rattle.mvpn_model.specs.Past.{is_accepted}
 use Rattle.mvpn_model.specs.Report.{lines_of, refused_line, refused_lines}
-use Rattle.session_defs.specs.Octets as octets
-use Rattle.session_defs.specs.System.{Put, Behind, octets_over}
-use Rattle.session_defs.specs.declared.direction.Direction.{Direction}
+use Rattle.network_defs.specs.session_defs.Octets as octets
+use Rattle.network_defs.specs.session_defs.System.{Put, Behind, octets_over}
+use Rattle.network_defs.specs.declared.session_defs.direction.Direction.{Direction}
 use Rattle.edge_defs.specs.Datagrams.{Fate, entering_fate}
 use Rattle.edge_defs.specs.Place.{OwnVrf}
 use Rattle.edge_defs.specs.Steps as steps
@@ -34,7 +34,7 @@ use Rattle.network_defs.specs.World.{World, Datagram, LinkCopy, scenario_of, clo
 use Rattle.delivery_laws.specs.Flood.{lines_in}
 use Rattle.delivery_laws.proofs.Outcomes.{IsOfLines, Leads, Gives}
 use Rattle.delivery_laws.proofs.Events.{Before, event_leads}
-use Rattle.ready_laws.proofs.RunsTell.{any_middle, first_lines}
+use Rattle.network_laws.proofs.ready_laws.RunsTell.{any_middle, first_lines}
 
 -- ---- no line of an act refuses an event
 

@@ -7,7 +7,7 @@ use Rattle.mv_base.specs.declared.ids.IfaceId.{IfaceId}
 use Rattle.mv_base.specs.declared.ids.NodeId.{NodeId}
 use Rattle.mv_base.specs.declared.ids.SiteId.{SiteId}
 use Rattle.mv_base.specs.declared.ids.VrfId.{VrfId}
-use Rattle.mldp_fec.specs.declared.fec.Fec.{Fec}
+use Rattle.mldp.specs.declared.mldp_fec.fec.Fec.{Fec}
 use Rattle.label_defs.specs.declared.branch.Branch.{Branch}
 use Rattle.label_defs.specs.LabelData.{branches_of}
 use Rattle.label_defs.proofs.KeyLemmas.{node_equal}
@@ -15,7 +15,7 @@ use Rattle.scenario_defs.specs.Vpn.{is_of_vrf, is_attached_at, edge_of, entered_
 use Rattle.scenario_defs.specs.declared.scenario.Iface.{Iface}
 use Rattle.scenario_defs.specs.declared.scenario.Scenario.{Scenario}
 use Rattle.scenario_defs.specs.declared.scenario.Vrf.{Vrf}
-use Rattle.session_defs.specs.Octets.{OctetNetwork}
+use Rattle.network_defs.specs.session_defs.Octets.{OctetNetwork}
 use Rattle.mvpn_model.specs.Past.{is_of_edge}
 use Rattle.edge_defs.specs.Datagrams.{Fate, is_from_site, is_outside}
 use Rattle.edge_defs.specs.Place.{OwnVrf}

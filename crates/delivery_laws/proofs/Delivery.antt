@@ -14,7 +14,7 @@ use Rattle.scenario_defs.specs.declared.event.Script.{Script}
 use Rattle.scenario_defs.specs.declared.event.Timed.{Timed}
 use Rattle.scenario_defs.specs.declared.report.Refusal.{Refusal}
 use Rattle.scenario_defs.specs.declared.report.ReportLine.TheVariants as lines
-use Rattle.session_defs.specs.Octets.{OctetNetwork}
+use Rattle.network_defs.specs.session_defs.Octets.{OctetNetwork}
 use Rattle.mvpn_model.specs.Once.{IsOfWindow}
 use Rattle.mvpn_model.specs.Report.{lines_of, is_out_at, outs_at}
 use Rattle.network_defs.specs.Costs.{Cores}
@@ -39,10 +39,10 @@ use Rattle.delivery_laws.proofs.Events.{Before, event_leads}
 use Rattle.delivery_laws.proofs.Silent.{Sent, any_lines, act_sent, Silent, Entering, WritesNothing, write_nothing, act_silent, entry_silent}
 use Rattle.delivery_laws.proofs.Tunnels.{flow_writes}
 use Rattle.delivery_laws.proofs.Splits.{get_first}
-use Rattle.edge_laws.proofs.Local.{both_none}
+use Rattle.edge_words.proofs.edge_laws.Local.{both_none}
 use Rattle.label_defs.proofs.KeyLemmas.{node_equal}
 use Rattle.label_defs.proofs.MemberLemmas.{count-cons}
-use Rattle.ready_laws.proofs.RunsTell.{first_lines}
+use Rattle.network_laws.proofs.ready_laws.RunsTell.{first_lines}
 
 -- ---- lists
 

@@ -8,7 +8,7 @@ use Rattle.mv_base.specs.declared.ids.NodeId.{NodeId}
 use Rattle.label_defs.specs.declared.branch.Branch.{Branch}
 use Rattle.label_defs.proofs.KeyLemmas.{node_equal}
 use Rattle.label_defs.proofs.MemberLemmas.{count-cons}
-use Rattle.session_defs.specs.Octets.{OctetNetwork}
+use Rattle.network_defs.specs.session_defs.Octets.{OctetNetwork}
 use Rattle.network_defs.specs.Acts.{Act, Land, act, copy_on, with_branches, datagram_at, fate_at, with_ttl, landed, without_copy, landing}
 use Rattle.network_defs.specs.Counts.{link_ways}
 use Rattle.network_defs.specs.Events.{Happened, Outcome, Done, Halted, one_act, row, times, landings, drain_round, drained}

@@ -7,7 +7,7 @@ use Rattle.std.specs.Ordering.{eq_by_cmp}
 use Rattle.std.specs.FinSet as sets
 use Rattle.std.proofs.lemmas.Bool.{cases_Bool, and_parts, and_from, or_left, cond-true, cond-false, true≢false, false_from_ne_true}
 use Rattle.mv_base.specs.declared.ids.NodeId.{NodeId}
-use Rattle.mldp_fec.specs.declared.fec.Fec.{Fec}
+use Rattle.mldp.specs.declared.mldp_fec.fec.Fec.{Fec}
 use Rattle.label_defs.specs.Keys.{branch_cmp}
 use Rattle.label_defs.specs.LabelData.{same_fec, use_of, has_branch, has_tree}
 use Rattle.label_defs.specs.Settled.{Maps}
@@ -17,7 +17,7 @@ use Rattle.label_defs.specs.declared.label_use.LabelUse.TheVariants as uses
 use Rattle.label_defs.proofs.KeyLemmas.{branch_cmp_total, branch_cmp_exact, same_fec_equal, same_fec_itself, node_equal, node_itself, ties}
 use Rattle.label_defs.proofs.SetLemmas.{member_passes}
 use Rattle.label_defs.proofs.MemberLemmas.{each_in_order, once_in_order, count-cons}
-use Rattle.session_defs.specs.Octets.{OctetNetwork}
+use Rattle.network_defs.specs.session_defs.Octets.{OctetNetwork}
 use Rattle.network_defs.specs.Nodes.{Nodes, label_place_of}
 use Rattle.delivery_laws.specs.Calm.{branches_in, leading_to, HangsIn, CalmTree}
 use Rattle.delivery_laws.specs.Labels.{part_at, CalmLabels}

@@ -1,3 +1,4 @@
+pub use Rattle.network_laws.proofs as network_laws
 pub mod Totals
 pub mod Trees
 pub mod Copies

@@ -4,31 +4,31 @@ use Rattle.std.proofs.Common.{◌≡◌, ℕ, zero, suc, ◌+◌, ◌-◌, Bool,
 use Rattle.std.specs.List.{AllByRecursion}
 use Rattle.std.proofs.lemmas.Bool.{cond_both, or_cases, and_parts}
 use Rattle.mv_base.specs.declared.ids.NodeId.{NodeId}
-use Rattle.framing.specs.Cut.{Front, Cut, cut, cut_at}
-use Rattle.framing.specs.Cut.Front.{more, whole, bad}
-use Rattle.framing.specs.Feed.{fed, fed_unless, unfed}
+use Rattle.mv_base.specs.framing.Cut.{Front, Cut, cut, cut_at}
+use Rattle.mv_base.specs.framing.Cut.Front.{more, whole, bad}
+use Rattle.mv_base.specs.framing.Feed.{fed, fed_unless, unfed}
 use Rattle.scenario_defs.specs.declared.event.Kind.{Kind}
 use Rattle.scenario_defs.specs.declared.event.Kind.TheVariants as kinds
 use Rattle.scenario_defs.specs.declared.scenario.Scenario.{Scenario}
-use Rattle.bgp_attributes.specs.declared.update.Message.{Message}
-use Rattle.bgp_attributes.specs.declared.fault.StreamFault.{StreamFault}
-use Rattle.bgp_update.specs.Reading.{message_front}
-use Rattle.mldp_msgs.specs.declared.message.LabelMessage.{LabelMessage}
-use Rattle.mldp_msgs.specs.declared.fault.LdpFault.{LdpFault}
-use Rattle.mldp_msgs.specs.Reading.{pdu_front}
-use Rattle.session_defs.specs.Message.{SessionMessage, Bgp, Label, SessionFault, BgpFault, LabelFault, as_front, front_of, same_direction}
-use Rattle.session_defs.specs.Octets.{Stream, OctetNetwork, OctetAct, with_step, all_taken, moved, octet_act, octet_run}
-use Rattle.session_defs.specs.Octets as octets
-use Rattle.session_defs.specs.System.{Stepped}
-use Rattle.session_defs.specs.declared.direction.Direction.{Direction}
+use Rattle.edge_defs.specs.bgp_messages.declared.bgp_attributes.update.Message.{Message}
+use Rattle.edge_defs.specs.bgp_messages.declared.bgp_attributes.fault.StreamFault.{StreamFault}
+use Rattle.edge_defs.specs.bgp_messages.bgp_update.Reading.{message_front}
+use Rattle.mldp.specs.declared.mldp_msgs.message.LabelMessage.{LabelMessage}
+use Rattle.mldp.specs.declared.mldp_msgs.fault.LdpFault.{LdpFault}
+use Rattle.mldp.specs.mldp_msgs.Reading.{pdu_front}
+use Rattle.network_defs.specs.session_defs.Message.{SessionMessage, Bgp, Label, SessionFault, BgpFault, LabelFault, as_front, front_of, same_direction}
+use Rattle.network_defs.specs.session_defs.Octets.{Stream, OctetNetwork, OctetAct, with_step, all_taken, moved, octet_act, octet_run}
+use Rattle.network_defs.specs.session_defs.Octets as octets
+use Rattle.network_defs.specs.session_defs.System.{Stepped}
+use Rattle.network_defs.specs.declared.session_defs.direction.Direction.{Direction}
 use Rattle.edge_defs.specs.Steps as steps
 use Rattle.network_defs.specs.Nodes.{Nodes, following}
 use Rattle.network_defs.specs.System.{NodeCall, Own, Elapse, Reset, Price, Follow, system, node_called, call_of}
 use Rattle.delivery_laws.specs.Linked.{NodesLinked, LinkIf, IsOf, NetworkLinked}
 use Rattle.delivery_laws.proofs.LinkedParts.{follow_linked, MayCall, called_linked, reset_linked}
 use Rattle.network_laws.proofs.Lists.{each_append}
-use Rattle.ready_laws.proofs.Octets.{leads_then, Leads}
-use Rattle.ready_laws.proofs.Ends.{Holds}
+use Rattle.network_laws.proofs.ready_laws.Octets.{leads_then, Leads}
+use Rattle.network_laws.proofs.ready_laws.Ends.{Holds}
 
 -- ---- what waits
 

@@ -9,8 +9,8 @@ use Rattle.std.specs.Ordering.{eq_by_cmp}
 use Rattle.std.proofs.lemmas.Bool.{cond_both, or_cases, and_parts, true≢false}
 use Rattle.mv_base.specs.Number.{◌>>?◌}
 use Rattle.mv_base.specs.declared.ids.NodeId.{NodeId}
-use Rattle.mldp_fec.specs.declared.fec.Fec.{Fec}
-use Rattle.mldp_msgs.specs.declared.message.LabelMessage.TheVariants as messages
+use Rattle.mldp.specs.declared.mldp_fec.fec.Fec.{Fec}
+use Rattle.mldp.specs.declared.mldp_msgs.message.LabelMessage.TheVariants as messages
 use Rattle.scenario_defs.specs.declared.event.Kind.TheVariants as kinds
 use Rattle.scenario_defs.specs.declared.scenario.Scenario.{Scenario}
 use Rattle.label_defs.specs.Keys.{branch_cmp, fec_cmp}
@@ -24,18 +24,18 @@ use Rattle.label_defs.specs.Members.{in_order}
 use Rattle.label_defs.proofs.KeyLemmas.{branch_cmp_total, branch_cmp_exact, node_equal}
 use Rattle.label_defs.proofs.SetLemmas.{retained}
 use Rattle.label_defs.proofs.WithdrawLemmas.{same_branches}
-use Rattle.session_defs.specs.System.{Stepped as SystemStepped}
+use Rattle.network_defs.specs.session_defs.System.{Stepped as SystemStepped}
 use Rattle.edge_defs.specs.Edge as edges
 use Rattle.edge_defs.specs.Edge.{EdgeData}
 use Rattle.edge_defs.specs.Place.{EdgePlace, label_place}
 use Rattle.edge_defs.specs.Steps as steps
-use Rattle.edge_defs.specs.Steps.{EdgeStepped, LabelStep, edge_step, own_label_call, changed_leaves, one_call, control_step, label_row, part_after}
+use Rattle.edge_defs.specs.Steps.{EdgeStepped, LabelStep, edge_step, own_label_call, changed_leaves, one_call, control_step, label_row, part_after, raised_after}
 use Rattle.edge_defs.specs.Tunnels.{leaves}
 use Rattle.network_defs.specs.Nodes.{NodeState, Edge, CoreNode, Nodes, is_edge, fresh_node, with_node, following, place_of, label_place_of, part_of}
 use Rattle.network_defs.specs.System.{core_called, node_called}
 use Rattle.delivery_laws.specs.Linked.{IsLink, HasLinks, NodesLinked}
 use Rattle.network_laws.proofs.Lists.{each_append}
-use Rattle.ready_laws.proofs.Ends.{holds_from, holds_then, Holds}
+use Rattle.network_laws.proofs.ready_laws.Ends.{holds_from, holds_then, Holds}
 
 module _ (scenario : Scenario) (n : NodeId) where
   abbrev Has : LabelData → Type 0
@@ -111,7 +111,7 @@ module _ (scenario : Scenario) (n : NodeId) where
   edge_has place now edge call w h =
       let control = control_step place now edge.control call in
       let calls = one_call (own_label_call call) ++ changed_leaves (leaves place edge.control) (leaves place control) in
-      holds_then (λ (row : List LabelStep). Has (part_after edge.part row)) (λ (new : EdgeStepped). Has new.edge.part) (label_row place now edge.part calls) (λ row. Some (record { edge = record { control = control; part = part_after edge.part row }; row = row }))
+      holds_then (λ (row : List LabelStep). Has (part_after edge.part row)) (λ (new : EdgeStepped). Has new.edge.part) (label_row place now edge.part calls) (λ row. Some (record { edge = record { control = control; part = part_after edge.part row; raised = raised_after now edge.raised call }; row = row }))
       (row_has place now calls edge.part (each_append MayTake (one_call (own_label_call call)) (changed_leaves (leaves place edge.control) (leaves place control)) (own_may call w) (leaves_may (leaves place edge.control) (leaves place control))) h)
       (λ row p. p)
 

@@ -11,10 +11,10 @@ use Rattle.scenario_defs.specs.declared.report.ReportLine.{ReportLine}
 use Rattle.scenario_defs.specs.declared.report.ReportLine.TheVariants as lines
 use Rattle.scenario_defs.specs.declared.scenario.Scenario.{Scenario}
 use Rattle.scenario_defs.specs.Kinds.{same_kind}
-use Rattle.session_defs.specs.Octets as octets
-use Rattle.session_defs.specs.Octets.{OctetNetwork, OctetAct}
-use Rattle.session_defs.specs.System.{Behind}
-use Rattle.session_defs.specs.declared.direction.Direction.{Direction}
+use Rattle.network_defs.specs.session_defs.Octets as octets
+use Rattle.network_defs.specs.session_defs.Octets.{OctetNetwork, OctetAct}
+use Rattle.network_defs.specs.session_defs.System.{Behind}
+use Rattle.network_defs.specs.declared.session_defs.direction.Direction.{Direction}
 use Rattle.edge_defs.specs.Steps as steps
 use Rattle.network_defs.specs.Acts.{Act, Tick, Timers, Move, Lose, Notice, RaiseFirst, RaiseSecond, Restart, At, Enter, Land, Drop, Tell, SetCost, Reroute, Acted, act, with_network, at_node, is_of_session, is_at, leads_to, is_from_peer, with_aged}
 use Rattle.label_defs.specs.Between.{is_between}
@@ -30,7 +30,7 @@ use Rattle.delivery_laws.proofs.LinkedNetworks.{MayHappen, run_linked}
 use Rattle.delivery_laws.proofs.Landings.{IsWindowAct, act_moves}
 use Rattle.delivery_laws.proofs.Outcomes.{Gives}
 use Rattle.label_defs.proofs.KeyLemmas.{node_equal}
-use Rattle.ready_laws.proofs.Octets.{Leads as NetworkLeads}
+use Rattle.network_laws.proofs.ready_laws.Octets.{Leads as NetworkLeads}
 
 -- What holds of every run: the network is linked, and each copy is sound.
 pub record Linked (scenario : Scenario) (world : World) : Type 0 where

@@ -16,7 +16,7 @@ use Rattle.scenario_defs.specs.declared.report.ReportLine.TheVariants as lines
 use Rattle.scenario_defs.specs.declared.scenario.Scenario.{Scenario}
 use Rattle.mvpn_model.specs.Once.{EndsWindow, IsWindow, past_at, Once}
 use Rattle.mvpn_model.specs.Report.{Datagram as Accepted, datagrams, refused_lines, outs_at}
-use Rattle.session_defs.specs.Octets.{OctetNetwork}
+use Rattle.network_defs.specs.session_defs.Octets.{OctetNetwork}
 use Rattle.network_defs.specs.Costs.{Cores}
 use Rattle.network_defs.specs.Counts.{state_line, link_ways, all_copies}
 use Rattle.network_defs.specs.Events.{Happened, Done}
@@ -40,7 +40,7 @@ use Rattle.delivery_laws.proofs.Splits.{cut_at, take_to, get_first, get_behind, 
 use Rattle.delivery_laws.proofs.Sendings.{in_networks, runs_send, IsWithin, datagrams_within, datagrams_both, tells_first, tells_later, IsWindowIf, are_of_window, tell_same, window_standing, window_noted, same_receivers}
 use Rattle.delivery_laws.proofs.Told.{state_acts, state_at}
 use Rattle.delivery_laws.proofs.Delivery.{drained_empty, ready_calm, windowed, delivered_once}
-use Rattle.calm_laws.proofs.Maps.{none_of_length}
+use Rattle.edge_words.proofs.calm_laws.Maps.{none_of_length}
 use Rattle.network_laws.proofs.Lists.{length_map}
 
 -- ---- the end of a window
@@ -60,7 +60,7 @@ take_within zero xs ys h = refl
 take_within (suc count) [] ys h = absurd (omega (arith, h))
 take_within (suc count) (x ∷ xs) ys h = ap (λ l. x ∷ l) (take_within count xs ys (omega (arith, h)))
 
-rises_first : (number : ℕ) (first more : List Timed) → Rises number (first ++ more) → Rises number first
+pub rises_first : (number : ℕ) (first more : List Timed) → Rises number (first ++ more) → Rises number first
 rises_first number [] more h = tt
 rises_first number (timed ∷ first) more h = (h.0, rises_first timed.line first more h.1)
 

@@ -11,7 +11,7 @@ use Rattle.mv_base.specs.declared.addr.Addr.{Addr}
 use Rattle.mv_base.specs.declared.ids.IfaceId.{IfaceId}
 use Rattle.mv_base.specs.declared.ids.NodeId.{NodeId}
 use Rattle.mv_base.specs.declared.ids.VrfId.{VrfId}
-use Rattle.mldp_fec.specs.declared.fec.Fec.{Fec}
+use Rattle.mldp.specs.declared.mldp_fec.fec.Fec.{Fec}
 use Rattle.label_defs.specs.Keys.{node_cmp}
 use Rattle.label_defs.specs.LabelData.{branches_of}
 use Rattle.label_defs.proofs.KeyLemmas.{node_cmp_total, ties, node_equal}
@@ -22,7 +22,7 @@ use Rattle.scenario_defs.specs.declared.scenario.Vrf.{Vrf}
 use Rattle.mvpn_model.specs.Past.{is_of_edge}
 use Rattle.edge_defs.specs.Datagrams.{Fate, discarded, is_from_site, is_outside, is_from_edge, is_imported_from, outs_from, outs_at, outs_of}
 use Rattle.edge_defs.specs.Tunnels.{transmit_tunnel, is_joined_in}
-use Rattle.session_defs.specs.Octets.{OctetNetwork}
+use Rattle.network_defs.specs.session_defs.Octets.{OctetNetwork}
 use Rattle.network_defs.specs.Nodes.{NodeState, Edge, CoreNode, Nodes, place_of}
 use Rattle.network_defs.specs.World.{Datagram}
 use Rattle.delivery_laws.specs.Calm.{node_outs}

@@ -10,7 +10,7 @@ use Rattle.mv_base.specs.declared.addr.Addr.{Addr}
 use Rattle.mv_base.specs.declared.ids.IfaceId.{IfaceId}
 use Rattle.mv_base.specs.declared.ids.NodeId.{NodeId}
 use Rattle.mv_base.specs.declared.ids.SiteId.{SiteId}
-use Rattle.mldp_fec.specs.declared.fec.Fec.{Fec}
+use Rattle.mldp.specs.declared.mldp_fec.fec.Fec.{Fec}
 use Rattle.scenario_defs.specs.Vpn.{is_of_vrf, ifaces_where}
 use Rattle.scenario_defs.specs.declared.scenario.Iface.{Iface}
 use Rattle.edge_defs.specs.Datagrams.{discarded, is_from_site, is_outside, is_from_edge, is_imported_from, outs_from, outs_at, outs_of, entering_fate}

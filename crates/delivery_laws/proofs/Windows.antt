@@ -14,7 +14,7 @@ use Rattle.scenario_defs.specs.declared.event.Event.{Event}
 use Rattle.scenario_defs.specs.declared.event.Event.TheVariants as events
 use Rattle.scenario_defs.specs.declared.report.ReportLine.{ReportLine}
 use Rattle.scenario_defs.specs.declared.scenario.Scenario.{Scenario}
-use Rattle.session_defs.specs.Octets.{OctetNetwork}
+use Rattle.network_defs.specs.session_defs.Octets.{OctetNetwork}
 use Rattle.mvpn_model.specs.Once.{IsOfWindow}
 use Rattle.mvpn_model.specs.Packet.{packet}
 use Rattle.network_defs.specs.Acts.{Enter, Land, Tell}

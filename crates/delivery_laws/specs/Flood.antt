@@ -11,7 +11,7 @@ use Rattle.scenario_defs.specs.Vpn.{entered}
 use Rattle.scenario_defs.specs.declared.report.ReportLine.{ReportLine}
 use Rattle.scenario_defs.specs.declared.scenario.Scenario.{Scenario}
 use Rattle.scenario_defs.specs.declared.scenario.Vrf.{Vrf}
-use Rattle.session_defs.specs.Octets.{OctetNetwork}
+use Rattle.network_defs.specs.session_defs.Octets.{OctetNetwork}
 use Rattle.edge_defs.specs.Datagrams.{Fate, discarded, entering_fate}
 use Rattle.mvpn_model.specs.Report.{is_out_at}
 use Rattle.network_defs.specs.Acts.{fate_at, with_ttl}

@@ -2,11 +2,11 @@
 use Rattle.std.specs.Prelude.{◌≡◌, ◌≢◌, ℕ, ◌<◌, ◌≤◌, true, None, Some}
 use Rattle.std.specs.FinSet as sets
 use Rattle.mv_base.specs.declared.ids.NodeId.{NodeId}
-use Rattle.mldp_fec.specs.declared.fec.Fec.{Fec}
+use Rattle.mldp.specs.declared.mldp_fec.fec.Fec.{Fec}
 use Rattle.label_defs.specs.LabelData.{LabelData, has_tree, is_ready}
 use Rattle.label_defs.specs.Settled.{Maps, Settled}
 use Rattle.label_defs.specs.Steps.{branch_to}
-use Rattle.session_defs.specs.Octets.{OctetNetwork}
+use Rattle.network_defs.specs.session_defs.Octets.{OctetNetwork}
 use Rattle.network_defs.specs.Nodes.{Nodes, part_of, label_place_of}
 
 abbrev pub part_at : OctetNetwork Nodes → NodeId → LabelData

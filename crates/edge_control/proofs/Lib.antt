@@ -1,3 +1,4 @@
+pub use Rattle.edge_tables.proofs as edge_tables
 pub mod RefreshJoins
 pub mod RefreshTrees
 pub mod RefreshMade

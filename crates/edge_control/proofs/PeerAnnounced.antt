@@ -7,22 +7,22 @@ use Rattle.std.specs.List.{AllByRecursion}
 use Rattle.mv_base.specs.Lists.{Among}
 use Rattle.mv_base.specs.Number.{◌>>?◌}
 use Rattle.mv_base.specs.declared.ids.NodeId.{NodeId}
-use Rattle.bgp_attributes.specs.declared.key.Key.{Key}
-use Rattle.bgp_attributes.specs.declared.update.Change.{Change}
-use Rattle.bgp_attributes.specs.declared.update.Change.TheVariants.{Unreach}
-use Rattle.bgp_update.specs.Written.{IsWritableKey}
-use Rattle.core_walks.specs.Core.{Core}
+use Rattle.bgp_messages.specs.declared.bgp_attributes.key.Key.{Key}
+use Rattle.bgp_messages.specs.declared.bgp_attributes.update.Change.{Change}
+use Rattle.bgp_messages.specs.declared.bgp_attributes.update.Change.TheVariants.{Unreach}
+use Rattle.bgp_messages.specs.bgp_update.Written.{IsWritableKey}
+use Rattle.mv_base.specs.core_walks.Core.{Core}
 use Rattle.label_defs.specs.Keys.{node_cmp}
 use Rattle.label_defs.proofs.KeyLemmas.{node_cmp_total, node_cmp_exact}
-use Rattle.tree_defs.specs.Trees.{TreeData}
+use Rattle.vrf_words.specs.tree_defs.Trees.{TreeData}
 use Rattle.edge_defs.specs.Edge.{Taken, TakenRoute}
 use Rattle.edge_defs.specs.Keys.{Value, key_cmp, same_value}
 use Rattle.edge_defs.proofs.KeyLemmas.{key_exact, key_total}
 use Rattle.edge_defs.specs.Place.{OwnVrf, vrfs_from}
 use Rattle.edge_defs.specs.Steps.{learned, taken_change}
-use Rattle.edge_home.specs.Home.{place_of}
-use Rattle.taken_tables.specs.Tables.{changed_at, is_news, reach, route_at}
-use Rattle.taken_tables.proofs.MapLemmas.{put_itself}
+use Rattle.edge_routes.specs.edge_home.Home.{place_of}
+use Rattle.edge_tables.specs.taken_tables.Tables.{changed_at, is_news, reach, route_at}
+use Rattle.edge_tables.proofs.taken_tables.MapLemmas.{put_itself}
 use Rattle.control_laws.specs.Between.{MakesBetween}
 use Rattle.control_laws.specs.Control.{Kept, control_of}
 use Rattle.control_laws.specs.Customers.{AreSingle}

@@ -4,14 +4,14 @@ use Rattle.std.specs.Ordering.{eq_by_cmp}
 use Rattle.std.specs.FinMap as maps
 use Rattle.std.specs.FinMap.{FinMap}
 use Rattle.mv_base.specs.declared.ids.NodeId.{NodeId}
-use Rattle.core_walks.specs.Core.{Core}
+use Rattle.mv_base.specs.core_walks.Core.{Core}
 use Rattle.label_defs.specs.Keys.{node_cmp}
 use Rattle.label_defs.proofs.KeyLemmas.{node_cmp_total, node_cmp_exact}
-use Rattle.tree_defs.specs.Trees.{TreeData}
-use Rattle.bgp_attributes.specs.declared.key.Key.{Key}
+use Rattle.vrf_words.specs.tree_defs.Trees.{TreeData}
+use Rattle.bgp_messages.specs.declared.bgp_attributes.key.Key.{Key}
 use Rattle.edge_defs.specs.Edge.{Control, Taken, TakenRoute}
 use Rattle.edge_defs.specs.Keys.{key_cmp}
-use Rattle.calm_laws.proofs.Maps.{empty_entries}
+use Rattle.control_laws.proofs.edge_words.calm_laws.Maps.{empty_entries}
 use Rattle.edge_defs.specs.Place.{OwnVrf, vrfs_from}
 use Rattle.control_laws.specs.Between.{MakesBetween}
 use Rattle.control_laws.specs.Control.{Kept, control_of}
@@ -22,7 +22,7 @@ use Rattle.control_laws.proofs.PeersMaps.{itself_by, one_by}
 use Rattle.control_laws.specs.Customers.{AreSingle}
 use Rattle.control_laws.proofs.Parts.{no_core}
 use Rattle.control_laws.proofs.PeersParts.{Customers}
-use Rattle.edge_home.specs.Home.{place_of}
+use Rattle.edge_routes.specs.edge_home.Home.{place_of}
 use Rattle.edge_control.specs.Sound.{IsSingle, IsSound, kept_of}
 use Rattle.edge_control.specs.Taking.{losing, table_of, turned_all}
 use Rattle.std.specs.List.{AllByRecursion}

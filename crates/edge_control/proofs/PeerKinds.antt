@@ -8,9 +8,9 @@ use Rattle.std.specs.FinMap.{FinMap, IsAntisymmetric}
 use Rattle.std.specs.FinSet as sets
 use Rattle.std.specs.FinSet.{FinSet}
 use Rattle.mv_base.specs.declared.ids.NodeId.{NodeId}
-use Rattle.mvpn_nlri.specs.declared.route.Route.TheVariants as routes
-use Rattle.bgp_attributes.specs.declared.key.Key.{Key}
-use Rattle.bgp_attributes.specs.declared.key.Key.TheVariants.{Mcast, Unicast}
+use Rattle.bgp_values.specs.declared.mvpn_nlri.route.Route.TheVariants as routes
+use Rattle.bgp_messages.specs.declared.bgp_attributes.key.Key.{Key}
+use Rattle.bgp_messages.specs.declared.bgp_attributes.key.Key.TheVariants.{Mcast, Unicast}
 use Rattle.selective.specs.Leaves as leaves
 use Rattle.selective.specs.Leaves.{learned_now}
 use Rattle.selective.specs.Order.{route_total}
@@ -20,10 +20,10 @@ use Rattle.umh_select.proofs.OrderLemmas as unicast_lemmas
 use Rattle.umh_select.specs.Routes.{key_from}
 use Rattle.umh_select.specs.declared.key.RouteKey.{RouteKey}
 use Rattle.umh_select.specs.declared.route.Held.{Held}
-use Rattle.tree_defs.specs.declared.flow.ActiveRoute.{ActiveRoute}
-use Rattle.tree_defs.specs.Keys.{active_cmp}
-use Rattle.tree_defs.proofs.KeyLemmas.{active_exact, active_total}
-use Rattle.tree_defs.specs.Trees.{TreeData, join_cmp}
+use Rattle.vrf_words.specs.declared.tree_defs.flow.ActiveRoute.{ActiveRoute}
+use Rattle.vrf_words.specs.tree_defs.Keys.{active_cmp}
+use Rattle.vrf_words.proofs.tree_defs.KeyLemmas.{active_exact, active_total}
+use Rattle.vrf_words.specs.tree_defs.Trees.{TreeData, join_cmp}
 use Rattle.edge_defs.specs.Edge.{TakenRoute}
 use Rattle.edge_defs.specs.Imported.{FlowRoute, ImportedSelective}
 use Rattle.edge_defs.specs.Place.{EdgePlace, OwnVrf}

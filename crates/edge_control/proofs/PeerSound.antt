@@ -2,10 +2,10 @@
 use Rattle.std.proofs.Common.{◌≡◌, List, [], ◌∷◌, map, length, refl, sym, ap, subst, ◌∙◌}
 use Rattle.std.specs.List.{AllByRecursion}
 use Rattle.std.proofs.lemmas.List.{length-map}
-use Rattle.tree_defs.specs.Trees.{TreeData}
+use Rattle.vrf_words.specs.tree_defs.Trees.{TreeData}
 use Rattle.edge_defs.specs.Place.{OwnVrf, vrfs_from}
-use Rattle.edge_home.specs.Home.{place_of}
-use Rattle.tree_laws.specs.TreeOf.{IsTreeOf}
+use Rattle.edge_routes.specs.edge_home.Home.{place_of}
+use Rattle.vrf_words.specs.tree_laws.TreeOf.{IsTreeOf}
 use Rattle.control_laws.specs.Between.{AreTreesBetween}
 use Rattle.control_laws.specs.Control.{AreTrees, Kept, OwnTree, control_of, own_trees, trees_of, with_trees}
 use Rattle.control_laws.specs.Peers.{as_wanted}

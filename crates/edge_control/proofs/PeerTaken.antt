@@ -5,17 +5,17 @@ use Rattle.std.specs.FinMap.{FinMap}
 use Rattle.mv_base.specs.Lists.{Among}
 use Rattle.mv_base.specs.Number.{◌>>?◌}
 use Rattle.mv_base.specs.declared.ids.NodeId.{NodeId}
-use Rattle.bgp_attributes.specs.declared.key.Key.{Key}
-use Rattle.bgp_attributes.specs.declared.update.Change.{Change}
-use Rattle.bgp_attributes.specs.declared.update.Change.TheVariants.{Unreach}
-use Rattle.bgp_update.specs.Written.{IsWritableKey}
-use Rattle.core_walks.specs.Core.{Core}
+use Rattle.bgp_messages.specs.declared.bgp_attributes.key.Key.{Key}
+use Rattle.bgp_messages.specs.declared.bgp_attributes.update.Change.{Change}
+use Rattle.bgp_messages.specs.declared.bgp_attributes.update.Change.TheVariants.{Unreach}
+use Rattle.bgp_messages.specs.bgp_update.Written.{IsWritableKey}
+use Rattle.mv_base.specs.core_walks.Core.{Core}
 use Rattle.label_defs.specs.Keys.{node_cmp}
-use Rattle.tree_defs.specs.Trees.{TreeData}
+use Rattle.vrf_words.specs.tree_defs.Trees.{TreeData}
 use Rattle.edge_defs.specs.Edge.{Taken, TakenRoute}
 use Rattle.edge_defs.specs.Place.{OwnVrf, vrfs_from}
 use Rattle.edge_defs.specs.Steps.{taken_change}
-use Rattle.taken_tables.specs.Tables.{changed_at, route_at}
+use Rattle.edge_tables.specs.taken_tables.Tables.{changed_at, route_at}
 use Rattle.control_laws.specs.Between.{MakesBetween}
 use Rattle.control_laws.specs.Control.{Kept, control_of}
 use Rattle.control_laws.specs.Peers.{key_of}
@@ -25,7 +25,7 @@ use Rattle.std.specs.List.{AllByRecursion}
 use Rattle.control_laws.specs.Customers.{AreSingle}
 use Rattle.control_laws.proofs.Parts.{no_core}
 use Rattle.control_laws.proofs.PeersParts.{Customers}
-use Rattle.edge_home.specs.Home.{place_of}
+use Rattle.edge_routes.specs.edge_home.Home.{place_of}
 use Rattle.edge_control.proofs.PeerTurns.{turned_each}
 use Rattle.edge_control.specs.Sound.{IsSingle, IsSound, kept_of}
 use Rattle.edge_control.specs.Taking.{dropping, turned_all}

@@ -1,7 +1,7 @@
 -- Trees that are changed one after another.
 use Rattle.std.proofs.Common.{◌≡◌, ℕ, zero, suc, ◌+◌, ◌<◌, ◌≤◌, List, [], ◌∷◌, length, get_or, set, slice_get, Some, Result, Ok, Err, OnErr, refl, sym, ap, ◌∙◌, arith}
 use Rattle.std.specs.List.{AllByRecursion}
-use Rattle.tree_defs.specs.Trees.{TreeData}
+use Rattle.vrf_words.specs.tree_defs.Trees.{TreeData}
 use Rattle.edge_defs.specs.Place.{OwnVrf}
 use Rattle.edge_control.specs.Taking.{turned, turned_all}
 

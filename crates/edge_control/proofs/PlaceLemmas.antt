@@ -5,10 +5,10 @@ use Rattle.std.proofs.lemmas.Bool.{eqb-true, lt-ltb}
 use Rattle.std.proofs.lemmas.List.Quantifiers.{position-Some}
 use Rattle.std.proofs.lemmas.Option.{slice_get_within}
 use Rattle.mv_base.specs.declared.ids.VrfId.{VrfId}
-use Rattle.tree_defs.specs.Trees.{TreeData}
+use Rattle.vrf_words.specs.tree_defs.Trees.{TreeData}
 use Rattle.edge_defs.specs.Place as places
-use Rattle.edge_home.specs.Home.{Home, AreOwn, as_own}
-use Rattle.edge_home.specs.declared.own_vrf.OwnVrf.{OwnVrf}
+use Rattle.edge_routes.specs.edge_home.Home.{Home, AreOwn, as_own}
+use Rattle.edge_routes.specs.declared.edge_home.own_vrf.OwnVrf.{OwnVrf}
 use Rattle.control_laws.specs.Control.{Kept, OwnTree, trees_of}
 use Rattle.control_laws.proofs.CustomersCounts.{tree_there}
 use Rattle.control_laws.proofs.Parts.{AreFull, no_core}

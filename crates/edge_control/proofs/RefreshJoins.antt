@@ -7,20 +7,20 @@ use Rattle.std.proofs.lemmas.Bool.{or_parts}
 use Rattle.std.proofs.lemmas.List.Folds.{list_any-append}
 use Rattle.std.proofs.lemmas.Map.Keys.{IsDistinct-head, IsDistinct-tail}
 use Rattle.mv_base.specs.Lists.{Among}
-use Rattle.mldp_fec.specs.declared.fec.Fec.{Fec}
+use Rattle.mldp.specs.declared.mldp_fec.fec.Fec.{Fec}
 use Rattle.label_defs.specs.LabelData.{same_fec}
 use Rattle.umh_select.specs.declared.route.Choice.{Choice}
-use Rattle.tree_defs.specs.declared.flow.Flow.{Flow}
-use Rattle.tree_defs.specs.declared.flow.Upstream.{Upstream}
-use Rattle.tree_defs.specs.Keys.{same_flow}
-use Rattle.tree_defs.specs.Flows.{gained, lost, same_upstream, upstream_of}
-use Rattle.tree_defs.specs.Trees.{TreeData}
-use Rattle.tree_defs.proofs.KeyLemmas.{same_flow_equal, same_flow_itself, same_flow_symmetric, same_upstream_equal}
+use Rattle.vrf_words.specs.declared.tree_defs.flow.Flow.{Flow}
+use Rattle.vrf_words.specs.declared.tree_defs.flow.Upstream.{Upstream}
+use Rattle.vrf_words.specs.tree_defs.Keys.{same_flow}
+use Rattle.vrf_words.specs.tree_defs.Flows.{gained, lost, same_upstream, upstream_of}
+use Rattle.vrf_words.specs.tree_defs.Trees.{TreeData}
+use Rattle.vrf_words.proofs.tree_defs.KeyLemmas.{same_flow_equal, same_flow_itself, same_flow_symmetric, same_upstream_equal}
 use Rattle.vrf_trees.specs.declared.changes.TreeJoin.{TreeJoin}
 use Rattle.vrf_trees.specs.Changes.{AreJoins, AreNew, flow_in, join_of, joined_at, up_in}
 use Rattle.vrf_trees.specs.Wants.{is_in}
 use Rattle.vrf_trees.proofs.TableLemmas.{fec_ties}
-use Rattle.calm_laws.proofs.Lists.{among_behind, among_front, among_map}
+use Rattle.control_laws.proofs.edge_words.calm_laws.Lists.{among_behind, among_front, among_map}
 use Rattle.control_laws.proofs.Owned.{of_each}
 use Rattle.edge_control.specs.Refreshing.{AreMoved, tree_join}
 

@@ -10,31 +10,31 @@ use Rattle.mv_base.specs.Lists.{Among}
 use Rattle.mv_base.specs.Number.{◌>>?◌}
 use Rattle.mv_base.specs.declared.ids.NodeId.{NodeId}
 use Rattle.mv_base.specs.declared.prefix.Prefix.{Prefix}
-use Rattle.core_walks.specs.Core.{Core, IsCoreOf}
-use Rattle.core_walks.specs.Topology.{Topology}
-use Rattle.bgp_attributes.specs.declared.key.Key.{Key}
-use Rattle.bgp_attributes.specs.declared.key.Key.TheVariants.{Unicast}
+use Rattle.mv_base.specs.core_walks.Core.{Core, IsCoreOf}
+use Rattle.mv_base.specs.core_walks.Topology.{Topology}
+use Rattle.bgp_messages.specs.declared.bgp_attributes.key.Key.{Key}
+use Rattle.bgp_messages.specs.declared.bgp_attributes.key.Key.TheVariants.{Unicast}
 use Rattle.umh_select.specs.Routes.{AreCosts, AreOfCore, peer_of}
 use Rattle.umh_select.specs.declared.key.Place.{Place}
 use Rattle.umh_select.specs.declared.key.Place.TheVariants.{First, From, Here, Last}
 use Rattle.umh_select.specs.declared.route.Choice.{Choice}
 use Rattle.umh_select.specs.declared.route.Choice.TheVariants as choices
 use Rattle.umh_select.specs.declared.route.Held.{Held}
-use Rattle.tree_defs.specs.Flows.{upstream_of}
-use Rattle.tree_defs.specs.Trees.{TreeData}
+use Rattle.vrf_words.specs.tree_defs.Flows.{upstream_of}
+use Rattle.vrf_words.specs.tree_defs.Trees.{TreeData}
 use Rattle.vrf_trees.specs.declared.changes.TreeJoin.{TreeJoin}
 use Rattle.vrf_trees.specs.Changes.{join_of}
 use Rattle.edge_defs.specs.Edge.{Control, Taken, TakenRoute, Upstream, VrfFlow}
 use Rattle.edge_defs.specs.Keys.{key_cmp}
 use Rattle.edge_defs.specs.Place.{HasPrefixes, OwnVrf, vrfs_from}
 use Rattle.edge_defs.specs.Steps.{refreshed}
-use Rattle.edge_home.specs.Home.{place_of}
-use Rattle.taken_tables.specs.Tables.{AreSpelled, IsSpelled, IsSpelledKey}
-use Rattle.taken_tables.proofs.SpelledLemmas.{octets_key, writable_key}
-use Rattle.calm_laws.proofs.Lists.{map_among}
-use Rattle.tree_laws.specs.TreeOf.{flow_in, held_at, held_from}
-use Rattle.tree_laws.specs.Whole.{HaveSpellings}
-use Rattle.tree_laws.proofs.Whole.{prefixes_whole}
+use Rattle.edge_routes.specs.edge_home.Home.{place_of}
+use Rattle.edge_tables.specs.taken_tables.Tables.{AreSpelled, IsSpelled, IsSpelledKey}
+use Rattle.edge_tables.proofs.taken_tables.SpelledLemmas.{octets_key, writable_key}
+use Rattle.control_laws.proofs.edge_words.calm_laws.Lists.{map_among}
+use Rattle.vrf_words.specs.tree_laws.TreeOf.{flow_in, held_at, held_from}
+use Rattle.vrf_words.specs.tree_laws.Whole.{HaveSpellings}
+use Rattle.vrf_words.proofs.tree_laws.Whole.{prefixes_whole}
 use Rattle.control_laws.specs.Between.{IsRefreshed}
 use Rattle.control_laws.specs.Control.{Kept, OwnTree, control_of, trees_of, upstream_by}
 use Rattle.control_laws.specs.Customers.{AreSingle, Makes}

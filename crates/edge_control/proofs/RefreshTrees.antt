@@ -6,15 +6,15 @@ use Rattle.std.specs.FinMap.{get}
 use Rattle.std.specs.FinSet as sets
 use Rattle.mv_base.specs.Lists.{Among}
 use Rattle.mv_base.specs.declared.ids.NodeId.{NodeId}
-use Rattle.core_walks.specs.Topology.{Topology}
-use Rattle.mldp_fec.specs.declared.fec.Fec.{Fec}
+use Rattle.mv_base.specs.core_walks.Topology.{Topology}
+use Rattle.mldp.specs.declared.mldp_fec.fec.Fec.{Fec}
 use Rattle.umh_select.specs.Routes.{AreCosts}
-use Rattle.tree_defs.specs.declared.flow.Flow.{Flow}
-use Rattle.tree_defs.specs.Flows.{flow_of}
-use Rattle.tree_defs.specs.Trees.{TreeData, wanted_by}
+use Rattle.vrf_words.specs.declared.tree_defs.flow.Flow.{Flow}
+use Rattle.vrf_words.specs.tree_defs.Flows.{flow_of}
+use Rattle.vrf_words.specs.tree_defs.Trees.{TreeData, wanted_by}
 use Rattle.vrf_trees.specs.declared.changes.TreeJoin.{TreeJoin}
 use Rattle.vrf_trees.specs.Changes.{AreNew}
-use Rattle.calm_laws.proofs.Lists.{among_either}
+use Rattle.control_laws.proofs.edge_words.calm_laws.Lists.{among_either}
 use Rattle.control_laws.specs.Between.{IsRefreshed}
 use Rattle.edge_control.specs.Refreshing.{AreAllMoved, AreMoved, AreTold, HasJoin, IsRestOf}
 use Rattle.edge_control.proofs.RefreshJoins.{Tells, moved_more, tells_more, told_here}

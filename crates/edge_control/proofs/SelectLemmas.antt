@@ -7,16 +7,16 @@ use Rattle.std.proofs.lemmas.List.Sums.{get_or-le-sum_by}
 use Rattle.mv_base.specs.Lists.{Among}
 use Rattle.mv_base.specs.declared.ids.VrfId.{VrfId}
 use Rattle.mv_base.specs.declared.pattern.Pattern.{Pattern}
-use Rattle.core_walks.specs.Core.{Core}
+use Rattle.mv_base.specs.core_walks.Core.{Core}
 use Rattle.selective_defs.specs.Selective.{next_number}
 use Rattle.selective_defs.specs.declared.selection.Selection.{Selection}
 use Rattle.selective.specs.Roots.{IsSelected, is_of, lsp_number}
-use Rattle.tree_defs.specs.Trees.{TreeData}
+use Rattle.vrf_words.specs.tree_defs.Trees.{TreeData}
 use Rattle.edge_defs.specs.Edge.{Control}
 use Rattle.edge_defs.specs.Place.{OwnVrf, tunnel_number}
 use Rattle.edge_defs.specs.Steps.{Select, Unselect, effect}
-use Rattle.edge_home.specs.Home.{place_of}
-use Rattle.calm_laws.proofs.Lists.{map_among}
+use Rattle.edge_routes.specs.edge_home.Home.{place_of}
+use Rattle.control_laws.proofs.edge_words.calm_laws.Lists.{map_among}
 use Rattle.control_laws.specs.Control.{Kept, OwnTree, control_of, trees_of, with_trees}
 use Rattle.control_laws.specs.Customers.{selected, unselected}
 use Rattle.control_laws.specs.Peers.{as_wanted}

@@ -3,13 +3,13 @@ use Rattle.std.proofs.Common.{◌≡◌, ◌∙◌, refl, sym, ap, subst}
 use Rattle.std.proofs.lemmas.List.{length-map}
 use Rattle.mv_base.specs.Lists.{Among}
 use Rattle.mv_base.specs.declared.ids.VrfId.{VrfId}
-use Rattle.core_walks.specs.Core.{Core}
-use Rattle.tree_defs.specs.Trees.{TreeData}
+use Rattle.mv_base.specs.core_walks.Core.{Core}
+use Rattle.vrf_words.specs.tree_defs.Trees.{TreeData}
 use Rattle.edge_defs.specs.Place.{OwnVrf, own_vrfs}
-use Rattle.edge_home.specs.Home.{place_of}
-use Rattle.calm_laws.proofs.Lists.{among_map}
-use Rattle.calm_laws.proofs.Vrfs.{one_number}
-use Rattle.tree_laws.specs.TreeOf.{IsTreeOf}
+use Rattle.edge_routes.specs.edge_home.Home.{place_of}
+use Rattle.control_laws.proofs.edge_words.calm_laws.Lists.{among_map}
+use Rattle.control_laws.proofs.edge_words.calm_laws.Vrfs.{one_number}
+use Rattle.vrf_words.specs.tree_laws.TreeOf.{IsTreeOf}
 use Rattle.control_laws.specs.Control.{Kept, OwnTree, control_of, trees_of, with_trees}
 use Rattle.control_laws.specs.Peers.{as_wanted}
 use Rattle.control_laws.specs.Between.{AreTreesBetween}

@@ -16,7 +16,7 @@ use Rattle.mv_base.specs.declared.ids.NodeId.{NodeId}
 use Rattle.mv_base.specs.declared.ids.SiteId.{SiteId}
 use Rattle.mv_base.specs.declared.ids.VrfId.{VrfId}
 use Rattle.mv_base.specs.declared.prefix.Prefix.{Prefix}
-use Rattle.core_walks.specs.Core.{Core}
+use Rattle.mv_base.specs.core_walks.Core.{Core}
 use Rattle.scenario_defs.specs.Home.{local_routes}
 use Rattle.scenario_defs.specs.Prefixes.{prefixes_of, same_prefix}
 use Rattle.scenario_defs.specs.Rules.{Rules, IsVrf}
@@ -28,24 +28,24 @@ use Rattle.scenario_defs.specs.declared.scenario.Site.{Site}
 use Rattle.scenario_defs.specs.declared.scenario.Vrf.{Vrf}
 use Rattle.scenario_defs.proofs.RuleLemmas.{vpns_at, vrf_rules_at}
 use Rattle.mvpn_model.proofs.VpnLemmas.{enters-at, vpn_of_one}
-use Rattle.calm_laws.proofs.Lists.{among_map, any_from}
-use Rattle.edge_words.proofs.Prefixes.{at_among as place_among, route_of}
+use Rattle.control_laws.proofs.edge_words.calm_laws.Lists.{among_map, any_from}
+use Rattle.control_laws.proofs.edge_words.Prefixes.{at_among as place_among, route_of}
 use Rattle.umh_select.specs.Order.{key_cmp, key_total}
 use Rattle.umh_select.specs.Routes.{key_here}
 use Rattle.umh_select.specs.declared.key.Place.{Place}
 use Rattle.umh_select.specs.declared.key.Place.TheVariants.{First, Here, From, Last}
 use Rattle.umh_select.specs.declared.key.RouteKey.{RouteKey}
 use Rattle.umh_select.proofs.OrderLemmas.{key_exact}
-use Rattle.tree_defs.specs.declared.flow.SiteIface.{SiteIface}
-use Rattle.tree_defs.specs.Trees.{TreeData}
+use Rattle.vrf_words.specs.declared.tree_defs.flow.SiteIface.{SiteIface}
+use Rattle.vrf_words.specs.tree_defs.Trees.{TreeData}
 use Rattle.label_defs.specs.Keys.{node_cmp}
 use Rattle.edge_defs.specs.Edge.{Taken, no_control}
 use Rattle.edge_defs.specs.Imported.{taken_from}
 use Rattle.edge_defs.specs.Keys.{key_cmp as taken_key_cmp}
 use Rattle.edge_defs.specs.Place.{OwnVrf, vrfs_from}
-use Rattle.edge_home.specs.Home.{Home, AreOwn, IsHome, as_own, place_of}
-use Rattle.edge_home.specs.declared.own_vrf.OwnVrf as own_vrfs
-use Rattle.tree_laws.specs.TreeOf.{IsAttachedAt, site_ifaces, start_tree}
+use Rattle.edge_routes.specs.edge_home.Home.{Home, AreOwn, IsHome, as_own, place_of}
+use Rattle.edge_routes.specs.declared.edge_home.own_vrf.OwnVrf as own_vrfs
+use Rattle.vrf_words.specs.tree_laws.TreeOf.{IsAttachedAt, site_ifaces, start_tree}
 use Rattle.control_laws.specs.Control.{AreTrees, Kept, OwnTree, own_trees, control_of}
 use Rattle.control_laws.specs.Customers.{Makes}
 use Rattle.control_laws.specs.Start.{IsFirst}

@@ -4,18 +4,18 @@ use Rattle.std.specs.FinMap as maps
 use Rattle.std.specs.FinMap.{FinMap}
 use Rattle.std.proofs.lemmas.List.Edits.{map_over_more}
 use Rattle.mv_base.specs.declared.ids.NodeId.{NodeId}
-use Rattle.core_walks.specs.Core.{Core}
+use Rattle.mv_base.specs.core_walks.Core.{Core}
 use Rattle.label_defs.specs.Keys.{node_cmp}
 use Rattle.scenario_defs.specs.declared.scenario.Node.{Node}
 use Rattle.scenario_defs.specs.declared.scenario.Vrf.{Vrf}
-use Rattle.tree_defs.specs.Trees.{TreeData}
+use Rattle.vrf_words.specs.tree_defs.Trees.{TreeData}
 use Rattle.edge_defs.specs.Edge.{Control, Taken}
 use Rattle.edge_defs.specs.Steps.{peers_run, taken_run, timed}
 use Rattle.edge_defs.specs.Place as places
 use Rattle.edge_routes.specs.Local.{Local}
-use Rattle.edge_home.specs.Home.{Home, AreOwn, as_own, place_of}
-use Rattle.edge_home.specs.declared.own_vrf.OwnVrf as own_vrfs
-use Rattle.taken_tables.specs.Running.{IsOf}
+use Rattle.edge_routes.specs.edge_home.Home.{Home, AreOwn, as_own, place_of}
+use Rattle.edge_routes.specs.declared.edge_home.own_vrf.OwnVrf as own_vrfs
+use Rattle.edge_tables.specs.taken_tables.Running.{IsOf}
 use Rattle.control_laws.specs.Control.{Kept, OwnTree, AreTrees, control_of, trees_of, with_trees}
 use Rattle.control_laws.specs.Customers.{timers_run}
 use Rattle.control_laws.specs.Between.{AreTreesBetween, MakesBetween}
@@ -25,7 +25,7 @@ use Rattle.control_laws.proofs.CustomersTimers.{timers_make}
 use Rattle.control_laws.proofs.Owned.{all_mapped}
 use Rattle.control_laws.proofs.PeersKept.{run_makes}
 use Rattle.control_laws.proofs.PeersTimers.{run_spelled}
-use Rattle.edge_laws.proofs.Taken.{get-peers_run}
+use Rattle.control_laws.proofs.edge_words.edge_laws.Taken.{get-peers_run}
 use Rattle.edge_control.specs.Sound.{IsSingle, IsSound}
 use Rattle.edge_control.specs.Timers.{all_run}
 use Rattle.edge_control.proofs.PeerSound.{wanted_of}

@@ -2,7 +2,7 @@
 use Rattle.std.proofs.Common.{◌≡◌, ◌∙◌, ℕ, zero, suc, List, [], ◌∷◌, map, length, Option, Some, None, Result, Ok, Err, OnOk, OnErr, slice_get, slice_set, refl, ap, arith}
 use Rattle.std.specs.FinSet.{FinSet}
 use Rattle.label_defs.specs.Keys.{fec_cmp}
-use Rattle.tree_defs.specs.Trees.{TreeData}
+use Rattle.vrf_words.specs.tree_defs.Trees.{TreeData}
 use Rattle.edge_defs.specs.Place.{OwnVrf}
 use Rattle.edge_control.specs.Places.{changed_at}
 use Rattle.edge_control.specs.Sound.{wants_of}

@@ -8,12 +8,12 @@ use Rattle.mv_base.specs.declared.addr.Addr.{Addr}
 use Rattle.mv_base.specs.declared.ids.IfaceId.{IfaceId}
 use Rattle.mv_base.specs.declared.ids.VrfId.{VrfId}
 use Rattle.selective_defs.specs.Selective.{free_number}
-use Rattle.tree_defs.specs.Trees.{TreeData}
+use Rattle.vrf_words.specs.tree_defs.Trees.{TreeData}
 use Rattle.edge_defs.specs.Edge.{Control}
 use Rattle.edge_defs.specs.Originated.{is_iface_of}
 use Rattle.edge_defs.specs.Place.{OwnVrf, vrfs_from}
 use Rattle.edge_defs.specs.Steps.{is_used}
-use Rattle.edge_home.specs.Home.{Home}
+use Rattle.edge_routes.specs.edge_home.Home.{Home}
 use Rattle.control_laws.specs.Control.{Kept, OwnTree, trees_of}
 
 -- the VRFs of the edge, in order

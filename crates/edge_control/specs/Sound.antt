@@ -8,10 +8,10 @@ use Rattle.std.specs.FinSet.{FinSet}
 use Rattle.mv_base.specs.declared.ids.NodeId.{NodeId}
 use Rattle.label_defs.specs.Keys.{fec_cmp, node_cmp}
 use Rattle.edge_defs.specs.Edge.{Taken}
-use Rattle.edge_home.specs.Home.{Home, home_code, IsHome}
-use Rattle.tree_defs.specs.Trees.{TreeData}
+use Rattle.edge_routes.specs.edge_home.Home.{Home, home_code, IsHome}
+use Rattle.vrf_words.specs.tree_defs.Trees.{TreeData}
 use Rattle.vrf_trees.specs.Trees.{tree_code}
-use Rattle.taken_tables.specs.Tables.{tables_code}
+use Rattle.edge_tables.specs.taken_tables.Tables.{tables_code}
 use Rattle.control_laws.specs.Control.{Kept, AreTrees, control_of, with_trees}
 use Rattle.control_laws.specs.Customers.{AreSingle}
 use Rattle.control_laws.specs.Peers.{AreWritable, as_wanted}

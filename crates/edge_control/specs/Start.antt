@@ -5,10 +5,10 @@ use Rattle.scenario_defs.specs.Home.{local_routes}
 use Rattle.scenario_defs.specs.declared.scenario.Route.{Route}
 use Rattle.scenario_defs.specs.declared.scenario.Scenario.{Scenario}
 use Rattle.umh_select.specs.Routes.{key_here}
-use Rattle.tree_defs.specs.declared.flow.SiteIface.{SiteIface}
-use Rattle.tree_defs.specs.Trees.{TreeData}
+use Rattle.vrf_words.specs.declared.tree_defs.flow.SiteIface.{SiteIface}
+use Rattle.vrf_words.specs.tree_defs.Trees.{TreeData}
 use Rattle.edge_defs.specs.Place.{OwnVrf}
-use Rattle.tree_laws.specs.TreeOf.{site_ifaces}
+use Rattle.vrf_words.specs.tree_laws.TreeOf.{site_ifaces}
 use Rattle.vrf_trees.specs.Trees.{no_tree}
 
 -- the tree with one more interface, and with a prefix that is attached with its site

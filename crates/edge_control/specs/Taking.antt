@@ -6,28 +6,28 @@ use Rattle.std.specs.FinSet as sets
 use Rattle.std.specs.FinSet.{FinSet}
 use Rattle.mv_base.specs.declared.addr.Addr.{Addr}
 use Rattle.mv_base.specs.declared.ids.NodeId.{NodeId}
-use Rattle.mvpn_nlri.specs.declared.route.Route.TheVariants as routes
-use Rattle.core_walks.specs.Core.{Core}
-use Rattle.bgp_attributes.specs.declared.key.Key.{Key}
-use Rattle.bgp_attributes.specs.declared.key.Key.TheVariants.{Mcast, Unicast}
+use Rattle.bgp_values.specs.declared.mvpn_nlri.route.Route.TheVariants as routes
+use Rattle.mv_base.specs.core_walks.Core.{Core}
+use Rattle.bgp_messages.specs.declared.bgp_attributes.key.Key.{Key}
+use Rattle.bgp_messages.specs.declared.bgp_attributes.key.Key.TheVariants.{Mcast, Unicast}
 use Rattle.umh_select.specs.Order as unicast_order
 use Rattle.umh_select.specs.Routes.{key_from}
 use Rattle.umh_select.specs.declared.key.RouteKey.{RouteKey}
 use Rattle.umh_select.specs.declared.route.Held.{Held}
-use Rattle.tree_defs.specs.declared.flow.ActiveRoute.{ActiveRoute}
-use Rattle.tree_defs.specs.Keys.{active_cmp}
-use Rattle.tree_defs.specs.Trees.{TreeData}
+use Rattle.vrf_words.specs.declared.tree_defs.flow.ActiveRoute.{ActiveRoute}
+use Rattle.vrf_words.specs.tree_defs.Keys.{active_cmp}
+use Rattle.vrf_words.specs.tree_defs.Trees.{TreeData}
 use Rattle.edge_defs.specs.Edge.{Taken, TakenRoute}
 use Rattle.edge_defs.specs.Imported.{FlowRoute}
 use Rattle.edge_defs.specs.Place.{EdgePlace, OwnVrf, addr_of}
-use Rattle.edge_home.specs.Home.{Home, place_of}
-use Rattle.edge_home.specs.declared.own_vrf.OwnVrf as homes
+use Rattle.edge_routes.specs.edge_home.Home.{Home, place_of}
+use Rattle.edge_routes.specs.declared.edge_home.own_vrf.OwnVrf as homes
 use Rattle.edge_routes.specs.Judged.{value_of}
 use Rattle.edge_routes.specs.Local.{IsAt}
 use Rattle.edge_routes.specs.declared.imported.TakenValue.{TakenValue}
 use Rattle.control_laws.specs.Peers.{active_of, joined_with, left_with, selective_with}
 use Rattle.control_laws.specs.Peers.{told_active, told_join, told_selective, told_unicast}
-use Rattle.taken_tables.specs.Tables.{Tables}
+use Rattle.edge_tables.specs.taken_tables.Tables.{Tables}
 use Rattle.control_laws.specs.Control.{own_trees}
 use Rattle.control_laws.specs.Peers.{tree_change, tree_lost, tree_with, with_actives, with_joined, with_learned, with_selective}
 

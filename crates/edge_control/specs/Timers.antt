@@ -1,6 +1,6 @@
 -- What the timers of an edge make of each of its trees.
 use Rattle.std.specs.Prelude.{ℕ}
-use Rattle.tree_defs.specs.Trees.{TreeData}
+use Rattle.vrf_words.specs.tree_defs.Trees.{TreeData}
 use Rattle.control_laws.specs.Customers.{timers_run}
 use Rattle.control_laws.specs.Peers.{tree_run}
 

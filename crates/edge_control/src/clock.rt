@@ -1,21 +1,21 @@
 //! The timers of what an edge keeps.
 ghost use Rattle.std.specs.Prelude.{◌≡◌, ◌<◌, true, length, map, is_some, IfOk, OnOk, OnErr};
 ghost use Rattle.std.specs.FinMap as maps;
-ghost use Rattle.core_walks.specs.Core.{Core};
+ghost use Rattle.mv_base.specs.core_walks.Core.{Core};
 ghost use Rattle.mv_base.specs.declared.ids.NodeId.{NodeId};
 ghost use Rattle.edge_defs.specs.Steps.{Timers, effect, peers_run};
-ghost use Rattle.edge_home.specs.Home.{place_of};
-ghost use Rattle.edge_home.specs.declared.own_vrf.OwnVrf.{OwnVrf};
+ghost use Rattle.edge_routes.specs.edge_home.Home.{place_of};
+ghost use Rattle.edge_routes.specs.declared.edge_home.own_vrf.OwnVrf.{OwnVrf};
 ghost use Rattle.control_laws.specs.Control.{control_of};
 ghost use Rattle.edge_control.specs.Sound.{wants_of};
 ghost use Rattle.edge_control.specs.Timers.{all_run};
 
 use crate::control::EdgeControl;
-use edge_home::{EdgeHome, OwnVrf};
 use edge_routes::LocalVrf;
+use edge_routes::edge_home::{EdgeHome, OwnVrf};
+use edge_tables::taken_tables::TakenTables;
 use mv_base::NoMemory;
 use std::alloc::Global;
-use taken_tables::TakenTables;
 use vrf_trees::VrfTree;
 
 /// Runs the timers of the tree.

@@ -1,19 +1,19 @@
 //! What an edge keeps of its customers and of its peers.
 ghost use Rattle.std.specs.Prelude.{◌≡◌, true, IfOk};
 ghost use Rattle.edge_defs.specs.Edge.{no_control};
-ghost use Rattle.edge_home.specs.Home.{IsHome, home_of};
+ghost use Rattle.edge_routes.specs.edge_home.Home.{IsHome, home_of};
 ghost use Rattle.control_laws.specs.Control.{AreTrees, control_of};
 ghost use Rattle.edge_control.specs.Places.{IsTreeAt, is_own_vrf};
 ghost use Rattle.edge_control.specs.Sound.{IsSound};
 
 use crate::places::place_of_vrf;
 use crate::starting::first_trees;
-use edge_home::EdgeHome;
+use edge_routes::edge_home::EdgeHome;
+use edge_tables::taken_tables::TakenTables;
 use mv_base::{NoMemory, NodeId, VrfId};
 use scenario_defs::Scenario;
 use std::alloc::Global;
 use std::marker::Model;
-use taken_tables::TakenTables;
 use vrf_trees::VrfTree;
 
 /// What an edge keeps of its customers and of its peers: a tree for each of its VRFs, in their order, and the routes that it took

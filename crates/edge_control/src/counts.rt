@@ -2,7 +2,7 @@
 ghost use Rattle.std.specs.Prelude.{◌≡◌, ◌+◌, length, min, nat_lt, sum_by};
 ghost use Rattle.std.specs.FinMap as maps;
 ghost use Rattle.std.specs.FinSet as sets;
-ghost use Rattle.tree_defs.specs.Trees.{TreeData};
+ghost use Rattle.vrf_words.specs.tree_defs.Trees.{TreeData};
 
 use vrf_trees::VrfTree;
 

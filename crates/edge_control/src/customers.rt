@@ -1,10 +1,10 @@
 //! The calls of customers.
 ghost use Rattle.std.specs.Prelude.{◌≡◌, ◌&&◌, ℕ, ◌<◌, ◌^◌, true, false, not, nat_le, Err, IfOk, OnOk, OnErr};
-ghost use Rattle.core_walks.specs.Core.{Core};
+ghost use Rattle.mv_base.specs.core_walks.Core.{Core};
 ghost use Rattle.pim_defs.specs.Entries.{applied, are_too_many};
 ghost use Rattle.edge_defs.specs.Originated.{is_iface_of};
 ghost use Rattle.edge_defs.specs.Steps.{Active, Idle, Pim, effect};
-ghost use Rattle.edge_home.specs.Home.{place_of};
+ghost use Rattle.edge_routes.specs.edge_home.Home.{place_of};
 ghost use Rattle.control_laws.specs.Control.{control_of};
 ghost use Rattle.edge_control.specs.Places.{IsPlace, is_note_too_many, is_own_iface, note_limit};
 ghost use Rattle.edge_control.specs.Sound.{wants_of};

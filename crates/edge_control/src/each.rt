@@ -1,16 +1,16 @@
 //! What the trees of all VRFs make of a route of a peer.
 ghost use Rattle.std.specs.Prelude.{◌≡◌, ◌<◌, ℕ, length, slice_get, Option, Some, OnOk, OnErr};
-ghost use Rattle.core_walks.specs.Core.{Core};
+ghost use Rattle.mv_base.specs.core_walks.Core.{Core};
 ghost use Rattle.edge_defs.specs.Edge.{TakenRoute};
 ghost use Rattle.edge_defs.specs.Place.{addr_of, vrfs_from};
-ghost use Rattle.edge_home.specs.Home.{as_own, place_of};
+ghost use Rattle.edge_routes.specs.edge_home.Home.{as_own, place_of};
 ghost use Rattle.edge_routes.specs.Local.{IsAt};
 ghost use Rattle.edge_control.specs.Taking.{Says, forgetting, learning, turned, turned_all};
 
 use crate::peers::{forget_route, learn_route};
-use bgp_attributes::Key;
-use edge_home::{EdgeHome, OwnVrf};
+use bgp_messages::bgp_attributes::Key;
 use edge_routes::TakenValue;
+use edge_routes::edge_home::{EdgeHome, OwnVrf};
 use mv_base::{Addr, NoMemory, NodeId};
 use vrf_trees::VrfTree;
 

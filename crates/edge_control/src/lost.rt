@@ -1,23 +1,23 @@
 //! What the trees of all VRFs make of a peer that is lost: all that was taken from it is forgotten.
 ghost use Rattle.std.specs.Prelude.{◌≡◌, length, fold, Option};
 ghost use Rattle.std.specs.FinMap as maps;
-ghost use Rattle.core_walks.specs.Core.{Core};
+ghost use Rattle.mv_base.specs.core_walks.Core.{Core};
 ghost use Rattle.mv_base.specs.declared.addr.Addr.{Addr};
 ghost use Rattle.edge_defs.specs.Edge.{TakenRoute};
 ghost use Rattle.edge_defs.specs.Place.{EdgePlace, vrfs_from};
-ghost use Rattle.edge_home.specs.Home.{as_own, place_of};
+ghost use Rattle.edge_routes.specs.edge_home.Home.{as_own, place_of};
 ghost use Rattle.edge_routes.specs.Local.{IsAt};
 ghost use Rattle.control_laws.specs.Peers.{tree_lost, tree_without};
 ghost use Rattle.edge_control.specs.Taking.{IsFrom, Says, losing, table_of, tree_losing, turned_all};
 
 use crate::each::own_at;
 use crate::peers::{leave, told_join};
-use bgp_attributes::Key;
-use edge_home::{EdgeHome, OwnVrf};
+use bgp_messages::bgp_attributes::Key;
+use bgp_values::mvpn_nlri::Route;
 use edge_routes::TakenValue;
+use edge_routes::edge_home::{EdgeHome, OwnVrf};
+use edge_tables::taken_tables::{TableEntries, TakenEntry, TakenTables};
 use mv_base::NodeId;
-use mvpn_nlri::Route;
-use taken_tables::{TableEntries, TakenEntry, TakenTables};
 use vrf_trees::VrfTree;
 
 /// A route of the peer of that key is there no more: the tree forgets a Source Active route, and a Source Tree Join at its VRF.

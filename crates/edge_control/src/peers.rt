@@ -2,7 +2,7 @@
 ghost use Rattle.std.specs.Prelude.{◌≡◌, ℕ, None, option_map, Option, IfSome, OnOk, OnErr};
 ghost use Rattle.edge_defs.specs.Edge.{TakenRoute};
 ghost use Rattle.edge_defs.specs.Place.{EdgePlace};
-ghost use Rattle.edge_home.specs.Home.{as_own};
+ghost use Rattle.edge_routes.specs.edge_home.Home.{as_own};
 ghost use Rattle.edge_routes.specs.Judged.{as_flow, as_selective};
 ghost use Rattle.umh_select.specs.Routes.{held_of, key_from};
 ghost use Rattle.control_laws.specs.Peers.{
@@ -23,14 +23,14 @@ ghost use Rattle.control_laws.specs.Peers.{
 };
 ghost use Rattle.edge_control.specs.Taking.{IsFrom, Says, more_actives, more_learned, tree_learning};
 
-use bgp_attributes::Key;
-use edge_home::OwnVrf;
+use bgp_messages::bgp_attributes::Key;
+use bgp_values::mvpn_nlri::Route;
+use edge_routes::edge_home::OwnVrf;
 use edge_routes::{
     FlowRoute, ImportedSelective, TakenValue, imported_active, imported_join, imported_selective,
     is_admitted, join_by,
 };
 use mv_base::{Addr, NoMemory, NodeId, Prefix, Rd};
-use mvpn_nlri::Route;
 use umh_select::Learned;
 use vrf_trees::VrfTree;
 

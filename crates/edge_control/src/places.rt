@@ -1,15 +1,15 @@
 //! Which of the edge's VRFs an interface or a number names.
 ghost use Rattle.std.specs.Prelude.{◌≡◌, ◌==◌, true, position};
 ghost use Rattle.mv_base.specs.Lists.{Among};
-ghost use Rattle.core_walks.specs.Core.{Core};
+ghost use Rattle.mv_base.specs.core_walks.Core.{Core};
 ghost use Rattle.edge_defs.specs.Originated.{is_iface_of};
 ghost use Rattle.edge_defs.specs.Place.{own_vrfs};
-ghost use Rattle.edge_home.specs.Home.{as_own, place_of};
+ghost use Rattle.edge_routes.specs.edge_home.Home.{as_own, place_of};
 ghost use Rattle.edge_routes.specs.Local.{IsAt};
 ghost use Rattle.edge_control.specs.Places.{IsPlace, is_own_iface, is_own_vrf};
 
 use crate::each::own_at;
-use edge_home::{EdgeHome, OwnVrf};
+use edge_routes::edge_home::{EdgeHome, OwnVrf};
 use mv_base::{IfaceId, VrfId};
 use scenario_defs::Scenario;
 

@@ -2,24 +2,24 @@
 ghost use Rattle.std.specs.Prelude.{◌≡◌, ◌<◌, ◌++◌, ℕ, length, IfOk, OnOk};
 ghost use Rattle.std.specs.List.{AllByRecursion, AllZip};
 ghost use Rattle.mv_base.specs.declared.ids.NodeId.{NodeId};
-ghost use Rattle.core_walks.specs.Core.{Core as Walks, IsCoreOf};
+ghost use Rattle.mv_base.specs.core_walks.Core.{Core as Walks, IsCoreOf};
 ghost use Rattle.umh_select.specs.Routes.{AreCosts, AreOfCore};
-ghost use Rattle.tree_defs.specs.Trees.{TreeData};
+ghost use Rattle.vrf_words.specs.tree_defs.Trees.{TreeData};
 ghost use Rattle.edge_defs.specs.Place.{HasPrefixes};
 ghost use Rattle.edge_defs.specs.Steps.{refreshed};
-ghost use Rattle.edge_home.specs.Home.{place_of};
-ghost use Rattle.taken_tables.specs.Tables.{AreSpelled};
+ghost use Rattle.edge_routes.specs.edge_home.Home.{place_of};
+ghost use Rattle.edge_tables.specs.taken_tables.Tables.{AreSpelled};
 ghost use Rattle.control_laws.specs.Between.{IsRefreshed};
 ghost use Rattle.control_laws.specs.Control.{AreTrees, control_of};
 ghost use Rattle.edge_control.specs.Refreshing.{AreAllMoved, AreChanged, AreTold, IsRestOf};
 
 use crate::control::EdgeControl;
 use core_paths::Core;
-use edge_home::EdgeHome;
-use mldp_fec::Fec;
+use edge_routes::edge_home::EdgeHome;
+use edge_tables::taken_tables::TakenTables;
+use mldp::mldp_fec::Fec;
 use mv_base::{NoMemory, NodeId};
 use std::alloc::Global;
-use taken_tables::TakenTables;
 use vrf_trees::{TreeChanges, TreeJoin, VrfTree};
 
 /// What a refresh of all flows changes: the joins of flows towards other edges that are made or left, and the selective tunnels

@@ -2,10 +2,10 @@
 ghost use Rattle.std.specs.Prelude.{◌≡◌, ◌==◌, ℕ, ◌<◌, ◌^◌, min, true, false, nat_le, is_some, None, Err, IfOk, OnOk, OnErr};
 ghost use Rattle.std.specs.FinMap as maps;
 ghost use Rattle.mv_base.specs.Lists.{Among};
-ghost use Rattle.core_walks.specs.Core.{Core};
+ghost use Rattle.mv_base.specs.core_walks.Core.{Core};
 ghost use Rattle.edge_defs.specs.Place.{OwnVrf, tunnel_number};
 ghost use Rattle.edge_defs.specs.Steps.{Select, Unselect, effect};
-ghost use Rattle.edge_home.specs.Home.{place_of};
+ghost use Rattle.edge_routes.specs.edge_home.Home.{place_of};
 ghost use Rattle.control_laws.specs.Control.{control_of};
 ghost use Rattle.edge_control.specs.Places.{IsPlace, is_own_vrf, is_selection_too_many, number_behind, selection_limit, vrfs_of};
 ghost use Rattle.edge_control.specs.Sound.{wants_of};

@@ -1,9 +1,9 @@
 //! Sessions with peers that come up and are lost (RFC 4271 section 8).
 ghost use Rattle.std.specs.Prelude.{◌≡◌, ◌<◌, ℕ, length, OnOk, OnErr};
-ghost use Rattle.core_walks.specs.Core.{Core};
+ghost use Rattle.mv_base.specs.core_walks.Core.{Core};
 ghost use Rattle.scenario_defs.specs.declared.event.Kind.TheVariants.{Bgp};
 ghost use Rattle.edge_defs.specs.Steps.{Noticed, Raised, effect};
-ghost use Rattle.edge_home.specs.Home.{place_of};
+ghost use Rattle.edge_routes.specs.edge_home.Home.{place_of};
 ghost use Rattle.control_laws.specs.Control.{control_of};
 ghost use Rattle.edge_control.specs.Sound.{wants_of};
 

@@ -1,21 +1,21 @@
 //! The trees of an edge before anything has happened.
 ghost use Rattle.std.specs.Prelude.{◌≡◌, ◌<◌, ◌≤◌, ◌^◌, ℕ, length, get_or, map, IfOk, OnOk};
 ghost use Rattle.scenario_defs.specs.Rules.{IsVrf, Rules};
-ghost use Rattle.edge_home.specs.Home.{as_own};
-ghost use Rattle.edge_home.specs.declared.own_vrf.OwnVrf.{OwnVrf};
+ghost use Rattle.edge_routes.specs.edge_home.Home.{as_own};
+ghost use Rattle.edge_routes.specs.declared.edge_home.own_vrf.OwnVrf.{OwnVrf};
 ghost use Rattle.scenario_defs.specs.Home.{local_routes};
 ghost use Rattle.vrf_trees.specs.Trees.{no_tree};
-ghost use Rattle.tree_laws.specs.TreeOf.{site_ifaces};
+ghost use Rattle.vrf_words.specs.tree_laws.TreeOf.{site_ifaces};
 ghost use Rattle.edge_control.specs.Places.{vrfs_of};
 ghost use Rattle.edge_control.specs.Start.{first_tree, with_iface, with_ifaces, with_route, with_routes};
 
-use edge_home::{EdgeHome, OwnVrf};
+use edge_routes::edge_home::{EdgeHome, OwnVrf};
 use mv_base::{IfaceId, NoMemory, VrfId};
 use mvpn_model::local_routes;
 use scenario_defs::{Iface, Route, Scenario, Vrf};
 use std::alloc::Global;
-use tree_defs::SiteIface;
 use vrf_trees::VrfTree;
+use vrf_words::tree_defs::SiteIface;
 
 /// The interfaces of the VRF, in order.
 fn site_ifaces(alloc: Global, vrf: VrfId, ifaces: &[Iface]) -> Result<Vec<SiteIface>, NoMemory>

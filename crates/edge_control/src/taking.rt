@@ -1,23 +1,23 @@
 //! Routes that peers withdraw and announce (RFC 4271 section 9.2).
 ghost use Rattle.std.specs.Prelude.{◌≡◌, ◌<◌, ℕ, None, true, length, is_some, OnOk, OnErr};
 ghost use Rattle.std.specs.FinMap as maps;
-ghost use Rattle.bgp_attributes.specs.declared.update.Change.TheVariants.{Unreach};
-ghost use Rattle.bgp_update.specs.Written.{IsWritableKey};
-ghost use Rattle.core_walks.specs.Core.{Core};
+ghost use Rattle.bgp_messages.specs.declared.bgp_attributes.update.Change.TheVariants.{Unreach};
+ghost use Rattle.bgp_messages.specs.bgp_update.Written.{IsWritableKey};
+ghost use Rattle.mv_base.specs.core_walks.Core.{Core};
 ghost use Rattle.edge_defs.specs.Place.{vrfs_from};
 ghost use Rattle.edge_defs.specs.Steps.{taken_change};
-ghost use Rattle.taken_tables.specs.Routes.{handed};
-ghost use Rattle.taken_tables.specs.Tables.{changed_at, is_news, reach, route_at};
+ghost use Rattle.edge_tables.specs.taken_tables.Routes.{handed};
+ghost use Rattle.edge_tables.specs.taken_tables.Tables.{changed_at, is_news, reach, route_at};
 ghost use Rattle.control_laws.specs.Control.{control_of};
 ghost use Rattle.edge_control.specs.Sound.{wants_of};
 ghost use Rattle.edge_control.specs.Taking.{coming, dropping, turned_all};
 
 use crate::control::EdgeControl;
 use crate::each::{forget_in, learn_or_forget};
-use edge_home::EdgeHome;
+use edge_routes::edge_home::EdgeHome;
+use edge_routes::route_order::TableKey;
+use edge_tables::taken_tables::{RouteValue, TakenTables, same_value};
 use mv_base::{NoMemory, NodeId};
-use route_order::TableKey;
-use taken_tables::{RouteValue, TakenTables, same_value};
 use vrf_trees::VrfTree;
 
 /// Whether the value is another one than that of the route of the key that was taken from the peer.

@@ -3,7 +3,7 @@ ghost use Rattle.std.specs.Prelude.{◌≡◌, ◌<◌, ◌^◌, false, Some, Er
 ghost use Rattle.pim_defs.specs.Entries.{applied, are_too_many};
 ghost use Rattle.selective_defs.specs.Selective.{next_number};
 ghost use Rattle.selective.specs.Roots.{IsSelected, lsp_number};
-ghost use Rattle.tree_defs.specs.Trees.{TreeData};
+ghost use Rattle.vrf_words.specs.tree_defs.Trees.{TreeData};
 ghost use Rattle.control_laws.specs.Customers.{noted, pim_taken, selected, unnoted, unselected};
 ghost use Rattle.edge_control.specs.Places.{changed_at};
 ghost use Rattle.edge_control.specs.declared.fault.ControlFault.TheVariants as faults;
@@ -11,8 +11,8 @@ ghost use Rattle.edge_control.specs.declared.fault.ControlFault.TheVariants as f
 use crate::fault::ControlFault;
 use mv_base::{Addr, IfaceId, Pattern};
 use pim_joinprune::JoinPrune;
-use pim_state::TakeFault;
 use vrf_trees::VrfTree;
+use vrf_trees::of_pim_state::TakeFault;
 
 /// The tree takes the message.
 pub(crate) fn take_at(

@@ -1,6 +1,6 @@
 -- What the calls of an edge answer, by what its parts answer.
 use Rattle.std.proofs.Common.{◌≡◌, ◌∙◌, sym, ap, subst, ℕ, [], Option, None, Result, option_map}
-use Rattle.core_walks.specs.Topology.{Topology}
+use Rattle.mv_base.specs.core_walks.Topology.{Topology}
 use Rattle.edge_defs.specs.Steps.{Call}
 use Rattle.mldp_node.specs.NodeData.{cause}
 use Rattle.mldp_node.specs.declared.fault.NodeFault.{NodeFault}
@@ -12,7 +12,7 @@ use Rattle.edge_core.specs.View.{EdgeView}
 
 -- why an edge is spent, as it is kept and as it is seen
 seen_behind : (parts : Parts) (spent : Option NodeFault) (result : Result (Unit {0}) EdgeFault) → option_map cause spent ≡ spent_after result → behind parts result ≡ seen parts spent
-seen_behind parts spent result e = λ i. record { routing = parts.routing; labels = parts.labels; streams = parts.streams; spent = sym e i }
+seen_behind parts spent result e = λ i. record { routing = parts.routing; labels = parts.labels; streams = parts.streams; raised = parts.raised; spent = sym e i }
 
 pub none_after : (spent : Option NodeFault) (result : Result (Unit {0}) EdgeFault) → option_map cause spent ≡ spent_after result → spent ≡ None → spent_after result ≡ None
 none_after spent result e h = sym e ∙ ap (λ (s : Option NodeFault). option_map cause s) h

@@ -15,7 +15,7 @@ use Rattle.std.specs.Cmp.{Equal-is}
 use Rattle.mv_base.proofs.SortedMaps.{map_sorted}
 use Rattle.mv_base.specs.declared.addr.Addr.{Addr}
 use Rattle.mv_base.specs.declared.ids.NodeId.{NodeId}
-use Rattle.mldp_fec.specs.declared.fec.Fec.{Fec}
+use Rattle.mldp.specs.declared.mldp_fec.fec.Fec.{Fec}
 use Rattle.label_defs.specs.declared.branch.Branch.{Branch as TreeBranch}
 use Rattle.label_defs.specs.declared.label_use.LabelUse.{LabelUse}
 use Rattle.label_defs.specs.declared.label_use.LabelUse.TheVariants as uses
@@ -28,8 +28,8 @@ use Rattle.label_forwarding.specs.declared.branch.Branch.{Branch}
 use Rattle.label_forwarding.specs.Hops.{hop_cmp}
 use Rattle.label_forwarding.specs.FibData.{AreHops, FibData, branch_in}
 use Rattle.label_forwarding.proofs.SlotLemmas.{branch-ties, fec-ties, hop_of}
-use Rattle.label_trees.specs.Trees.{fec_under}
-use Rattle.label_trees.proofs.OrderLemmas.{is_in_order}
+use Rattle.mldp_node.specs.label_trees.Trees.{fec_under}
+use Rattle.mldp_node.proofs.label_trees.OrderLemmas.{is_in_order}
 use Rattle.mldp_node.specs.NodeData.{IsFibOfPart}
 use Rattle.edge_defs.specs.Datagrams as datagrams
 use Rattle.edge_defs.specs.Datagrams.{arriving_fate, discarded, outs_of, tree_of}

@@ -9,24 +9,24 @@ use Rattle.scenario_defs.specs.declared.event.Kind.{Kind}
 use Rattle.scenario_defs.specs.declared.event.Kind.TheVariants as kinds
 use Rattle.scenario_defs.specs.declared.scenario.Node.{Node}
 use Rattle.scenario_defs.specs.declared.scenario.Scenario.{Scenario}
-use Rattle.framing.specs.Feed.{unfed}
-use Rattle.session_defs.specs.Message.{SessionMessage}
-use Rattle.session_defs.specs.Octets.{Stream}
-use Rattle.session_defs.specs.PeerSession.{PeerSession, peer_cmp}
+use Rattle.mv_base.specs.framing.Feed.{unfed}
+use Rattle.network_defs.specs.session_defs.Message.{SessionMessage}
+use Rattle.network_defs.specs.session_defs.Octets.{Stream}
+use Rattle.network_defs.specs.session_defs.PeerSession.{PeerSession, peer_cmp}
 use Rattle.label_defs.specs.Keys.{node_cmp}
 use Rattle.label_defs.specs.Node.{LabelNode, fresh_node}
 use Rattle.mldp_node.specs.NodeData.{NodeData}
 use Rattle.label_defs.specs.declared.end.End.{End}
-use Rattle.edge_streams.specs.Kept.{session}
+use Rattle.edge_routing.specs.edge_streams.Kept.{session}
 use Rattle.edge_defs.specs.Edge.{Control, Taken, no_control}
 use Rattle.edge_defs.specs.Tunnels.{leaves}
 use Rattle.edge_defs.proofs.LeafSteps.{fresh_leaves}
-use Rattle.edge_home.specs.Home as homes
-use Rattle.edge_home.specs.Home.{Home, place_of}
-use Rattle.edge_tables.specs.Tables.{waiting_at}
-use Rattle.control_laws.specs.Control.{control_of}
-use Rattle.node_defs.specs.EdgeState as states
-use Rattle.node_defs.specs.EdgeState.{fresh_state}
+use Rattle.edge_routes.specs.edge_home.Home as homes
+use Rattle.edge_routes.specs.edge_home.Home.{Home, place_of}
+use Rattle.edge_routing.specs.edge_tables.Tables.{waiting_at}
+use Rattle.edge_routing.specs.control_laws.Control.{control_of}
+use Rattle.network_defs.specs.node_defs.EdgeState as states
+use Rattle.network_defs.specs.node_defs.EdgeState.{fresh_state}
 use Rattle.node_laws.specs.Places.{label_session, node_place}
 use Rattle.node_laws.specs.Waits.{bgp_session}
 use Rattle.edge_routing.specs.declared.routing.EdgeRouting.{EdgeRouting}
@@ -89,20 +89,22 @@ octets_or None = []
 octets_or (Some octets) = octets
 
 -- it is the one of the definitions in which nothing has happened
-pub first_in : (count : ℕ) (routing : EdgeRouting) (labels : NodeData) (streams : FinMap peer_cmp Stream) → labels.node ≡ fresh_node count → control_of routing.control ≡ no_control
-    → ((peer : NodeId) → waiting_at routing.tables peer ≡ []) → streams ≡ maps.empty → IsIn (fresh_state count) (record { routing = routing; labels = labels; streams = streams; spent = None })
-first_in count routing labels streams fresh nothing silent is = record {
+pub first_in : (count : ℕ) (routing : EdgeRouting) (labels : NodeData) (streams : FinMap peer_cmp Stream) (raised : FinMap node_cmp ℕ) → labels.node ≡ fresh_node count → control_of routing.control ≡ no_control
+    → ((peer : NodeId) → waiting_at routing.tables peer ≡ []) → streams ≡ maps.empty → raised ≡ maps.empty → IsIn (fresh_state count) (record { routing = routing; labels = labels; streams = streams; raised = raised; spent = None })
+first_in count routing labels streams raised fresh nothing silent is none_raised = record {
   parts = λ core. record {
     unspent = refl;
     keeps = sym nothing;
     label = record {
       part = ap (λ (n : LabelNode). n.part) fresh;
       waiting = λ peer. none (label_session peer) ∙ sym (ap (λ (n : LabelNode). octets_or (maps.get n.waiting peer)) fresh ∙ ap octets_or (maps.get-empty {X = List ℕ} node_cmp peer));
+      raises = ap (λ (n : LabelNode). n.raises) fresh;
       spent = ap (λ (n : LabelNode). n.spent) fresh;
     };
     peers = λ peer among other. none (bgp_session peer) ∙ sym (silent peer);
   };
   streams = sym is;
+  raised = sym none_raised;
 }
   where
     none : (session : PeerSession) → states.waiting_at (fresh_state count).waiting session ≡ []

@@ -5,20 +5,20 @@ use Rattle.std.proofs.lemmas.Bool.{eq-eqb, eqb-true}
 use Rattle.std.proofs.lemmas.Option.{none-some}
 use Rattle.mv_base.specs.Lists.{Among}
 use Rattle.mv_base.specs.declared.ids.NodeId.{NodeId}
-use Rattle.core_walks.specs.Core.{Core}
+use Rattle.mv_base.specs.core_walks.Core.{Core}
 use Rattle.scenario_defs.specs.declared.event.Kind.{Kind}
 use Rattle.scenario_defs.specs.declared.event.Kind.TheVariants as kinds
 use Rattle.label_defs.specs.Node as nodes
-use Rattle.mvpn_model.specs.Sessions.{edges}
-use Rattle.session_defs.specs.PeerSession.{PeerSession}
+use Rattle.network_defs.specs.mvpn_model.Sessions.{edges}
+use Rattle.network_defs.specs.session_defs.PeerSession.{PeerSession}
 use Rattle.edge_defs.specs.Held.{told}
-use Rattle.edge_home.specs.Home.{peers_of, place_of}
-use Rattle.edge_tables.specs.Tables.{AtPeer, Both, PeerTable, Tables, waiting_at, waiting_of}
-use Rattle.control_laws.specs.Control.{Kept, control_of}
+use Rattle.edge_routes.specs.edge_home.Home.{peers_of, place_of}
+use Rattle.edge_routing.specs.edge_tables.Tables.{AtPeer, Both, PeerTable, Tables, waiting_at, waiting_of}
+use Rattle.edge_routing.specs.control_laws.Control.{Kept, control_of}
 use Rattle.mldp_node.specs.NodeData.{NodeData, cause}
 use Rattle.mldp_node.specs.declared.fault.NodeFault.{NodeFault}
-use Rattle.node_defs.specs.EdgeState.{EdgeState, handed, handed_out}
-use Rattle.node_defs.specs.EdgeState as states
+use Rattle.network_defs.specs.node_defs.EdgeState.{EdgeState, handed, handed_out}
+use Rattle.network_defs.specs.node_defs.EdgeState as states
 use Rattle.node_laws.specs.Places.{label_session}
 use Rattle.node_laws.specs.Waits.{bgp_session}
 use Rattle.node_laws.proofs.OctetLemmas.{lost_waits}
@@ -133,11 +133,13 @@ module _ (before after : Tables) (peer : NodeId) (taken : AtPeer peer IsEmptied 
           label = record {
             part = has.label.part;
             waiting = λ other. others_left (bgp_session peer) (label_session other) state (ldp_is_not_bgp other peer) ∙ has.label.waiting other;
+            raises = has.label.raises;
             spent = has.label.spent;
           };
           peers = λ other among own. by core other among own (other.0 == peer.0) refl;
         };
     streams = in_old.streams;
+    raised = in_old.raised;
   }
     where
       left : (core : Core) (other : NodeId) → Among other (edges (home_of edge).scenario) → other ≢ (home_of edge).me → other ≢ peer
@@ -178,11 +180,13 @@ ldp_handed state edge new peer is in_old =
             label = record {
               part = has.label.part;
               waiting = lost_waits state.waiting edge.labels.node.waiting peer has.label.waiting;
+              raises = has.label.raises;
               spent = has.label.spent;
             };
             peers = λ other among own. others_left (label_session peer) (bgp_session other) state (bgp_is_not_ldp other peer) ∙ has.peers other among own;
           };
       streams = in_old.streams;
+      raised = in_old.raised;
     })
 
 pub ldp_octets : (state : EdgeState) (edge : EdgeView) (peer : NodeId) (any : Core) → IsIn state edge → nodes.handed peer edge.labels.node ≡ handed (label_session peer) state

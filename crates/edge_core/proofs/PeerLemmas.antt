@@ -4,8 +4,8 @@ use Rattle.std.proofs.lemmas.Bool.{eq-eqb, eqb-true}
 use Rattle.mv_base.specs.Lists.{Among}
 use Rattle.mv_base.specs.declared.ids.NodeId.{NodeId}
 use Rattle.scenario_defs.specs.declared.scenario.Node.{Node}
-use Rattle.mvpn_model.specs.Sessions.{edges_from}
-use Rattle.edge_home.specs.Home.{peers_from}
+use Rattle.network_defs.specs.mvpn_model.Sessions.{edges_from}
+use Rattle.edge_routes.specs.edge_home.Home.{peers_from}
 
 abbrev pub node_at : ℕ → NodeId
 node_at number = record { 0 = number }

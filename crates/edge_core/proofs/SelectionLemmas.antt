@@ -1,6 +1,7 @@
 -- Calls of the operator: they change no leaf, so they make no label step, and stop at their limits before any change.
 use Rattle.std.proofs.Common.{◌≡◌, ◌∙◌, refl, sym, ap, subst, arith, ℕ, ◌++◌, ◌&&◌, ◌||◌, not, Bool, true, false, inl, List, [], ◌∷◌, None, is_some, Ok, Err}
 use Rattle.std.specs.FinMap as maps
+use Rattle.std.specs.FinMap.{FinMap}
 use Rattle.std.specs.FinSet as sets
 use Rattle.std.specs.FinSet.{FinSet}
 use Rattle.std.proofs.lemmas.Option.{none-some}
@@ -8,23 +9,23 @@ use Rattle.mv_base.specs.Lists.{Among}
 use Rattle.mv_base.specs.declared.ids.NodeId.{NodeId}
 use Rattle.scenario_defs.specs.declared.event.Kind.{Kind}
 use Rattle.scenario_defs.specs.declared.event.Kind.TheVariants as kinds
-use Rattle.core_walks.specs.Core.{Core, IsCoreOf}
-use Rattle.core_walks.specs.Topology.{Topology}
-use Rattle.label_defs.specs.Keys.{fec_cmp}
+use Rattle.mv_base.specs.core_walks.Core.{Core, IsCoreOf}
+use Rattle.mv_base.specs.core_walks.Topology.{Topology}
+use Rattle.label_defs.specs.Keys.{fec_cmp, node_cmp}
 use Rattle.edge_defs.specs.Edge.{Control}
 use Rattle.edge_defs.specs.Place.{EdgePlace}
-use Rattle.edge_defs.specs.Steps.{Call, changed_leaves, control_step, one_call, own_label_call}
+use Rattle.edge_defs.specs.Steps.{Call, changed_leaves, control_step, one_call, own_label_call, raised_after}
 use Rattle.edge_defs.specs.Tunnels.{leaves}
 use Rattle.edge_defs.proofs.LeafLemmas.{changed_from}
-use Rattle.edge_home.specs.Home.{Home, place_of}
-use Rattle.edge_tables.specs.Tables.{waiting_at}
-use Rattle.control_laws.specs.Control.{control_of}
-use Rattle.control_laws.proofs.Parts.{no_core}
-use Rattle.node_defs.specs.EdgeState.{EdgeState, called, prepared}
+use Rattle.edge_routes.specs.edge_home.Home.{Home, place_of}
+use Rattle.edge_routing.specs.edge_tables.Tables.{waiting_at}
+use Rattle.edge_routing.specs.control_laws.Control.{control_of}
+use Rattle.edge_routing.proofs.control_laws.Parts.{no_core}
+use Rattle.network_defs.specs.node_defs.EdgeState.{EdgeState, called, prepared}
 use Rattle.node_laws.specs.Parts.{HasParts}
 use Rattle.node_laws.specs.Places.{node_place}
 use Rattle.node_laws.specs.Rows.{all_called, label_calls}
-use Rattle.node_laws.proofs.PartLemmas.{parts_made}
+use Rattle.node_laws.proofs.PartLemmas.{parts_made, raises_made}
 use Rattle.node_laws.proofs.TakenLemmas.{unspent_streams}
 use Rattle.edge_routing.specs.declared.routing.EdgeRouting.{EdgeRouting}
 use Rattle.edge_routing.specs.declared.routing.LeafCandidates.{LeafCandidates}
@@ -69,6 +70,7 @@ pub record ChangesNoLeaf (now : ℕ) (call : Call) : Type 0 where
   pub leaves : (place other : EdgePlace) (control : Control) → leaves place (control_step other now control call) ≡ leaves place control
   pub peers : (place : EdgePlace) (control : Control) (peer : NodeId) →
       is_some (maps.get (control_step place now control call).peers peer) ≡ is_some (maps.get control.peers peer)
+  pub raised : (raised : FinMap node_cmp ℕ) → raised_after now raised call ≡ raised
 
 module _ (now : ℕ) (call : Call) (calm : ChangesNoLeaf now call) (old : Parts) (routing : EdgeRouting) (told : LeafCandidates) (live : IsLive old.routing old.labels old.streams)
     (home : routing.control.home ≡ old.routing.control.home) (stepped : (core : Topology) → IsStepped core now call old.routing routing told) where
@@ -113,6 +115,7 @@ module _ (now : ℕ) (call : Call) (calm : ChangesNoLeaf now call) (old : Parts)
         parts = λ any. subst (λ (h : Home). HasParts (place_of h any) (called place now state call) (control_of routing.control) old.labels.node (waiting_at routing.tables)) (sym home)
             (record { unspent = has.unspent; keeps = has.keeps; label = has.label; peers = has.peers });
         streams = unspent_streams place now call state (in_old.parts is).unspent ∙ (ap (λ (s : EdgeState). s.streams) (calm.prepared state) ∙ in_old.streams);
+        raised = raises_made place now call state (in_old.parts is).unspent has.unspent ∙ (calm.raised state.edge.raised ∙ in_old.raised);
       }
 
   pub has_selected : (core : Topology) → SettlesCall core now call (going old) new (Ok tt)
@@ -123,6 +126,7 @@ module _ (now : ℕ) (call : Call) (calm : ChangesNoLeaf now call) (old : Parts)
       unspent = refl;
       made = λ is told_so state in_old. edge_made core is told_so state in_old;
       goes_on = refl;
+      toward = λ none known told_so waits. waits;
       lacks = λ e. absurd cc;
       spends = λ fault e. absurd cc;
     };
@@ -141,6 +145,7 @@ stays_full core now call old routing same live = record {
     unspent = tt;
     made = tt;
     goes_on = tt;
+    toward = λ none known told_so waits. waits;
     lacks = λ e. absurd (no_label (one_fault faults.Full faults.NoLabel e));
     spends = λ fault e none. ap spent_after e;
   };

@@ -3,23 +3,24 @@ use Rattle.std.proofs.Common.{◌≡◌, ◌∙◌, refl, ap, ℕ, ◌++◌, Lis
 use Rattle.std.specs.FinMap.{FinMap}
 use Rattle.mv_base.specs.declared.memory.NoMemory.{NoMemory}
 use Rattle.mv_base.specs.declared.ids.NodeId.{NodeId}
-use Rattle.core_walks.specs.Topology.{Topology}
-use Rattle.mldp_msgs.specs.declared.message.LabelMessage.{LabelMessage}
-use Rattle.mldp_msgs.specs.declared.message.LabelMessage.TheVariants as messages
-use Rattle.session_defs.specs.Octets.{Stream}
-use Rattle.session_defs.specs.PeerSession.{peer_cmp}
+use Rattle.mv_base.specs.core_walks.Topology.{Topology}
+use Rattle.mldp.specs.declared.mldp_msgs.message.LabelMessage.{LabelMessage}
+use Rattle.mldp.specs.declared.mldp_msgs.message.LabelMessage.TheVariants as messages
+use Rattle.network_defs.specs.session_defs.Octets.{Stream}
+use Rattle.network_defs.specs.session_defs.PeerSession.{peer_cmp}
+use Rattle.label_defs.specs.Keys.{node_cmp}
 use Rattle.edge_defs.specs.Edge.{Control}
 use Rattle.edge_defs.specs.Held.{put_to}
 use Rattle.edge_defs.specs.Place.{EdgePlace}
-use Rattle.edge_defs.specs.Steps.{Call, Rerouted, control_step, own_label_call}
-use Rattle.edge_home.specs.Home.{place_of}
-use Rattle.edge_tables.specs.Tables.{texts, waiting_at}
-use Rattle.edge_streams.specs.Spelled.{SaysWritableLabel}
-use Rattle.control_laws.specs.Control.{control_of}
+use Rattle.edge_defs.specs.Steps.{Call, Rerouted, control_step, own_label_call, raised_after}
+use Rattle.edge_routes.specs.edge_home.Home.{place_of}
+use Rattle.edge_routing.specs.edge_tables.Tables.{texts, waiting_at}
+use Rattle.edge_routing.specs.edge_streams.Spelled.{SaysWritableLabel}
+use Rattle.edge_routing.specs.control_laws.Control.{control_of}
 use Rattle.mldp_node.specs.Parts.{IsSpelled}
 use Rattle.node_laws.specs.Waits.{kept_for}
-use Rattle.edge_labels.specs.declared.own_call.OwnCall.{OwnCall}
-use Rattle.edge_labels.specs.Calls.{MayMake, own_call}
+use Rattle.edge_routing.specs.edge_labels.declared.own_call.OwnCall.{OwnCall}
+use Rattle.edge_routing.specs.edge_labels.Calls.{MayMake, own_call}
 use Rattle.edge_routing.specs.declared.routing.EdgeRouting.{EdgeRouting}
 use Rattle.edge_routing.specs.declared.routing.LeafCandidates.{LeafCandidates}
 use Rattle.edge_routing.specs.Routing.{IsStepped}
@@ -44,13 +45,13 @@ step_as core now old new call (Ok told) same kept stepped = record {
   leaves = stepped.leaves;
 }
 
--- The routing of a call is stepped, and its streams are changed: the call is midway.
-pub midway : (core : Topology) (now : ℕ) (own : OwnCall) (call : Call) (old : Parts) (routing : EdgeRouting) (streams : FinMap peer_cmp Stream)
-    (told : Result LeafCandidates NoMemory) → IsLive old.routing old.labels old.streams → core.nodes ≡ length old.routing.control.home.scenario.nodes
+-- The routing of a call is stepped, and its streams and the moments of raises are changed: the call is midway.
+pub midway_raised : (core : Topology) (now : ℕ) (own : OwnCall) (call : Call) (old : Parts) (routing : EdgeRouting) (streams : FinMap peer_cmp Stream) (raised : FinMap node_cmp ℕ)
+    (told : Result LeafCandidates NoMemory) → raised ≡ raised_after now old.raised call → IsLive old.routing old.labels old.streams → core.nodes ≡ length old.routing.control.home.scenario.nodes
     → own_call own ≡ own_label_call call → MayMake old.labels own → streams ≡ streams_behind call old.streams
     → routing.control.home ≡ old.routing.control.home → IfOk told (IsStepped core now call old.routing routing)
-    → IsMidway core now own call (going old) told (record old { routing = routing; streams = streams })
-midway core now own call old routing streams told live nodes is_own may are home stepped = record {
+    → IsMidway core now own call (going old) told (record old { routing = routing; streams = streams; raised = raised })
+midway_raised core now own call old routing streams raised told clocks live nodes is_own may are home stepped = record {
   live = live;
   unspent = refl;
   nodes = nodes;
@@ -58,9 +59,18 @@ midway core now own call old routing streams told live nodes is_own may are home
   may = may;
   labels = refl;
   streams = are;
+  raised = clocks;
   home = home;
   stepped = stepped;
 }
+
+-- the same of a call by which no BGP session comes up or is lost
+pub midway : (core : Topology) (now : ℕ) (own : OwnCall) (call : Call) (old : Parts) (routing : EdgeRouting) (streams : FinMap peer_cmp Stream)
+    (told : Result LeafCandidates NoMemory) → old.raised ≡ raised_after now old.raised call → IsLive old.routing old.labels old.streams → core.nodes ≡ length old.routing.control.home.scenario.nodes
+    → own_call own ≡ own_label_call call → MayMake old.labels own → streams ≡ streams_behind call old.streams
+    → routing.control.home ≡ old.routing.control.home → IfOk told (IsStepped core now call old.routing routing)
+    → IsMidway core now own call (going old) told (record old { routing = routing; streams = streams })
+midway core now own call old routing streams told = midway_raised core now own call old routing streams old.raised told
 
 -- a label message whose tree and label have a spelling may be taken
 pub label_spelled : (message : LabelMessage) → SaysWritableLabel message → IsSpelled message

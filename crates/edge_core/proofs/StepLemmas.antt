@@ -9,42 +9,45 @@ use Rattle.std.proofs.lemmas.Option.{none-some}
 use Rattle.mv_base.specs.Lists.{Among}
 use Rattle.mv_base.specs.declared.ids.NodeId.{NodeId}
 use Rattle.mv_base.specs.declared.memory.NoMemory.{NoMemory}
-use Rattle.mldp_fec.specs.declared.fec.Fec.{Fec}
-use Rattle.framing.specs.Feed.{unfed}
-use Rattle.session_defs.specs.Message.{SessionMessage}
-use Rattle.session_defs.specs.Octets.{Stream}
-use Rattle.session_defs.specs.PeerSession.{PeerSession, peer_cmp, stream_at}
-use Rattle.core_walks.specs.Core.{Core, IsCoreOf}
-use Rattle.core_walks.specs.Topology.{Topology}
-use Rattle.label_defs.specs.Keys.{fec_cmp}
-use Rattle.label_defs.specs.Node.{LacksLabel, LacksMemory, LabelNode}
+use Rattle.mldp.specs.declared.mldp_fec.fec.Fec.{Fec}
+use Rattle.mv_base.specs.framing.Feed.{unfed}
+use Rattle.network_defs.specs.session_defs.Message.{SessionMessage}
+use Rattle.network_defs.specs.session_defs.Octets.{Stream}
+use Rattle.network_defs.specs.session_defs.PeerSession.{PeerSession, peer_cmp, stream_at}
+use Rattle.mv_base.specs.core_walks.Core.{Core, IsCoreOf}
+use Rattle.mv_base.specs.core_walks.Topology.{Topology}
+use Rattle.label_defs.specs.Keys.{fec_cmp, node_cmp}
+use Rattle.label_defs.specs.Node.{LacksLabel, LacksMemory, LabelNode, NodePlace}
 use Rattle.label_defs.specs.Steps as steps
 use Rattle.label_defs.specs.Steps.{Want, Unwant}
 use Rattle.scenario_defs.specs.declared.event.Kind.{Kind}
 use Rattle.scenario_defs.specs.declared.event.Kind.TheVariants as kinds
-use Rattle.edge_streams.specs.Kept.{session}
+use Rattle.edge_routing.specs.edge_streams.Kept.{session}
 use Rattle.edge_defs.specs.Edge.{Control}
 use Rattle.edge_defs.specs.Place.{EdgePlace}
-use Rattle.edge_defs.specs.Steps.{Call, Update, Label, Pim, Active, Idle, Select, Unselect, Raised, Noticed, Timers, Rerouted, changed_leaves, control_step, one_call}
+use Rattle.edge_defs.specs.Steps.{Call, Update, Label, Pim, Active, Idle, Select, Unselect, Raised, Noticed, Timers, Rerouted, changed_leaves, control_step, one_call, raised_after}
 use Rattle.edge_defs.specs.Tunnels.{leaves}
-use Rattle.edge_home.specs.Home.{Home, IsHome, peers_of, place_of}
-use Rattle.edge_tables.specs.Tables.{waiting_at}
-use Rattle.control_laws.specs.Control.{control_of}
-use Rattle.mldp_node.specs.NodeData.{NodeData, cause, MayWant}
+use Rattle.edge_routes.specs.edge_home.Home.{Home, IsHome, peers_of, place_of}
+use Rattle.edge_routing.specs.edge_tables.Tables.{waiting_at}
+use Rattle.edge_routing.specs.control_laws.Control.{control_of}
+use Rattle.mldp_node.specs.NodeData.{NodeData, IsWaitingTowardRoots, MayWant, WaitsTowardRootsOf, cause}
+use Rattle.mldp_node.specs.Parts.{WaitTowardRoots}
 use Rattle.mldp_node.specs.declared.fault.NodeFault.{NodeFault}
 use Rattle.mldp_node.specs.declared.fault.NodeFault.TheVariants as node_faults
-use Rattle.node_defs.specs.EdgeState.{EdgeState, called, prepared}
+use Rattle.network_defs.specs.node_defs.EdgeState.{EdgeState, called, prepared}
 use Rattle.node_laws.specs.Parts.{HasParts}
 use Rattle.node_laws.specs.Places.{node_place}
 use Rattle.node_laws.specs.Rows.{all_called, label_calls}
 use Rattle.node_laws.proofs.OctetLemmas.{peer_total}
-use Rattle.node_laws.proofs.PartLemmas.{leaves_made, parts_lack, parts_made}
+use Rattle.node_laws.proofs.PartLemmas.{leaves_made, parts_lack, parts_made, raises_made}
 use Rattle.node_laws.proofs.TakenLemmas.{unspent_streams}
-use Rattle.leaf_laws.proofs.Wanted.{leaf_wanted}
-use Rattle.edge_labels.specs.declared.changes.LeafChange.{LeafChange}
-use Rattle.edge_labels.specs.declared.own_call.OwnCall.{OwnCall}
-use Rattle.edge_labels.specs.Changes.{AreCandidates}
-use Rattle.edge_labels.specs.Calls.{AnswersAll, IsWantable, calls_of, leaf_call}
+use Rattle.node_laws.proofs.leaf_laws.Wanted.{leaf_wanted}
+use Rattle.edge_routing.specs.edge_labels.declared.changes.LeafChange.{LeafChange}
+use Rattle.edge_routing.specs.edge_labels.declared.own_call.OwnCall.{OwnCall}
+use Rattle.edge_routing.specs.edge_labels.declared.own_call.OwnCall.TheVariants as owns
+use Rattle.edge_routing.specs.edge_labels.Changes.{AreCandidates}
+use Rattle.edge_routing.specs.edge_labels.Calls.{AnswersAll, IsWantable, WaitedBefore, calls_of, leaf_call}
+use Rattle.edge_routing.proofs.edge_labels.RowLemmas.{waited}
 use Rattle.edge_routing.specs.declared.routing.LeafCandidates.{LeafCandidates}
 use Rattle.edge_routing.proofs.PeerNumbers.{is_node}
 use Rattle.edge_core.specs.declared.fault.EdgeFault.{EdgeFault}
@@ -139,6 +142,7 @@ lacks_memory core now call old parts fault is unspent home = record {
     unspent = tt;
     made = tt;
     goes_on = tt;
+    toward = λ none. absurd (none-some LacksMemory (sym none ∙ ap spent_by is));
     lacks = λ e none. absurd (no_label e);
     spends = λ other e none. ap spent_after e;
   };
@@ -215,6 +219,16 @@ module _ (core : Topology) (now : ℕ) (own : OwnCall) (call : Call) (old : Edge
           → all_called parts.labels.place is now parts.labels.node (calls_of own changes) ≡ all_called (node_place (home_of old).scenario (home_of old).me) is now old.labels.node (label_calls (place_of (home_of old) is) now control call)
       row_is is told_so = λ i. all_called ((ap (λ (l : NodeData). l.place) mid.labels ∙ mid.live.place) i) is now (mid.labels i).node (calls_are is told_so i)
 
+      -- each tree that waits does so towards its root
+      toward_made : result ≡ Ok tt → (known : Core) → IsCoreOf core.nodes core.links known → WaitedBefore (calls_of own changes) parts.labels.place known parts.labels.awaited → IsWaitingTowardRoots known labels
+      toward_made e known told_so waits = by result row.toward e
+        where
+          by : (r : Result (Unit {0}) NodeFault)
+              → OnOk r ((k : Core) → IsCoreOf core.nodes core.links k → WaitedBefore (calls_of own changes) parts.labels.place k parts.labels.awaited → WaitTowardRoots parts.labels.place k labels.awaited)
+              → r ≡ Ok tt → IsWaitingTowardRoots known labels
+          by (Ok done) toward e = subst (λ (p : NodePlace). WaitTowardRoots p known labels.awaited) (sym row.place) (toward known told_so waits)
+          by (Err fault) toward e = absurd cc
+
       streams_made : (place : EdgePlace) (state : EdgeState) → IsIn state old → state.spent ≡ None → (called place now state call).streams ≡ parts.streams
       streams_made place state in_old unspent = unspent_streams place now call state unspent ∙ (by_call call ∙ (ap (streams_behind call) in_old.streams ∙ sym mid.streams))
         where
@@ -271,6 +285,7 @@ module _ (core : Topology) (now : ℕ) (own : OwnCall) (call : Call) (old : Edge
               parts = λ any. subst (λ (h : Home). HasParts (place_of h any) (called place now state call) new_control labels.node (waiting_at parts.routing.tables)) (sym mid.home)
                   (record { unspent = has.unspent; keeps = has.keeps; label = has.label; peers = has.peers });
               streams = streams_made place state in_old (in_old.parts is).unspent;
+              raised = raises_made place now call state (in_old.parts is).unspent has.unspent ∙ (ap (λ (r : FinMap node_cmp ℕ). raised_after now r call) in_old.raised ∙ sym mid.raised);
             }
 
         edge_lacks : result ≡ Err node_faults.NoLabel → (state : EdgeState) → IsIn state old → (called place now state call).spent ≡ Some LacksLabel
@@ -289,11 +304,21 @@ module _ (core : Topology) (now : ℕ) (own : OwnCall) (call : Call) (old : Edge
         unspent = mid.unspent;
         made = λ is told_so state in_old. edge_made labels changes (Ok tt) are row is told_so refl row.goes_on state in_old;
         goes_on = refl;
+        toward = λ none known told_so waits. toward_made labels changes (Ok tt) are row refl known told_so (waited (calls_of own changes) parts.labels.place known parts.labels
+            (subst (IsWaitingTowardRoots known) (sym mid.labels) waits));
         lacks = λ e. absurd cc;
         spends = λ fault e. absurd cc;
       };
       live = λ e. live_made labels changes (Ok tt) are row some.0 some.1 refl row.goes_on;
     }
+
+    -- where costs of links changed, they do so by the new ones
+    pub has_rerouted : (labels : NodeData) (changes : List LeafChange)
+        → ((any : Core) → map leaf_call changes ≡ changed_leaves parts.labels.node.part.leaves (leaves (place_of parts.routing.control.home any) new_control))
+        → AnswersAll core now (calls_of own changes) parts.labels labels (Ok tt) → own ≡ owns.Reroute → WaitsTowardRootsOf core labels
+    has_rerouted labels changes are row e known told_so =
+        toward_made labels changes (Ok tt) are row refl known told_so
+        (subst (λ (o : OwnCall). WaitedBefore (calls_of o changes) parts.labels.place known parts.labels.awaited) (sym e) tt)
 
     -- it lacked a label, or memory
     pub has_stopped : (labels : NodeData) (changes : List LeafChange) (fault : NodeFault) (told_as : EdgeFault) → told_as ≡ fault_of (cause fault)
@@ -306,6 +331,7 @@ module _ (core : Topology) (now : ℕ) (own : OwnCall) (call : Call) (old : Edge
         unspent = tt;
         made = tt;
         goes_on = tt;
+        toward = λ none. absurd (spends_some fault (sym (ap spent_by as_fault) ∙ none));
         lacks = λ e none is told_so state in_old. edge_lacks labels changes (Err fault) are row is told_so (ap (λ (f : NodeFault). Err f) (label_lacking fault (sym as_fault ∙ one_fault told_as faults.NoLabel e))) state in_old;
         spends = λ other e none. ap spent_after e;
       };

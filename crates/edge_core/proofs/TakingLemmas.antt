@@ -5,20 +5,20 @@ use Rattle.std.specs.FinMap.{FinMap}
 use Rattle.std.proofs.lemmas.Option.{none-some}
 use Rattle.mv_base.specs.Lists.{Among}
 use Rattle.mv_base.specs.declared.ids.NodeId.{NodeId}
-use Rattle.core_walks.specs.Core.{Core}
-use Rattle.core_walks.specs.Topology.{Topology}
-use Rattle.framing.specs.Feed.{fed, fed_unless}
+use Rattle.mv_base.specs.core_walks.Core.{Core}
+use Rattle.mv_base.specs.core_walks.Topology.{Topology}
+use Rattle.mv_base.specs.framing.Feed.{fed, fed_unless}
 use Rattle.label_defs.specs.Node.{LacksLabel}
 use Rattle.scenario_defs.specs.declared.event.Kind.{Kind}
-use Rattle.session_defs.specs.Message.{SessionFault, SessionMessage, front_of}
-use Rattle.session_defs.specs.Octets.{Stream}
-use Rattle.session_defs.specs.PeerSession.{PeerSession, fault_at, peer_cmp, stream_at}
+use Rattle.network_defs.specs.session_defs.Message.{SessionFault, SessionMessage, front_of}
+use Rattle.network_defs.specs.session_defs.Octets.{Stream}
+use Rattle.network_defs.specs.session_defs.PeerSession.{PeerSession, fault_at, peer_cmp, stream_at}
 use Rattle.edge_defs.specs.Place.{EdgePlace}
-use Rattle.edge_home.specs.Home.{place_of}
-use Rattle.node_defs.specs.EdgeState.{EdgeState, all_taken, call_of, called, took, took_unless}
+use Rattle.edge_routes.specs.edge_home.Home.{place_of}
+use Rattle.network_defs.specs.node_defs.EdgeState.{EdgeState, all_taken, call_of, called, took, took_unless}
 use Rattle.node_laws.proofs.TakenLemmas.{message_called, spent_takes}
-use Rattle.edge_streams.specs.Kept.{session}
-use Rattle.edge_streams.specs.Streams.{with_octets}
+use Rattle.edge_routing.specs.edge_streams.Kept.{session}
+use Rattle.edge_routing.specs.edge_streams.Streams.{with_octets}
 use Rattle.edge_core.specs.declared.fault.EdgeFault.{EdgeFault}
 use Rattle.edge_core.specs.declared.fault.EdgeFault.TheVariants as faults
 use Rattle.edge_core.specs.declared.parts.Parts.{Parts}
@@ -26,8 +26,8 @@ use Rattle.edge_core.specs.Answers.{Makes, spent_by}
 use Rattle.edge_core.specs.Called.{Settles, SettlesCall, behind, going, spent_after}
 use Rattle.edge_core.specs.State.{IsIn, IsLive, is_up}
 use Rattle.edge_core.specs.Taking.{AnswersOctets, IsSessionFault, taken_by, took_by}
-use Rattle.edge_streams.proofs.DrainLemmas.{put_same}
-use Rattle.edge_streams.proofs.FedLemmas.{drained_is, now_fed, put_quiet, put_up, stream_fed}
+use Rattle.edge_routing.proofs.edge_streams.DrainLemmas.{put_same}
+use Rattle.edge_routing.proofs.edge_streams.FedLemmas.{drained_is, now_fed, put_quiet, put_up, stream_fed}
 use Rattle.edge_core.proofs.StepLemmas.{one_fault}
 
 -- ---- messages
@@ -69,6 +69,7 @@ module _ (core : Topology) (now : ℕ) (peer : NodeId) (message : SessionMessage
       made = map_ok result (λ (made : Makes core (taken_by (going mid) now peer more) (going mid) (behind new result)) is told_so state in_old.
           subst (λ (s : EdgeState). IsIn s (behind new result)) (along is state) (made is told_so (called (place_of parts.routing.control.home is) now state (call_of peer message)) (h.answers.made is told_so state in_old))) k.answers.made;
       goes_on = k.answers.goes_on;
+      toward = λ none known told_so waits. k.answers.toward none known told_so (h.answers.toward refl known told_so waits);
       lacks = λ e none is told_so state in_old.
           ap (λ (s : EdgeState). s.spent) (sym (along is state)) ∙ k.answers.lacks e refl is told_so (called (place_of parts.routing.control.home is) now state (call_of peer message)) (h.answers.made is told_so state in_old);
       spends = λ fault e none. k.answers.spends fault e refl;
@@ -91,6 +92,7 @@ module _ (core : Topology) (now : ℕ) (peer : NodeId) (message : SessionMessage
       unspent = tt;
       made = tt;
       goes_on = tt;
+      toward = h.answers.toward;
       lacks = λ e none is told_so state in_old.
           let lacking = h.answers.lacks e none is told_so state in_old in
           ap (λ (s : EdgeState). s.spent) (sym (then_is is state)
@@ -122,6 +124,7 @@ none_left core now peer all left first parts e are =
         unspent = refl;
         made = λ is told_so state in_old. in_old;
         goes_on = refl;
+        toward = λ none known told_so waits. waits;
         lacks = λ k. absurd cc;
         spends = λ fault k. absurd cc;
       };
@@ -195,8 +198,9 @@ module _ (core : Topology) (now : ℕ) (kind : Kind) (peer : NodeId) (octets : L
   in_mid state in_old = record {
     parts = λ any.
         let has = in_old.parts any in
-        record { unspent = has.unspent; keeps = has.keeps; label = record { part = has.label.part; waiting = has.label.waiting; spent = has.label.spent }; peers = has.peers };
+        record { unspent = has.unspent; keeps = has.keeps; label = record { part = has.label.part; waiting = has.label.waiting; raises = has.label.raises; spent = has.label.spent }; peers = has.peers };
     streams = sym are_drained;
+    raised = in_old.raised;
   }
 
   took_so : (is : Core) (state : EdgeState) → IsIn state (going old)
@@ -232,6 +236,7 @@ module _ (core : Topology) (now : ℕ) (kind : Kind) (peer : NodeId) (octets : L
             unspent = tt;
             made = tt;
             goes_on = tt;
+            toward = λ none. absurd (spends_some fault one none);
             lacks = λ e none is told_so state in_old.
                 ap (λ (s : EdgeState). s.spent) (sym (took_so is state in_old))
                 ∙ k.answers.lacks e refl is told_so (record state { streams = maps.insert old.streams own (record whole { waiting = [] }) }) (in_mid state in_old);
@@ -254,6 +259,7 @@ module _ (core : Topology) (now : ℕ) (kind : Kind) (peer : NodeId) (octets : L
             unspent = refl;
             made = octets_made k.answers.made;
             goes_on = refl;
+            toward = λ none. k.answers.toward refl;
             lacks = λ e. absurd cc;
             spends = λ fault e. absurd cc;
           };
@@ -271,6 +277,7 @@ module _ (core : Topology) (now : ℕ) (kind : Kind) (peer : NodeId) (octets : L
             unspent = tt;
             made = tt;
             goes_on = tt;
+            toward = λ none. k.answers.toward refl;
             lacks = λ e. absurd (no_label fault is (one_fault fault faults.NoLabel e));
             spends = λ other e none. ap spent_after e;
           };

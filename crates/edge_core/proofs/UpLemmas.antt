@@ -10,11 +10,11 @@ use Rattle.std.specs.Ordering.{nat_cmp}
 use Rattle.std.proofs.lemmas.Option.{none-some, same_Some}
 use Rattle.mv_base.specs.Number.{◌>>?◌}
 use Rattle.mv_base.specs.declared.ids.NodeId.{NodeId}
-use Rattle.mldp_fec.specs.declared.fec.Fec.{Fec}
-use Rattle.framing.specs.Feed.{unfed}
+use Rattle.mldp.specs.declared.mldp_fec.fec.Fec.{Fec}
+use Rattle.mv_base.specs.framing.Feed.{unfed}
 use Rattle.table_laws.proofs.CompareLemmas.{one_key}
-use Rattle.bgp_attributes.specs.declared.update.Message.{Message}
-use Rattle.bgp_update.specs.Table.{changes_of}
+use Rattle.bgp_messages.specs.declared.bgp_attributes.update.Message.{Message}
+use Rattle.bgp_messages.specs.bgp_update.Table.{changes_of}
 use Rattle.scenario_defs.specs.Kinds.{same_kind}
 use Rattle.scenario_defs.specs.declared.event.Kind.{Kind}
 use Rattle.scenario_defs.specs.declared.event.Kind.TheVariants as kinds
@@ -30,17 +30,17 @@ use Rattle.label_defs.proofs.IdLemmas.{effect_ends, passed, step_end}
 use Rattle.label_defs.proofs.KeyLemmas.{node_cmp_exact, node_cmp_total}
 use Rattle.label_defs.proofs.SettleLemmas.{bind_some}
 use Rattle.label_defs.proofs.TimerLemmas.{timed_end}
-use Rattle.session_defs.specs.Octets.{Stream}
-use Rattle.session_defs.specs.PeerSession.{peer_cmp}
+use Rattle.network_defs.specs.session_defs.Octets.{Stream}
+use Rattle.network_defs.specs.session_defs.PeerSession.{peer_cmp}
 use Rattle.edge_defs.specs.Edge.{Control, Taken}
 use Rattle.edge_defs.specs.Place.{EdgePlace, label_place}
 use Rattle.edge_defs.specs.Steps.{Call, Update, Label, Pim, Active, Idle, Select, Unselect, Raised, Noticed, Timers, Rerouted, LabelStep, changed_leaves, control_step, label_row, one_call, own_label_call, part_after, peers_run, taken_change, with_update}
-use Rattle.edge_laws.proofs.Taken.{get-peers_run, table_run}
+use Rattle.edge_routing.proofs.edge_words.edge_laws.Taken.{get-peers_run, table_run}
 use Rattle.node_laws.specs.Places.{node_place}
 use Rattle.node_laws.specs.Rows.{all_called}
 use Rattle.node_laws.proofs.OctetLemmas.{peer_total, then_equal}
 use Rattle.node_laws.proofs.RowLemmas.{lacks_behind, part_behind}
-use Rattle.edge_streams.specs.Kept.{session}
+use Rattle.edge_routing.specs.edge_streams.Kept.{session}
 use Rattle.edge_core.specs.Answers.{streams_behind}
 
 -- whether an end is up behind a call, by whether it was so before

@@ -3,15 +3,16 @@ use Rattle.std.specs.Prelude.{◌≡◌, ℕ, List, ◌∷◌, Option, None, Som
 use Rattle.std.specs.FinMap as maps
 use Rattle.std.specs.FinMap.{FinMap}
 use Rattle.mv_base.specs.Lists.{Among}
-use Rattle.core_walks.specs.Core.{Core, IsCoreOf}
-use Rattle.core_walks.specs.Topology.{Topology}
-use Rattle.framing.specs.Feed.{unfed}
+use Rattle.mv_base.specs.core_walks.Core.{Core, IsCoreOf}
+use Rattle.mv_base.specs.core_walks.Topology.{Topology}
+use Rattle.mv_base.specs.framing.Feed.{unfed}
 use Rattle.label_defs.specs.Node.{Spent, LacksLabel, LacksMemory}
-use Rattle.session_defs.specs.Octets.{Stream}
-use Rattle.session_defs.specs.PeerSession.{peer_cmp}
+use Rattle.mldp_node.specs.NodeData.{KeepsWaitingTowardRoots}
+use Rattle.network_defs.specs.session_defs.Octets.{Stream}
+use Rattle.network_defs.specs.session_defs.PeerSession.{peer_cmp}
 use Rattle.edge_defs.specs.Steps.{Call, Raised, Noticed}
-use Rattle.edge_home.specs.Home.{place_of}
-use Rattle.node_defs.specs.EdgeState.{EdgeState, called}
+use Rattle.edge_routes.specs.edge_home.Home.{place_of}
+use Rattle.network_defs.specs.node_defs.EdgeState.{EdgeState, called}
 use Rattle.edge_core.specs.declared.fault.EdgeFault.{EdgeFault}
 use Rattle.edge_core.specs.declared.fault.EdgeFault.TheVariants as faults
 use Rattle.edge_core.specs.State.{IsIn, home_of}
@@ -45,7 +46,8 @@ Lacks core step old =
     (own : Core) → IsCoreOf core.nodes core.links own → (state : EdgeState) → IsIn state old → (step own state).spent ≡ Some LacksLabel
 
 -- What a call answers and leaves. A spent edge answers the same as before, and stays. Otherwise an edge that answers Ok made the step.
--- `NoLabel` comes only where there is none; of want of memory no more is said than that the edge is spent.
+-- `NoLabel` comes only where there is none; of want of memory no more is said than that the edge is spent. Where each tree that waits for a
+-- label did so towards its root, it does so still.
 pub record Answers (core : Topology) (step : Core → EdgeState → EdgeState) (old new : EdgeView)
     (result : Result (Unit {0}) EdgeFault) : Type 0 where
   pub home : home_of new ≡ home_of old
@@ -53,6 +55,7 @@ pub record Answers (core : Topology) (step : Core → EdgeState → EdgeState) (
   pub unspent : OnOk result (old.spent ≡ None)
   pub made : OnOk result (Makes core step old new)
   pub goes_on : OnOk result (new.spent ≡ None)
+  pub toward : new.spent ≡ None → KeepsWaitingTowardRoots core old.labels new.labels
   pub lacks : result ≡ Err faults.NoLabel → old.spent ≡ None → Lacks core step old
   pub spends : (fault : EdgeFault) → result ≡ Err fault → old.spent ≡ None → new.spent ≡ spent_by fault
 

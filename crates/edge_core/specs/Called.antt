@@ -1,15 +1,15 @@
 -- An edge in the midst of a call: its customers' and its peers' part and its streams are behind it, and its label part is not.
 use Rattle.std.specs.Prelude.{◌≡◌, ℕ, length, Option, None, Result, Ok, Err, IfOk, option_map}
 use Rattle.mv_base.specs.declared.memory.NoMemory.{NoMemory}
-use Rattle.core_walks.specs.Core.{Core}
-use Rattle.core_walks.specs.Topology.{Topology}
+use Rattle.mv_base.specs.core_walks.Core.{Core}
+use Rattle.mv_base.specs.core_walks.Topology.{Topology}
 use Rattle.label_defs.specs.Node.{Spent}
-use Rattle.edge_defs.specs.Steps.{Call, own_label_call}
+use Rattle.edge_defs.specs.Steps.{Call, own_label_call, raised_after}
 use Rattle.mldp_node.specs.declared.fault.NodeFault.{NodeFault}
 use Rattle.mldp_node.specs.NodeData.{cause}
-use Rattle.node_defs.specs.EdgeState.{EdgeState}
-use Rattle.edge_labels.specs.Calls.{MayMake, own_call}
-use Rattle.edge_labels.specs.declared.own_call.OwnCall.{OwnCall}
+use Rattle.network_defs.specs.node_defs.EdgeState.{EdgeState}
+use Rattle.edge_routing.specs.edge_labels.Calls.{MayMake, own_call}
+use Rattle.edge_routing.specs.edge_labels.declared.own_call.OwnCall.{OwnCall}
 use Rattle.edge_routing.specs.declared.routing.LeafCandidates.{LeafCandidates}
 use Rattle.edge_routing.specs.Routing.{IsStepped}
 use Rattle.edge_core.specs.declared.parts.Parts.{Parts}
@@ -20,13 +20,14 @@ use Rattle.edge_core.specs.View.{EdgeView}
 
 -- an edge of these parts that goes on
 abbrev pub going : Parts → EdgeView
-going parts = record { routing = parts.routing; labels = parts.labels; streams = parts.streams; spent = None }
+going parts = record { routing = parts.routing; labels = parts.labels; streams = parts.streams; raised = parts.raised; spent = None }
 
 -- an edge of these parts, which is spent where it answered such a fault
 abbrev pub seen : Parts → Option NodeFault → EdgeView
 seen parts spent = record (going parts) { spent = option_map cause spent }
 
--- The call was made of what the edge keeps and tells its peers, and of its streams, and the label part is to make its own call.
+-- The call was made of what the edge keeps and tells its peers, of its streams, and of when its ends came up; and the label part is to
+-- make its own call.
 pub record IsMidway (core : Topology) (now : ℕ) (own : OwnCall) (call : Call) (old : EdgeView) (told : Result LeafCandidates NoMemory)
     (parts : Parts) : Type 0 where
   pub live : IsLive old.routing old.labels old.streams
@@ -36,6 +37,7 @@ pub record IsMidway (core : Topology) (now : ℕ) (own : OwnCall) (call : Call) 
   pub may : MayMake old.labels own
   pub labels : parts.labels ≡ old.labels
   pub streams : parts.streams ≡ streams_behind call old.streams
+  pub raised : parts.raised ≡ raised_after now old.raised call
   pub home : parts.routing.control.home ≡ home_of old
   pub stepped : IfOk told (IsStepped core now call old.routing parts.routing)
 

@@ -2,14 +2,14 @@
 use Rattle.std.specs.Prelude.{◌≡◌, ℕ, Bool, not, List, Option, None, Some, Result, Ok, Err, if◌then◌else◌}
 use Rattle.mv_base.specs.Address.{same_addr}
 use Rattle.mv_base.specs.declared.ids.IfaceId.{IfaceId}
-use Rattle.core_walks.specs.Topology.{Topology}
+use Rattle.mv_base.specs.core_walks.Topology.{Topology}
 use Rattle.label_defs.specs.Node.{Spent}
 use Rattle.scenario_defs.specs.declared.scenario.Scenario.{Scenario}
 use Rattle.pim_joinprune.specs.declared.fault.PimFault.{PimFault}
 use Rattle.pim_joinprune.specs.declared.message.JoinPrune.{JoinPrune}
 use Rattle.pim_joinprune.specs.Reading.{decoded}
 use Rattle.pim_defs.specs.Entries.{applied, are_too_many}
-use Rattle.mvpn_model.specs.Messages.{own_addr}
+use Rattle.network_defs.specs.mvpn_model.Messages.{own_addr}
 use Rattle.edge_defs.specs.Steps.{Pim}
 use Rattle.edge_core.specs.declared.fault.EdgeFault.{EdgeFault}
 use Rattle.edge_core.specs.declared.fault.EdgeFault.TheVariants as faults

@@ -2,14 +2,14 @@
 use Rattle.std.specs.Prelude.{◌≡◌, ◌⊎◌, ℕ, List, [], ◌∷◌, None, Some, Result, Err, OnOk}
 use Rattle.mv_base.specs.Lists.{Among}
 use Rattle.mv_base.specs.declared.ids.NodeId.{NodeId}
-use Rattle.core_walks.specs.Core.{Core}
-use Rattle.core_walks.specs.Topology.{Topology}
-use Rattle.session_defs.specs.Message.{SessionMessage}
-use Rattle.session_defs.specs.PeerSession.{PeerSession, fault_at}
-use Rattle.edge_home.specs.Home.{place_of}
-use Rattle.node_defs.specs.EdgeState.{EdgeState, all_taken, took}
-use Rattle.edge_streams.specs.Streams.{told_fault}
-use Rattle.edge_streams.specs.declared.reason.SessionReason.{SessionReason}
+use Rattle.mv_base.specs.core_walks.Core.{Core}
+use Rattle.mv_base.specs.core_walks.Topology.{Topology}
+use Rattle.network_defs.specs.session_defs.Message.{SessionMessage}
+use Rattle.network_defs.specs.session_defs.PeerSession.{PeerSession, fault_at}
+use Rattle.edge_routes.specs.edge_home.Home.{place_of}
+use Rattle.network_defs.specs.node_defs.EdgeState.{EdgeState, all_taken, took}
+use Rattle.edge_routing.specs.edge_streams.Streams.{told_fault}
+use Rattle.edge_routing.specs.edge_streams.declared.reason.SessionReason.{SessionReason}
 use Rattle.edge_core.specs.declared.fault.EdgeFault.{EdgeFault}
 use Rattle.edge_core.specs.declared.fault.EdgeFault.TheVariants as faults
 use Rattle.edge_core.specs.Answers.{Answers, Makes}

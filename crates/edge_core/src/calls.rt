@@ -1,18 +1,19 @@
 //! The calls that may change an edge.
-ghost use Rattle.std.specs.Prelude.{◌≡◌, ◌<◌, ◌^◌, ◌⊎◌, ℕ, [], ◌∷◌, true, false, is_some, length, Err, IfOk, None, Some};
+ghost use Rattle.std.specs.Prelude.{◌≡◌, ◌<◌, ◌^◌, ◌⊎◌, ℕ, [], ◌∷◌, true, false, is_some, length, Err, IfOk, None, OnOk, Some};
 ghost use Rattle.std.specs.FinMap as maps;
 ghost use Rattle.mv_base.specs.Lists.{Among};
-ghost use Rattle.core_walks.specs.Topology.{Topology};
-ghost use Rattle.bgp_update.specs.Written.{afi_of};
-ghost use Rattle.mvpn_nlri.specs.Spelling.{IsAnyOr, IsGroup};
+ghost use Rattle.mv_base.specs.core_walks.Topology.{Topology};
+ghost use Rattle.bgp_messages.specs.bgp_update.Written.{afi_of};
+ghost use Rattle.bgp_values.specs.mvpn_nlri.Spelling.{IsAnyOr, IsGroup};
 ghost use Rattle.scenario_defs.specs.declared.event.Kind.TheVariants as kinds;
 ghost use Rattle.label_defs.specs.Node.{Spent};
 ghost use Rattle.edge_defs.specs.Originated.{afi_by};
 ghost use Rattle.edge_defs.specs.Steps.{Active, Idle, Noticed, Raised, Rerouted, Select, Timers, Unselect};
-ghost use Rattle.control_laws.specs.Control.{control_of};
-ghost use Rattle.edge_control.specs.Places.{is_note_too_many, is_own_iface, is_own_vrf, is_selection_too_many};
-ghost use Rattle.edge_streams.specs.Kept.{session};
-ghost use Rattle.node_defs.specs.EdgeState.{EdgeState, handed, handed_out};
+ghost use Rattle.edge_routing.specs.control_laws.Control.{control_of};
+ghost use Rattle.edge_routing.specs.edge_control.Places.{is_note_too_many, is_own_iface, is_own_vrf, is_selection_too_many};
+ghost use Rattle.edge_routing.specs.edge_streams.Kept.{session};
+ghost use Rattle.network_defs.specs.node_defs.EdgeState.{EdgeState, handed, handed_out};
+ghost use Rattle.mldp_node.specs.NodeData.{WaitsTowardRootsOf};
 ghost use Rattle.edge_core.specs.Answers.{Answers, IsOneOf, OnTaken, step_of};
 ghost use Rattle.edge_core.specs.Pim.{AnswersPim};
 ghost use Rattle.edge_core.specs.State.{IsIn, IsPeer, home_of, is_up};
@@ -246,11 +247,12 @@ impl Edge {
         answer
     }
 
-    /// Costs of links changed: the edge knows the core by them from now on.
+    /// Costs of links changed: the edge knows the core by them from now on, and each tree that waits for a label does so by them.
     pub fn rerouted(&mut self, now: u64, core: &Core) -> Result<(), EdgeFault>
         requires nodes { core.now.nodes ≡ length (home_of self.old).scenario.nodes }
         requires now { now < 2 ^ 63 }
         ensures answers { Answers core.now (step_of self.old now Rerouted) self.old self.new result }
+        ensures toward { OnOk result (WaitsTowardRootsOf core.now self.new.labels) }
         ensures only { IsOneOf [] result }
     {
         if let Some(fault) = self.spent {
@@ -269,6 +271,7 @@ impl Edge {
             IsIn (handed_out (session kind peer) state) self.new }
         ensures spent { (spent : Spent) → self.old.spent ≡ Some spent → (result ≡ []) × (self.new ≡ self.old) }
         ensures stays { (home_of self.new ≡ home_of self.old) × (self.new.spent ≡ self.old.spent) }
+        ensures waits { (self.new.labels.place ≡ self.old.labels.place) × (self.new.labels.awaited ≡ self.old.labels.awaited) }
     {
         if self.spent.is_some() {
             return Bytes::new(self.parts.alloc);

@@ -1,13 +1,13 @@
 //! Calls of customers: Join/Prune messages, and sources that are noted to send or no longer are.
 ghost use Rattle.std.specs.Prelude.{◌≡◌, ◌<◌, ◌^◌, ◌⊎◌, [], ◌∷◌, true, false, length, None, Ok, Err, IfOk};
-ghost use Rattle.bgp_update.specs.Written.{afi_of};
-ghost use Rattle.mvpn_nlri.specs.Spelling.{IsGroup};
+ghost use Rattle.bgp_messages.specs.bgp_update.Written.{afi_of};
+ghost use Rattle.bgp_values.specs.mvpn_nlri.Spelling.{IsGroup};
 ghost use Rattle.pim_joinprune.specs.Reading.{decoded};
 ghost use Rattle.pim_defs.specs.Entries.{applied, are_too_many};
 ghost use Rattle.edge_defs.specs.Steps.{Active, Idle, Pim};
-ghost use Rattle.control_laws.specs.Control.{control_of};
-ghost use Rattle.edge_control.specs.Places.{is_note_too_many, is_own_iface};
-ghost use Rattle.group_laws.specs.Groups.{HasGroups};
+ghost use Rattle.edge_routing.specs.control_laws.Control.{control_of};
+ghost use Rattle.edge_routing.specs.edge_control.Places.{is_note_too_many, is_own_iface};
+ghost use Rattle.edge_routing.specs.control_laws.group_laws.Groups.{HasGroups};
 ghost use Rattle.edge_core.specs.Answers.{IsOneOf, OnTaken};
 ghost use Rattle.edge_core.specs.Called.{SettlesCall, behind, going, spent_after};
 ghost use Rattle.edge_core.specs.Pim.{AnswersPim, IsPimFault, is_ours};
@@ -18,11 +18,11 @@ ghost use Rattle.edge_core.specs.declared.fault.EdgeFault.TheVariants as EdgeFau
 use crate::fault::EdgeFault;
 use crate::parts::Parts;
 use core_paths::Core;
-use edge_control::ControlFault;
-use edge_home::EdgeHome;
-use edge_labels::OwnCall;
+use edge_routes::edge_home::EdgeHome;
+use edge_routing::of_edge_control::ControlFault;
+use edge_routing::of_edge_labels::OwnCall;
 use mv_base::{Addr, IfaceId};
-use mvpn_model::own_addr;
+use network_defs::of_mvpn_model::own_addr;
 use pim_joinprune::{DecodeFault, JoinPrune, decode};
 use std::alloc::Global;
 

@@ -4,28 +4,29 @@ ghost use Rattle.std.specs.FinMap as maps;
 ghost use Rattle.label_defs.specs.Node.{fresh_node};
 ghost use Rattle.mldp_node.specs.NodeData.{cause};
 ghost use Rattle.edge_defs.specs.Edge.{no_control};
-ghost use Rattle.edge_home.specs.Home as homes;
-ghost use Rattle.edge_home.specs.Home.{IsHome};
-ghost use Rattle.control_laws.specs.Control.{control_of};
-ghost use Rattle.edge_control.specs.Places.{IsTreeAt, is_own_vrf};
+ghost use Rattle.edge_routes.specs.edge_home.Home as homes;
+ghost use Rattle.edge_routes.specs.edge_home.Home.{IsHome};
+ghost use Rattle.edge_routing.specs.control_laws.Control.{control_of};
+ghost use Rattle.edge_routing.specs.edge_control.Places.{IsTreeAt, is_own_vrf};
 ghost use Rattle.edge_routing.specs.Routing.{IsInStep};
-ghost use Rattle.node_defs.specs.EdgeState.{fresh_state};
+ghost use Rattle.network_defs.specs.node_defs.EdgeState.{fresh_state};
 ghost use Rattle.node_laws.specs.Places.{node_place};
 ghost use Rattle.edge_routing.specs.declared.routing.EdgeRouting.{EdgeRouting as Routings};
 ghost use Rattle.edge_core.specs.Called.{spent_after};
-ghost use Rattle.edge_core.specs.State.{IsIn, IsLive, home_of};
+ghost use Rattle.edge_core.specs.State.{IsIn, IsLive, IsTreeIn, home_of};
 
+use crate::clocks::RaiseClocks;
 use crate::fault::EdgeFault;
 use crate::parts::Parts;
-use edge_labels::EdgeLabels;
 use edge_routing::EdgeRouting;
-use edge_streams::EdgeStreams;
+use edge_routing::of_edge_labels::EdgeLabels;
+use edge_routing::of_edge_streams::EdgeStreams;
+use edge_routing::of_vrf_trees::VrfTree;
 use mldp_node::{Addrs, LdpNode, NodeFault};
 use mv_base::{NoMemory, NodeId, Seq, VrfId};
 use scenario_defs::{Node, Scenario};
 use std::alloc::Global;
 use std::marker::Model;
-use vrf_trees::VrfTree;
 
 /// A provider edge of a scenario. Contracts see it as an `EdgeView`. It must be closed.
 ///
@@ -79,6 +80,7 @@ fn first_labels(alloc: Global, scenario: &Scenario, me: NodeId) -> Result<EdgeLa
     ensures live { IfOk result (λ labels. (routing : Routings) → IsInStep routing → routing.control.home ≡ homes.home_of scenario.now me →
         control_of routing.control ≡ no_control → IsLive routing labels maps.empty) }
     ensures fresh { IfOk result (λ labels. labels.node ≡ fresh_node scenario.now.labels) }
+    ensures waits { IfOk result (λ labels. labels.awaited ≡ maps.empty) }
 {
     let addrs = addrs_of(alloc, scenario.nodes.as_slice())?;
     EdgeLabels::of(alloc, me, &addrs, scenario.labels, scenario.life)
@@ -91,6 +93,7 @@ impl Edge {
         ensures home { IfOk result (λ edge. home_of edge ≡ homes.home_of scenario.now me) }
         ensures unspent { IfOk result (λ edge. edge.spent ≡ None) }
         ensures is { IfOk result (IsIn (fresh_state scenario.now.labels)) }
+        ensures waits { IfOk result (λ edge. edge.labels.awaited ≡ maps.empty) }
     {
         let routing = EdgeRouting::of(alloc, scenario, me)?;
         let streams = EdgeStreams::of(alloc);
@@ -101,6 +104,7 @@ impl Edge {
                 routing,
                 labels,
                 streams,
+                raised: RaiseClocks::of(alloc),
             },
             spent: None,
         })
@@ -113,10 +117,12 @@ impl Edge {
         self.parts.labels.node()
     }
 
-    /// What the VRF keeps: its entries, notes, selections and flows. It takes no memory.
+    /// What the VRF keeps: its entries, notes, selections and flows, each flow with its choice, are those of this VRF in the edge's data.
+    /// It takes no memory. Of a spent edge no more is said than that the tree is the one that stands for the VRF.
     pub fn tree(&self, vrf: VrfId) -> &VrfTree
         requires own { is_own_vrf (home_of self.now) vrf ≡ true }
-        ensures { IsTreeAt self.now.routing.control vrf result.now }
+        ensures at { IsTreeAt self.now.routing.control vrf result.now }
+        ensures keeps { self.now.spent ≡ None → IsTreeIn self.now vrf result.now }
     {
         self.parts.routing.control.tree(vrf)
     }

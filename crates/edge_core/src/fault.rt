@@ -1,5 +1,5 @@
 //! What the calls of an edge answer besides Ok.
-use edge_streams::SessionReason;
+use edge_routing::of_edge_streams::SessionReason;
 use mldp_node::NodeFault;
 use mv_base::{NoMemory, NodeId};
 use pim_joinprune::PimFault;

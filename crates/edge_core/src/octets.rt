@@ -1,11 +1,11 @@
 //! Octets that come over sessions, and the messages that they spell (RFC 4271 section 4, RFC 5036 section 3.1).
 ghost use Rattle.std.specs.Prelude.{◌≡◌, ◌<◌, ◌^◌, [], map, true, length, All, OnOk, Err, None};
 ghost use Rattle.scenario_defs.specs.declared.event.Kind.TheVariants as kinds;
-ghost use Rattle.session_defs.specs.Message.{Bgp, Label};
-ghost use Rattle.session_defs.specs.PeerSession.{fault_at};
+ghost use Rattle.network_defs.specs.session_defs.Message.{Bgp, Label};
+ghost use Rattle.network_defs.specs.session_defs.PeerSession.{fault_at};
 ghost use Rattle.edge_defs.specs.Steps.{Label as LabelCall, Update};
-ghost use Rattle.edge_streams.specs.Kept.{session};
-ghost use Rattle.edge_streams.specs.Spelled.{SaysWritable, SaysWritableLabel};
+ghost use Rattle.edge_routing.specs.edge_streams.Kept.{session};
+ghost use Rattle.edge_routing.specs.edge_streams.Spelled.{SaysWritable, SaysWritableLabel};
 ghost use Rattle.edge_core.specs.Answers.{IsOneOf};
 ghost use Rattle.edge_core.specs.Called.{Settles, SettlesCall, behind, going, spent_after};
 ghost use Rattle.edge_core.specs.State.{IsLive, is_up};
@@ -14,10 +14,10 @@ ghost use Rattle.edge_core.specs.declared.fault.EdgeFault.{EdgeFault as EdgeFaul
 
 use crate::fault::EdgeFault;
 use crate::parts::Parts;
-use bgp_update::Message;
+use bgp_messages::bgp_update::Message;
 use core_paths::Core;
-use edge_labels::OwnCall;
-use mldp_msgs::LabelMessage;
+use edge_routing::of_edge_labels::OwnCall;
+use mldp::mldp_msgs::LabelMessage;
 use mv_base::NodeId;
 use scenario_defs::Kind;
 

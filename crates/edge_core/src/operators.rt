@@ -1,12 +1,12 @@
 //! Selections of the operator (RFC 6514 section 12.1). They change no tree of which the edge is a leaf.
 ghost use Rattle.std.specs.Prelude.{◌≡◌, ◌<◌, ◌^◌, ℕ, [], ◌∷◌, true, false, Err, None};
 ghost use Rattle.std.specs.FinMap as maps;
-ghost use Rattle.core_walks.specs.Topology.{Topology};
-ghost use Rattle.mvpn_nlri.specs.Spelling.{IsAnyOr, IsGroup};
+ghost use Rattle.mv_base.specs.core_walks.Topology.{Topology};
+ghost use Rattle.bgp_values.specs.mvpn_nlri.Spelling.{IsAnyOr, IsGroup};
 ghost use Rattle.edge_defs.specs.Originated.{afi_by};
 ghost use Rattle.edge_defs.specs.Steps.{Select, Unselect};
-ghost use Rattle.control_laws.specs.Control.{control_of};
-ghost use Rattle.edge_control.specs.Places.{is_own_vrf, is_selection_too_many};
+ghost use Rattle.edge_routing.specs.control_laws.Control.{control_of};
+ghost use Rattle.edge_routing.specs.edge_control.Places.{is_own_vrf, is_selection_too_many};
 ghost use Rattle.edge_core.specs.Answers.{IsOneOf, OnTaken};
 ghost use Rattle.edge_core.specs.Called.{SettlesCall, going};
 ghost use Rattle.edge_core.specs.State.{IsLive};
@@ -14,7 +14,7 @@ ghost use Rattle.edge_core.specs.declared.fault.EdgeFault.TheVariants as EdgeFau
 
 use crate::fault::EdgeFault;
 use crate::parts::Parts;
-use edge_control::ControlFault;
+use edge_routing::of_edge_control::ControlFault;
 use mv_base::{Pattern, VrfId};
 
 impl Parts {

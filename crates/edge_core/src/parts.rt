@@ -1,15 +1,18 @@
 //! The parts of an edge that goes on, and what each call ends with: the label steps.
-ghost use Rattle.std.specs.Prelude.{◌<◌, ◌^◌, []};
+ghost use Rattle.std.specs.Prelude.{◌≡◌, ◌<◌, ◌^◌, [], OnOk};
 ghost use Rattle.edge_defs.specs.Steps.{Call};
+ghost use Rattle.mldp_node.specs.NodeData.{WaitsTowardRootsOf};
+ghost use Rattle.edge_routing.specs.edge_labels.declared.own_call.OwnCall.TheVariants as owns;
 ghost use Rattle.edge_core.specs.Answers.{IsOneOf};
 ghost use Rattle.edge_core.specs.Called.{IsCalled, IsMidway, SettlesCall};
 ghost use Rattle.edge_core.specs.View.{EdgeView};
 
+use crate::clocks::RaiseClocks;
 use crate::fault::EdgeFault;
 use core_paths::Core;
-use edge_labels::{EdgeLabels, OwnCall};
+use edge_routing::of_edge_labels::{EdgeLabels, OwnCall};
+use edge_routing::of_edge_streams::EdgeStreams;
 use edge_routing::{EdgeRouting, LeafCandidates};
-use edge_streams::EdgeStreams;
 use mv_base::NoMemory;
 use std::alloc::Global;
 
@@ -19,6 +22,7 @@ pub(crate) struct Parts {
     pub(crate) routing: EdgeRouting,
     pub(crate) labels: EdgeLabels,
     pub(crate) streams: EdgeStreams,
+    pub(crate) raised: RaiseClocks,
 }
 
 impl Parts {
@@ -35,6 +39,7 @@ impl Parts {
         requires now { now < 2 ^ 63 }
         ensures answers { (call : Call) (old : EdgeView) → IsMidway core.now now own.now call old told self.old →
             SettlesCall core.now now call old self.new result }
+        ensures toward { own.now ≡ owns.Reroute → OnOk result (WaitsTowardRootsOf core.now self.new.labels) }
         ensures only { IsOneOf [] result }
     {
         // It is known here that the scenario meets its rules, and that a core as nodes know it is there.
@@ -55,6 +60,7 @@ impl Parts {
             routing: _,
             labels,
             streams: _,
+            raised: _,
         } = self;
         labels.close();
     }

@@ -1,9 +1,10 @@
 //! Sessions that come up or are lost, the timers, and other costs of links.
-ghost use Rattle.std.specs.Prelude.{◌≡◌, ◌<◌, ◌^◌, [], false, length};
+ghost use Rattle.std.specs.Prelude.{◌≡◌, ◌<◌, ◌^◌, [], false, length, OnOk};
 ghost use Rattle.mv_base.specs.Lists.{Among};
 ghost use Rattle.scenario_defs.specs.declared.event.Kind.TheVariants as kinds;
 ghost use Rattle.edge_defs.specs.Steps.{Noticed, Raised, Rerouted, Timers};
-ghost use Rattle.edge_home.specs.Home.{peers_of};
+ghost use Rattle.edge_routes.specs.edge_home.Home.{peers_of};
+ghost use Rattle.mldp_node.specs.NodeData.{WaitsTowardRootsOf};
 ghost use Rattle.edge_core.specs.Answers.{IsOneOf};
 ghost use Rattle.edge_core.specs.Called.{SettlesCall, going};
 ghost use Rattle.edge_core.specs.State.{IsLive, is_up};
@@ -11,7 +12,7 @@ ghost use Rattle.edge_core.specs.State.{IsLive, is_up};
 use crate::fault::EdgeFault;
 use crate::parts::Parts;
 use core_paths::Core;
-use edge_labels::OwnCall;
+use edge_routing::of_edge_labels::OwnCall;
 use mv_base::NodeId;
 use scenario_defs::Kind;
 
@@ -27,6 +28,7 @@ impl Parts {
         ensures only { IsOneOf [] result }
     {
         self.streams.raise(Kind::Bgp, peer)?;
+        self.raised.raise(peer, now)?;
         let told = self.routing.raise(self.alloc, peer, now, core);
         self.settle(&OwnCall::None, told, now, core)
     }
@@ -54,6 +56,7 @@ impl Parts {
         ensures only { IsOneOf [] result }
     {
         self.streams.lose(Kind::Bgp, peer);
+        self.raised.lose(peer);
         let told = self.routing.lose(self.alloc, peer, now, core);
         self.settle(&OwnCall::None, told, now, core)
     }
@@ -89,6 +92,7 @@ impl Parts {
         requires nodes { core.now.nodes ≡ length self.old.routing.control.home.scenario.nodes }
         requires now { now < 2 ^ 63 }
         ensures settles { SettlesCall core.now now Rerouted (going self.old) self.new result }
+        ensures toward { OnOk result (WaitsTowardRootsOf core.now self.new.labels) }
         ensures only { IsOneOf [] result }
     {
         let told = self.routing.step(self.alloc, now, core);

@@ -4,8 +4,8 @@ use Rattle.std.proofs.lemmas.Bool.{cases_eq, cases_lt}
 use Rattle.std.proofs.Math.Nat.{le_antisymm}
 use Rattle.mv_base.specs.declared.core_link.Link.{Link}
 use Rattle.mv_base.specs.declared.ids.NodeId.{NodeId}
-use Rattle.core_walks.specs.Walks.{IsLeast, IsToward}
-use Rattle.core_walks.specs.Core.{Core, IsCoreOf}
+use Rattle.mv_base.specs.core_walks.Walks.{IsLeast, IsToward}
+use Rattle.mv_base.specs.core_walks.Core.{Core, IsCoreOf}
 
 one_cost : (links : List Link) (from to cost other : ℕ) → IsLeast links from to cost → IsLeast links from to other → cost ≡ other
 one_cost links from to cost other h k = le_antisymm (h.least k.steps other k.walk) (k.least h.steps cost h.walk)

@@ -13,12 +13,12 @@ use Rattle.std.specs.Cmp.{tied_itself, Equal-is}
 use Rattle.std.proofs.lemmas.Bool.{or_cases}
 use Rattle.mv_base.specs.Number.{◌>>?◌}
 use Rattle.mv_base.specs.declared.ids.NodeId.{NodeId}
-use Rattle.bgp_attributes.specs.declared.key.Key.{Key}
-use Rattle.mldp_fec.specs.declared.fec.Fec.{Fec}
+use Rattle.bgp_messages.specs.declared.bgp_attributes.key.Key.{Key}
+use Rattle.label_defs.specs.mldp.declared.mldp_fec.fec.Fec.{Fec}
 use Rattle.choice_defs.specs.Choice.{best_route, of_site}
 use Rattle.choice_defs.specs.declared.known_route.KnownRoute.{KnownRoute}
 use Rattle.choice_defs.specs.declared.origin.Origin.TheVariants as origins
-use Rattle.scenario_defs.specs.Home.{local_routes}
+use Rattle.choice_defs.specs.scenario_defs.Home.{local_routes}
 use Rattle.label_defs.specs.Keys.{fec_cmp, node_cmp}
 use Rattle.label_defs.proofs.KeyLemmas.{node_cmp_total, fec_cmp_total, fec_cmp_exact}
 use Rattle.label_defs.proofs.MemberLemmas.{none_in_order}

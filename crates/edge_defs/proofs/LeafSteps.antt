@@ -9,10 +9,10 @@ use Rattle.std.proofs.lemmas.Bool.{or_cases, or_left, or_right}
 use Rattle.std.proofs.lemmas.Option.{same_Some}
 use Rattle.mv_base.specs.Number.{◌>>?◌}
 use Rattle.mv_base.specs.declared.ids.NodeId.{NodeId}
-use Rattle.mldp_fec.specs.declared.fec.Fec.{Fec}
-use Rattle.mldp_msgs.specs.declared.message.LabelMessage.{LabelMessage}
-use Rattle.mldp_msgs.specs.declared.message.LabelMessage.TheVariants as messages
-use Rattle.scenario_defs.specs.declared.event.Kind.TheVariants as kinds
+use Rattle.label_defs.specs.mldp.declared.mldp_fec.fec.Fec.{Fec}
+use Rattle.label_defs.specs.mldp.declared.mldp_msgs.message.LabelMessage.{LabelMessage}
+use Rattle.label_defs.specs.mldp.declared.mldp_msgs.message.LabelMessage.TheVariants as messages
+use Rattle.choice_defs.specs.scenario_defs.declared.event.Kind.TheVariants as kinds
 use Rattle.label_defs.specs.declared.label_use.LabelUse.{LabelUse}
 use Rattle.label_defs.specs.Keys.{fec_cmp, node_cmp}
 use Rattle.label_defs.specs.LabelData.{Place, LabelData, use_of}
@@ -28,7 +28,7 @@ use Rattle.label_defs.proofs.MemberLemmas.{contains_in_order}
 use Rattle.edge_defs.specs.Edge.{VrfFlow, Upstream, Taken, EdgeData, flow_cmp, no_control, fresh}
 use Rattle.edge_defs.specs.Place.{EdgePlace, OwnVrf, own_vrfs, label_place}
 use Rattle.edge_defs.specs.Steps as steps
-use Rattle.edge_defs.specs.Steps.{EdgeStepped, LabelStep, edge_step, control_step, own_label_call, changed_leaves, one_call, label_row, part_after}
+use Rattle.edge_defs.specs.Steps.{EdgeStepped, LabelStep, edge_step, control_step, own_label_call, changed_leaves, one_call, label_row, part_after, raised_after}
 use Rattle.edge_defs.specs.Tunnels.{flow_tunnels, inclusive_tunnels, leaves, tunnels_of}
 use Rattle.edge_defs.proofs.Example.{no_entries}
 use Rattle.edge_defs.proofs.LeafLemmas.{call_for, differs}
@@ -175,7 +175,7 @@ pub leaves_follow : (place : EdgePlace) (now : ℕ) (old : EdgeData) (call : ste
 leaves_follow place now old call new is e =
     let control = control_step place now old.control call in
     let made = bind_some (label_row place now old.part (one_call (own_label_call call) ++ changed_leaves (leaves place old.control) (leaves place control)))
-    (λ row. Some (record { edge = record { control = control; part = part_after old.part row }; row = row })) new e in
-    subst (λ (behind : EdgeStepped). behind.edge.part.leaves ≡ leaves place behind.edge.control) (same_Some (record { edge = record { control = control; part = part_after old.part made.0 }; row = made.0 }) new made.2)
+    (λ row. Some (record { edge = record { control = control; part = part_after old.part row; raised = raised_after now old.raised call }; row = row })) new e in
+    subst (λ (behind : EdgeStepped). behind.edge.part.leaves ≡ leaves place behind.edge.control) (same_Some (record { edge = record { control = control; part = part_after old.part made.0; raised = raised_after now old.raised call }; row = made.0 }) new made.2)
     (sets.same_set fec_cmp_total fec_cmp_exact (part_after old.part made.0).leaves (leaves place control)
     (step_row place now (leaves place old.control) (leaves place control) (own_label_call call) old.part made.0 is (own_leaves (label_place place.scenario place.core place.me) now old.part call) made.1))

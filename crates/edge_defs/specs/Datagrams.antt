@@ -7,10 +7,10 @@ use Rattle.mv_base.specs.declared.addr.Addr.{Addr}
 use Rattle.mv_base.specs.declared.ids.IfaceId.{IfaceId}
 use Rattle.mv_base.specs.declared.ids.NodeId.{NodeId}
 use Rattle.mv_base.specs.declared.ids.SiteId.{SiteId}
-use Rattle.mldp_fec.specs.declared.fec.Fec.{Fec}
-use Rattle.bgp_attributes.specs.declared.key.Key.{Key}
-use Rattle.scenario_defs.specs.Vpn.{is_of_site}
-use Rattle.scenario_defs.specs.declared.scenario.Scenario.{Scenario}
+use Rattle.label_defs.specs.mldp.declared.mldp_fec.fec.Fec.{Fec}
+use Rattle.bgp_messages.specs.declared.bgp_attributes.key.Key.{Key}
+use Rattle.choice_defs.specs.scenario_defs.Vpn.{is_of_site}
+use Rattle.choice_defs.specs.scenario_defs.declared.scenario.Scenario.{Scenario}
 use Rattle.label_defs.specs.LabelData.{same_fec, use_of, branches_of}
 use Rattle.label_defs.specs.declared.branch.Branch.{Branch}
 use Rattle.label_defs.specs.declared.label_use.LabelUse.{LabelUse}

@@ -3,7 +3,7 @@ use Rattle.std.specs.Prelude.{ℕ, ◌+◌, ◌&&◌, Bool, not, nat_le, sum_by,
 use Rattle.std.specs.FinMap as maps
 use Rattle.mv_base.specs.declared.ids.NodeId.{NodeId}
 use Rattle.pim_defs.specs.Entries as entries
-use Rattle.bgp_attributes.specs.declared.key.Key.{Key}
+use Rattle.bgp_messages.specs.declared.bgp_attributes.key.Key.{Key}
 use Rattle.label_defs.specs.LabelData as labels
 use Rattle.edge_defs.specs.Edge.{Selected, TakenRoute, Taken, EdgeData}
 use Rattle.edge_defs.specs.Imported.{imported_selective}

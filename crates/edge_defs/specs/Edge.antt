@@ -90,14 +90,16 @@ pub record Control : Type 0 where
   pub flows : FinMap flow_cmp (Option Upstream)
   pub peers : FinMap node_cmp Taken
 
--- an edge: this, and its label part
+-- An edge: this, its label part, and when the end of each BGP session that is up here came up. That of an LDP session is in the label
+-- part.
 pub record EdgeData : Type 0 where
   pub control : Control
   pub part : LabelData
+  pub raised : FinMap node_cmp ℕ
 
 -- nothing has happened yet
 abbrev pub no_control : Control
 no_control = record { entries = maps.empty; notes = sets.empty; selections = maps.empty; flows = maps.empty; peers = maps.empty }
 
 abbrev pub fresh : ℕ → EdgeData
-fresh count = record { control = no_control; part = labels.fresh count }
+fresh count = record { control = no_control; part = labels.fresh count; raised = maps.empty }

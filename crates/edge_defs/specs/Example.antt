@@ -10,22 +10,22 @@ use Rattle.mv_base.specs.declared.ids.NodeId.{NodeId}
 use Rattle.mv_base.specs.declared.prefix.Prefix.{Prefix}
 use Rattle.mv_base.specs.declared.rd.Rd.{Rd}
 use Rattle.mv_base.specs.declared.rd.Rule.TheVariants.{Highest}
-use Rattle.mldp_fec.specs.declared.fec.Fec.{Fec}
-use Rattle.mldp_fec.specs.declared.fec.FecKind.TheVariants.{P2mp}
-use Rattle.mvpn_nlri.specs.declared.route.Afi.TheVariants.{Ipv4}
-use Rattle.mvpn_nlri.specs.declared.route.Route.TheVariants as routes
-use Rattle.pmsi_attr.specs.declared.pmsi.Pmsi.{Pmsi}
-use Rattle.pmsi_attr.specs.declared.pmsi.Tunnel.TheVariants as tunnels
-use Rattle.route_targets.specs.declared.communities.ExtComm.{ExtComm}
-use Rattle.bgp_attributes.specs.declared.key.Key.{Key}
-use Rattle.bgp_attributes.specs.declared.key.Key.TheVariants.{Mcast, Unicast}
-use Rattle.bgp_update.specs.Written.{written}
-use Rattle.table_defs.specs.declared.change.Change.TheVariants.{Reach}
-use Rattle.scenario_defs.specs.declared.scenario.Iface.{Iface}
-use Rattle.scenario_defs.specs.declared.scenario.Node.{Node}
-use Rattle.scenario_defs.specs.declared.scenario.Scenario.{Scenario}
-use Rattle.scenario_defs.specs.declared.scenario.Site.{Site}
-use Rattle.scenario_defs.specs.declared.scenario.Vrf.{Vrf}
+use Rattle.label_defs.specs.mldp.declared.mldp_fec.fec.Fec.{Fec}
+use Rattle.label_defs.specs.mldp.declared.mldp_fec.fec.FecKind.TheVariants.{P2mp}
+use Rattle.bgp_messages.specs.bgp_values.declared.mvpn_nlri.route.Afi.TheVariants.{Ipv4}
+use Rattle.bgp_messages.specs.bgp_values.declared.mvpn_nlri.route.Route.TheVariants as routes
+use Rattle.bgp_messages.specs.bgp_values.declared.pmsi_attr.pmsi.Pmsi.{Pmsi}
+use Rattle.bgp_messages.specs.bgp_values.declared.pmsi_attr.pmsi.Tunnel.TheVariants as tunnels
+use Rattle.mv_base.specs.declared.route_targets.communities.ExtComm.{ExtComm}
+use Rattle.bgp_messages.specs.declared.bgp_attributes.key.Key.{Key}
+use Rattle.bgp_messages.specs.declared.bgp_attributes.key.Key.TheVariants.{Mcast, Unicast}
+use Rattle.bgp_messages.specs.bgp_update.Written.{written}
+use Rattle.mv_base.specs.declared.table_defs.change.Change.TheVariants.{Reach}
+use Rattle.choice_defs.specs.scenario_defs.declared.scenario.Iface.{Iface}
+use Rattle.choice_defs.specs.scenario_defs.declared.scenario.Node.{Node}
+use Rattle.choice_defs.specs.scenario_defs.declared.scenario.Scenario.{Scenario}
+use Rattle.choice_defs.specs.scenario_defs.declared.scenario.Site.{Site}
+use Rattle.choice_defs.specs.scenario_defs.declared.scenario.Vrf.{Vrf}
 use Rattle.label_defs.specs.Steps as labels
 use Rattle.selective_defs.specs.Selective.{Among}
 use Rattle.edge_defs.specs.Edge.{Import, Upstream, Remote, VrfFlow, TakenRoute, Taken, Control, no_control}

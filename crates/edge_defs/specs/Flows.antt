@@ -8,9 +8,9 @@ use Rattle.mv_base.specs.declared.addr.Addr.{Addr}
 use Rattle.mv_base.specs.declared.ids.IfaceId.{IfaceId}
 use Rattle.mv_base.specs.declared.ids.NodeId.{NodeId}
 use Rattle.pim_defs.specs.Entries.{asks}
-use Rattle.scenario_defs.specs.Vpn.{is_of_vrf, ifaces_where}
-use Rattle.scenario_defs.specs.declared.event.IfaceEntry.{IfaceEntry}
-use Rattle.scenario_defs.specs.declared.event.JoinEntry.TheVariants as entries
+use Rattle.choice_defs.specs.scenario_defs.Vpn.{is_of_vrf, ifaces_where}
+use Rattle.choice_defs.specs.scenario_defs.declared.event.IfaceEntry.{IfaceEntry}
+use Rattle.choice_defs.specs.scenario_defs.declared.event.JoinEntry.TheVariants as entries
 use Rattle.edge_defs.specs.Edge.{Note, VrfFlow, flow_cmp, Upstream, Taken, Control}
 use Rattle.edge_defs.specs.Imported.{FlowRoute, found_in, imported_active}
 use Rattle.edge_defs.specs.Originated.{is_iface_of, notes_of}

@@ -2,15 +2,15 @@
 use Rattle.std.specs.Prelude.{◌==◌, ◌++◌, List, [], ◌∷◌, is_some, Option, None, Some, if◌then◌else◌}
 use Rattle.std.specs.FinMap as maps
 use Rattle.mv_base.specs.declared.ids.NodeId.{NodeId}
-use Rattle.mvpn_nlri.specs.declared.route.Route.TheVariants as routes
-use Rattle.bgp_attributes.specs.declared.key.Key.{Key}
-use Rattle.bgp_attributes.specs.declared.key.Key.TheVariants.{Mcast}
-use Rattle.table_defs.specs.declared.change.Change.{Change}
-use Rattle.table_defs.specs.Changes.{changes}
+use Rattle.bgp_messages.specs.bgp_values.declared.mvpn_nlri.route.Route.TheVariants as routes
+use Rattle.bgp_messages.specs.declared.bgp_attributes.key.Key.{Key}
+use Rattle.bgp_messages.specs.declared.bgp_attributes.key.Key.TheVariants.{Mcast}
+use Rattle.mv_base.specs.declared.table_defs.change.Change.{Change}
+use Rattle.mv_base.specs.table_defs.Changes.{changes}
 use Rattle.edge_defs.specs.Edge.{VrfFlow, Upstream, Remote, Control}
 use Rattle.edge_defs.specs.Imported.{found_in}
 use Rattle.edge_defs.specs.Keys.{Value, Table, same_value}
-use Rattle.bgp_update.specs.Written.{afi_of}
+use Rattle.bgp_messages.specs.bgp_update.Written.{afi_of}
 use Rattle.edge_defs.specs.Originated.{import_target, originated}
 use Rattle.edge_defs.specs.Place.{EdgePlace, own_addr}
 

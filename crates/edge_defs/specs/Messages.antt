@@ -1,9 +1,9 @@
 -- The changes of tables as UPDATE messages make them (RFC 4271 section 4.3).
-use Rattle.bgp_attributes.specs.declared.key.Key.{Key}
-use Rattle.bgp_attributes.specs.declared.update.Change as updates
-use Rattle.bgp_attributes.specs.declared.update.Change.TheVariants as update_changes
-use Rattle.table_defs.specs.declared.change.Change.{Change}
-use Rattle.table_defs.specs.declared.change.Change.TheVariants.{Reach, Unreach}
+use Rattle.bgp_messages.specs.declared.bgp_attributes.key.Key.{Key}
+use Rattle.bgp_messages.specs.declared.bgp_attributes.update.Change as updates
+use Rattle.bgp_messages.specs.declared.bgp_attributes.update.Change.TheVariants as update_changes
+use Rattle.mv_base.specs.declared.table_defs.change.Change.{Change}
+use Rattle.mv_base.specs.declared.table_defs.change.Change.TheVariants.{Reach, Unreach}
 use Rattle.edge_defs.specs.Keys.{Value}
 
 -- a change of a table, as one that an UPDATE message makes

@@ -11,11 +11,11 @@ use Rattle.mv_base.specs.declared.addr.Addr.{Addr}
 use Rattle.mv_base.specs.declared.addr.Addr.TheVariants.{V4}
 use Rattle.mv_base.specs.declared.ids.NodeId.{NodeId}
 use Rattle.mv_base.specs.declared.ids.VrfId.{VrfId}
-use Rattle.core_walks.specs.Core.{Core}
-use Rattle.mldp_fec.specs.declared.fec.Fec.{Fec}
-use Rattle.mldp_fec.specs.declared.fec.FecKind.TheVariants.{P2mp}
-use Rattle.scenario_defs.specs.declared.scenario.Vrf.{Vrf}
-use Rattle.scenario_defs.specs.declared.scenario.Scenario.{Scenario}
+use Rattle.mv_base.specs.core_walks.Core.{Core}
+use Rattle.label_defs.specs.mldp.declared.mldp_fec.fec.Fec.{Fec}
+use Rattle.label_defs.specs.mldp.declared.mldp_fec.fec.FecKind.TheVariants.{P2mp}
+use Rattle.choice_defs.specs.scenario_defs.declared.scenario.Vrf.{Vrf}
+use Rattle.choice_defs.specs.scenario_defs.declared.scenario.Scenario.{Scenario}
 use Rattle.label_defs.specs.LabelData as labels
 use Rattle.label_defs.specs.Node.{is_p2mp}
 

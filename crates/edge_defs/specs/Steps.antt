@@ -12,16 +12,16 @@ use Rattle.mv_base.specs.declared.ids.IfaceId.{IfaceId}
 use Rattle.mv_base.specs.declared.ids.NodeId.{NodeId}
 use Rattle.mv_base.specs.declared.ids.VrfId.{VrfId}
 use Rattle.mv_base.specs.declared.pattern.Pattern.{Pattern}
-use Rattle.mldp_msgs.specs.declared.message.LabelMessage.{LabelMessage}
-use Rattle.pim_joinprune.specs.declared.message.JoinPrune.{JoinPrune}
+use Rattle.label_defs.specs.mldp.declared.mldp_msgs.message.LabelMessage.{LabelMessage}
+use Rattle.pim_defs.specs.pim_joinprune.declared.message.JoinPrune.{JoinPrune}
 use Rattle.pim_defs.specs.Entries.{applied, kept_at}
-use Rattle.bgp_attributes.specs.declared.key.Key.{Key}
-use Rattle.bgp_attributes.specs.declared.update.Change.{Change}
-use Rattle.bgp_attributes.specs.declared.update.Change.TheVariants as updates
-use Rattle.bgp_attributes.specs.declared.update.Message.{Message}
-use Rattle.bgp_update.specs.Table.{changes_of}
-use Rattle.scenario_defs.specs.declared.event.Kind.{Kind}
-use Rattle.scenario_defs.specs.declared.event.Kind.TheVariants as kinds
+use Rattle.bgp_messages.specs.declared.bgp_attributes.key.Key.{Key}
+use Rattle.bgp_messages.specs.declared.bgp_attributes.update.Change.{Change}
+use Rattle.bgp_messages.specs.declared.bgp_attributes.update.Change.TheVariants as updates
+use Rattle.bgp_messages.specs.declared.bgp_attributes.update.Message.{Message}
+use Rattle.bgp_messages.specs.bgp_update.Table.{changes_of}
+use Rattle.choice_defs.specs.scenario_defs.declared.event.Kind.{Kind}
+use Rattle.choice_defs.specs.scenario_defs.declared.event.Kind.TheVariants as kinds
 use Rattle.selective_defs.specs.Selective.{free_number}
 use Rattle.label_defs.specs.Keys.{fec_cmp, node_cmp}
 use Rattle.label_defs.specs.LabelData.{LabelData}
@@ -156,6 +156,12 @@ control_step place now old call =
     let own = effect place now old call in
     if is_vrf_step call then refreshed place now own else own
 
+-- when the end of each BGP session that is up came up, behind a call
+abbrev pub raised_after : ℕ → FinMap node_cmp ℕ → Call → FinMap node_cmp ℕ
+raised_after now old (Raised kinds.Bgp peer) = maps.insert old peer now
+raised_after now old (Noticed kinds.Bgp peer) = maps.remove old peer
+raised_after now old other = old
+
 -- ---- the label part
 
 -- the label step of the call itself, if it has one
@@ -208,4 +214,7 @@ edge_step place now old call =
     let control = control_step place now old.control call in
     let calls = one_call (own_label_call call) ++ changed_leaves (leaves place old.control) (leaves place control) in
     label_row place now old.part calls >>? λ row.
-    Some (record { edge = record { control = control; part = part_after old.part row }; row = row })
+    Some (record {
+      edge = record { control = control; part = part_after old.part row; raised = raised_after now old.raised call };
+      row = row;
+    })

@@ -8,9 +8,9 @@ use Rattle.mv_base.specs.declared.addr.Addr.{Addr}
 use Rattle.mv_base.specs.declared.ids.NodeId.{NodeId}
 use Rattle.mv_base.specs.declared.ids.VrfId.{VrfId}
 use Rattle.mv_base.specs.declared.pattern.Pattern.{Pattern}
-use Rattle.mldp_fec.specs.declared.fec.Fec.{Fec}
+use Rattle.label_defs.specs.mldp.declared.mldp_fec.fec.Fec.{Fec}
 use Rattle.label_defs.specs.Keys.{fec_cmp}
-use Rattle.bgp_attributes.specs.declared.key.Key.{Key}
+use Rattle.bgp_messages.specs.declared.bgp_attributes.key.Key.{Key}
 use Rattle.selective_defs.specs.Selective.{transmitted, wanted}
 use Rattle.selective_defs.specs.declared.learned_route.LearnedRoute.{LearnedRoute}
 use Rattle.selective_defs.specs.declared.selection.Selection.{Selection}

@@ -5,10 +5,10 @@ use Rattle.std.specs.FinMap as maps
 use Rattle.mv_base.specs.Number.{◌>>?◌, only_if}
 use Rattle.mv_base.specs.declared.addr.Addr.{Addr}
 use Rattle.mv_base.specs.declared.ids.NodeId.{NodeId}
-use Rattle.bgp_attributes.specs.declared.key.Key.{Key}
-use Rattle.bgp_attributes.specs.declared.key.Key.TheVariants.{Unicast}
-use Rattle.scenario_defs.specs.Home.{local_routes}
-use Rattle.scenario_defs.specs.declared.scenario.Vrf.{Vrf}
+use Rattle.bgp_messages.specs.declared.bgp_attributes.key.Key.{Key}
+use Rattle.bgp_messages.specs.declared.bgp_attributes.key.Key.TheVariants.{Unicast}
+use Rattle.choice_defs.specs.scenario_defs.Home.{local_routes}
+use Rattle.choice_defs.specs.scenario_defs.declared.scenario.Vrf.{Vrf}
 use Rattle.choice_defs.specs.Choice.{cost_by, best_route, of_site}
 use Rattle.choice_defs.specs.declared.known_route.KnownRoute.{KnownRoute}
 use Rattle.choice_defs.specs.declared.origin.Origin.TheVariants as origins

@@ -11,7 +11,7 @@ use Rattle.std.proofs.lemmas.List.{drop_more}
 use Rattle.std.proofs.lemmas.List.Kept.{IsStrictlySortedBy-filter}
 use Rattle.std.proofs.lemmas.Map.Views.{any-filter_same}
 use Rattle.mv_base.proofs.SortedMaps.{map_sorted}
-use Rattle.mldp_fec.specs.declared.fec.Fec.{Fec}
+use Rattle.mldp.specs.declared.mldp_fec.fec.Fec.{Fec}
 use Rattle.label_defs.specs.Keys.{fec_cmp}
 use Rattle.label_defs.specs.LabelData.{same_fec}
 use Rattle.label_defs.specs.Members.{in_order}
@@ -20,8 +20,8 @@ use Rattle.label_defs.proofs.KeyLemmas.{fec_cmp_total, fec_cmp_exact, same_fec_e
 use Rattle.label_defs.proofs.MemberLemmas.{contains_in_order}
 use Rattle.label_forwarding.specs.Slots.{is_fec}
 use Rattle.label_forwarding.proofs.SlotLemmas.{fec-ties, fec_flips}
-use Rattle.label_trees.proofs.OrderLemmas.{is_in_order}
-use Rattle.edge_defs.specs.Steps.{changed_leaves}
+use Rattle.mldp_node.proofs.label_trees.OrderLemmas.{is_in_order}
+use Rattle.node_laws.specs.edge_defs.Steps.{changed_leaves}
 use Rattle.edge_labels.specs.declared.changes.LeafChange.{LeafChange}
 use Rattle.edge_labels.specs.Calls.{leaf_call}
 use Rattle.edge_labels.specs.Changes.{change_at, changes_in, AreCandidates}

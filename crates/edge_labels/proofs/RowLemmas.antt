@@ -3,15 +3,16 @@ use Rattle.std.proofs.Common.{◌≡◌, ◌∙◌, refl, sym, ap, subst, ℕ, z
 use Rattle.std.proofs.lemmas.Option.{none-some}
 use Rattle.std.proofs.lemmas.List.{drop_more}
 use Rattle.std.proofs.Math.Seq.{drop-nil}
-use Rattle.core_walks.specs.Core.{Core, IsCoreOf}
-use Rattle.core_walks.specs.Topology.{Topology}
+use Rattle.mv_base.specs.core_walks.Core.{Core, IsCoreOf}
+use Rattle.mv_base.specs.core_walks.Topology.{Topology}
 use Rattle.label_defs.specs.Node.{Spent, LacksLabel, LabelNode, NodePlace, addr_in, place_in, called, called_unless}
-use Rattle.label_defs.specs.Steps.{Call, Taken, Want, Unwant, Raised, Noticed, Timers, Rerouted}
-use Rattle.edge_defs.specs.Steps.{one_call}
+use Rattle.label_defs.specs.Steps.{Call}
+use Rattle.node_laws.specs.edge_defs.Steps.{one_call}
 use Rattle.mldp_node.specs.declared.fault.NodeFault.{NodeFault}
 use Rattle.mldp_node.specs.declared.fault.NodeFault.TheVariants as faults
 use Rattle.mldp_node.specs.NodeData.{NodeData, Answers, cause}
 use Rattle.mldp_node.specs.Parts.{WaitTowardRoots}
+use Rattle.mldp_node.proofs.NodeLemmas.{waited_one}
 use Rattle.node_laws.specs.Rows.{all_called}
 use Rattle.edge_labels.specs.declared.changes.LeafChange.{LeafChange}
 use Rattle.edge_labels.specs.Calls.{AnswersAll, AreMade, WaitedBefore, leaf_call}
@@ -80,15 +81,9 @@ give_ok : {P : Type 0} (result : Result (Unit {0}) NodeFault) → P → OnOk res
 give_ok (Ok value) h = h
 give_ok (Err fault) h = tt
 
-waited : (calls : List Call) (place : NodePlace) (own : Core) (old : NodeData) → WaitTowardRoots place own old.awaited → WaitedBefore calls place own old.awaited
+pub waited : (calls : List Call) (place : NodePlace) (own : Core) (old : NodeData) → WaitTowardRoots place own old.awaited → WaitedBefore calls place own old.awaited
 waited [] place own old h = h
-waited (Taken from message ∷ more) place own old h = h
-waited (Want fec ∷ more) place own old h = h
-waited (Unwant fec ∷ more) place own old h = h
-waited (Raised peer ∷ more) place own old h = h
-waited (Noticed peer ∷ more) place own old h = h
-waited (Timers ∷ more) place own old h = h
-waited (Rerouted ∷ more) place own old h = tt
+waited (call ∷ more) place own old h = waited_one call place own old.awaited h
 
 -- the first call was made, and then the others
 pub then_made : (core : Topology) (now : ℕ) (call : Call) (more : List Call) (old mid new : NodeData) (result : Result (Unit {0}) NodeFault)

@@ -3,12 +3,12 @@ use Rattle.std.specs.Prelude.{◌≡◌, ⊤, ℕ, true, List, [], ◌∷◌, �
 use Rattle.std.specs.FinMap as maps
 use Rattle.std.specs.FinMap.{FinMap}
 use Rattle.mv_base.specs.declared.ids.NodeId.{NodeId}
-use Rattle.core_walks.specs.Core.{Core, IsCoreOf}
-use Rattle.core_walks.specs.Topology.{Topology}
+use Rattle.mv_base.specs.core_walks.Core.{Core, IsCoreOf}
+use Rattle.mv_base.specs.core_walks.Topology.{Topology}
 use Rattle.label_defs.specs.Keys.{fec_cmp}
 use Rattle.label_defs.specs.Node.{LacksLabel, NodePlace}
 use Rattle.label_defs.specs.Steps.{Call, Taken, Want, Unwant, Raised, Noticed, Timers, Rerouted}
-use Rattle.edge_defs.specs.Steps.{one_call}
+use Rattle.node_laws.specs.edge_defs.Steps.{one_call}
 use Rattle.mldp_node.specs.declared.fault.NodeFault.{NodeFault}
 use Rattle.mldp_node.specs.declared.fault.NodeFault.TheVariants as faults
 use Rattle.mldp_node.specs.NodeData.{NodeData, MayWant, cause}
@@ -42,10 +42,10 @@ calls_of own changes = own_calls own ++ map leaf_call changes
 
 -- ---- which may be made
 
--- a message that is taken has a spelling, and an end that comes up is down
+-- a message that is taken has a spelling, and an end that comes up is down at a node that goes on
 abbrev pub MayMake : NodeData → OwnCall → Type 0
 MayMake old (owns.Take from message) = IsSpelled message
-MayMake old (owns.Raise peer) = maps.get old.node.part.ends peer ≡ None
+MayMake old (owns.Raise peer) = old.node.spent ≡ None → maps.get old.node.part.ends peer ≡ None
 MayMake old other = ⊤
 
 -- a tree of which the edge becomes a leaf is one that the node may want

@@ -6,7 +6,7 @@ ghost use Rattle.label_defs.specs.LabelData.{same_fec};
 ghost use Rattle.edge_labels.specs.Changes.{change_at, changes_in};
 
 use label_forwarding::Fib;
-use mldp_fec::Fec;
+use mldp::mldp_fec::Fec;
 use mv_base::NoMemory;
 use std::alloc::Global;
 

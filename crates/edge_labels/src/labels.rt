@@ -2,12 +2,12 @@
 ghost use Rattle.std.specs.Prelude.{◌≡◌, ◌≤◌, ◌<◌, ◌^◌, not, false, length, map, is_some, All, None, Some, IfOk};
 ghost use Rattle.std.specs.FinMap as maps;
 ghost use Rattle.std.specs.FinSet.{FinSet};
-ghost use Rattle.core_walks.specs.Core.{Core as Walks};
+ghost use Rattle.mv_base.specs.core_walks.Core.{Core as Walks};
 ghost use Rattle.label_defs.specs.Keys.{fec_cmp};
 ghost use Rattle.label_defs.specs.LabelData.{due};
 ghost use Rattle.label_defs.specs.Node.{fresh_node, place_in, handed, handed_out};
 ghost use Rattle.mldp_node.specs.Standing.{IsPlace};
-ghost use Rattle.edge_defs.specs.Steps.{changed_leaves};
+ghost use Rattle.node_laws.specs.edge_defs.Steps.{changed_leaves};
 ghost use Rattle.edge_labels.specs.Calls.{IsWantable, MayMake, AnswersAll, calls_of, leaf_call};
 ghost use Rattle.edge_labels.specs.Changes.{AreCandidates};
 
@@ -15,8 +15,8 @@ use crate::changes::{LeafChange, changes_in};
 use crate::own_call::OwnCall;
 use crate::row::make_all;
 use core_paths::Core;
-use label_trees::in_order;
-use mldp_fec::Fec;
+use mldp::mldp_fec::Fec;
+use mldp_node::of_label_trees::in_order;
 use mldp_node::{Addrs, LdpNode, NodeFault};
 use mv_base::{Bytes, NoMemory, NodeId};
 use std::alloc::Global;

@@ -1,5 +1,5 @@
 //! The call of an edge that is a label step itself.
-use mldp_msgs::LabelMessage;
+use mldp::mldp_msgs::LabelMessage;
 use mv_base::NodeId;
 
 /// What a step of an edge is to its label part, before any tree of which the edge becomes or stops being a leaf.

@@ -18,7 +18,7 @@ fn make(node: &mut LdpNode, own: &OwnCall, now: u64, core: &Core) -> Result<(), 
 {
     match own {
         OwnCall::None => Ok(()),
-        OwnCall::Take(from, message) => node.take(*from, message, now, core),
+        OwnCall::Take(from, message) => node.take(*from, *message, now, core),
         OwnCall::Raise(peer) => node.raised(*peer, now, core),
         OwnCall::Notice(peer) => node.noticed(*peer, now, core),
         OwnCall::Timers => node.timers(now, core),
@@ -38,9 +38,9 @@ fn change_one(
     ensures { AnswersAll core.now now (leaf_call change.now ∷ []) node.old node.new result }
 {
     if change.wanted {
-        node.want(&change.fec, now, core)
+        node.want(change.fec, now, core)
     } else {
-        node.unwant(&change.fec, now, core)
+        node.unwant(change.fec, now, core)
     }
 }
 

@@ -5,17 +5,17 @@ use Rattle.std.proofs.lemmas.List.{take_more, map-append}
 use Rattle.std.specs.Int.{w32, to_be_bytes}
 use Rattle.std.proofs.lemmas.Nat.{from_be_bytes-to_be_bytes_2}
 use Rattle.mv_base.specs.declared.addr.Addr.TheVariants.{V4}
-use Rattle.mldp_fec.specs.Spelling.{plain, IsTlv, IsOpaque}
-use Rattle.pmsi_attr.specs.declared.pmsi.Pmsi.{Pmsi}
-use Rattle.pmsi_attr.specs.declared.pmsi.Tunnel.TheVariants as tunnels
-use Rattle.bgp_attributes.specs.Spelling.{AreComms}
-use Rattle.bgp_update.specs.Written.{IsTunnel}
-use Rattle.route_targets.specs.Communities.{import_octets}
-use Rattle.route_targets.specs.declared.communities.ExtComm.{ExtComm}
-use Rattle.route_targets.specs.declared.communities.Target.{Target}
+use Rattle.bgp_values.specs.mldp.mldp_fec.Spelling.{plain, IsTlv, IsOpaque}
+use Rattle.bgp_values.specs.declared.pmsi_attr.pmsi.Pmsi.{Pmsi}
+use Rattle.bgp_values.specs.declared.pmsi_attr.pmsi.Tunnel.TheVariants as tunnels
+use Rattle.edge_defs.specs.bgp_messages.bgp_attributes.Spelling.{AreComms}
+use Rattle.edge_defs.specs.bgp_messages.bgp_update.Written.{IsTunnel}
+use Rattle.mv_base.specs.route_targets.Communities.{import_octets}
+use Rattle.mv_base.specs.declared.route_targets.communities.ExtComm.{ExtComm}
+use Rattle.mv_base.specs.declared.route_targets.communities.Target.{Target}
 use Rattle.edge_defs.specs.Imported.{import_in}
 use Rattle.edge_defs.specs.Place.{lsp, lsp_opaque}
-use Rattle.route_order.specs.Values.{IsWritableValue, as_value}
+use Rattle.edge_routes.specs.route_order.Values.{IsWritableValue, as_value}
 
 pub own_writable : (addr : List ℕ) (comms : List ExtComm) (pmsi : Option Pmsi) → length addr ≡ 4 → AreComms comms → IsTunnel pmsi → IsWritableValue (as_value (V4 addr) comms pmsi)
 own_writable addr comms pmsi four eight tunnel = record { next_hop = (four, tt); comms = eight; tunnel = tunnel }

@@ -7,7 +7,7 @@ use Rattle.edge_routes.specs.declared.imported.JoinBy.{JoinBy}
 use Rattle.edge_routes.specs.declared.imported.SelectiveRoute.{SelectiveRoute}
 use Rattle.edge_routes.specs.declared.imported.TakenValue.{TakenValue}
 use Rattle.edge_routes.specs.Local.{as_import}
-use Rattle.route_order.specs.Values.{as_value}
+use Rattle.edge_routes.specs.route_order.Values.{as_value}
 
 -- the value that was taken
 abbrev pub value_of : TakenValue → Value

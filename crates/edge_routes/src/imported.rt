@@ -27,12 +27,12 @@ ghost use Rattle.edge_routes.specs.Judged.{as_flow, as_join, as_route, as_select
 ghost use Rattle.edge_routes.specs.Local.{IsAt, as_import};
 
 use crate::{Import, LocalVrf, import_target, own_import, tunnel_by};
-use bgp_attributes::Key;
-use mldp_fec::Fec;
+use bgp_values::mvpn_nlri::{Afi, Route};
+use bgp_values::of_mldp::mldp_fec::Fec;
+use bgp_values::pmsi_attr::Pmsi;
+use edge_defs::of_bgp_messages::bgp_attributes::Key;
+use mv_base::route_targets::{ExtComm, Target, source_as, vrf_import};
 use mv_base::{Addr, Pattern, Rd};
-use mvpn_nlri::{Afi, Route};
-use pmsi_attr::Pmsi;
-use route_targets::{ExtComm, Target, source_as, vrf_import};
 use scenario_defs::Vrf;
 
 /// What a route that was taken says besides its key: next hop, extended communities in order, and tunnel.

@@ -1,10 +1,20 @@
-//! The routes of an edge, one at a time: what it originates for each of its VRFs, and which of those that it takes a VRF uses
-//! (RFC 4364, RFC 6514). No call takes memory.
+//! The routes of an edge, one at a time: a VRF, a flow or a route comes in, and the key and value that the edge
+//! originates, or what a VRF takes of a route, goes out (RFC 4364 section 4.3, RFC 6514 sections 6, 7, 9.1.1, 11.1.3,
+//! 12.1 and 14.1). No call takes memory, and each is equal to its definition in `edge_defs`. A definition that speaks
+//! of a whole place reads only the edge's address and its autonomous system, so a clause holds at every place that has
+//! these (`IsAt` in `specs/Local.antt`). `route_order`: keys and values of routes as a table keeps them, in the order
+//! in which they are sent to a peer, with no memory of their own. That a key or a value has a spelling is the type's
+//! invariant, so no table has to say it of its entries. `edge_home`: an edge of a scenario: a copy of the scenario, the
+//! edge's VRFs in order, the addresses of nodes and the other edges. It asks that the scenario meets its rules and that
+//! the node is an edge (`IsHome`), and says so wherever it lends the scenario. Below it are `edge_defs` and
+//! `bgp_values`; above it `edge_tables`, `control_laws`, `edge_control` and `held_tables` keep such routes.
 #![tactic(auto)]
 
+pub mod edge_home;
 mod imported;
 mod local;
 mod originated;
+pub mod route_order;
 mod tunnel;
 
 pub use imported::{

@@ -2,7 +2,7 @@
 ghost use Rattle.std.specs.Prelude.{◌≡◌, ◌≤◌, length};
 ghost use Rattle.std.specs.Option.{SomeIff};
 
-use route_targets::TARGET_LIMIT;
+use mv_base::route_targets::TARGET_LIMIT;
 use scenario_defs::Vrf;
 use std::marker::Model;
 

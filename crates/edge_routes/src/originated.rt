@@ -3,12 +3,12 @@ ghost use Rattle.std.specs.Prelude.{◌≡◌, ◌<◌, ◌≤◌, ◌+◌, ◌+
 ghost use Rattle.mv_base.specs.declared.ids.NodeId.{NodeId};
 ghost use Rattle.mv_base.specs.declared.ids.VrfId.{VrfId};
 ghost use Rattle.mv_base.specs.declared.addr.Addr.TheVariants.{V4};
-ghost use Rattle.bgp_attributes.specs.declared.key.Key.TheVariants.{Unicast};
-ghost use Rattle.bgp_attributes.specs.Spelling.{AreComms};
-ghost use Rattle.bgp_update.specs.Written.{IsTunnel};
+ghost use Rattle.edge_defs.specs.bgp_messages.declared.bgp_attributes.key.Key.TheVariants.{Unicast};
+ghost use Rattle.edge_defs.specs.bgp_messages.bgp_attributes.Spelling.{AreComms};
+ghost use Rattle.edge_defs.specs.bgp_messages.bgp_update.Written.{IsTunnel};
 ghost use Rattle.edge_defs.specs.Edge.{Remote, Upstream, VrfFlow};
 ghost use Rattle.edge_defs.specs.Held.{join_route};
-ghost use Rattle.bgp_update.specs.Written.{afi_of};
+ghost use Rattle.edge_defs.specs.bgp_messages.bgp_update.Written.{afi_of};
 ghost use Rattle.edge_defs.specs.Originated.{
   active_key,
   afi_by,
@@ -25,15 +25,15 @@ ghost use Rattle.edge_defs.specs.Originated.{
 };
 ghost use Rattle.edge_defs.specs.Place.{EdgePlace, lsp, own_addr};
 ghost use Rattle.edge_routes.specs.Local.{IsAt, as_import};
-ghost use Rattle.route_order.specs.Values.{as_value};
+ghost use Rattle.edge_routes.specs.route_order.Values.{as_value};
 
+use crate::route_order::TableValue;
 use crate::{LocalVrf, tunnel};
-use bgp_attributes::Key;
+use bgp_values::mvpn_nlri::{Afi, Route};
+use bgp_values::pmsi_attr::{Pmsi, Tunnel};
+use edge_defs::of_bgp_messages::bgp_attributes::Key;
+use mv_base::route_targets::{ExtComm, Targets};
 use mv_base::{Addr, Pattern, Prefix, Rd};
-use mvpn_nlri::{Afi, Route};
-use pmsi_attr::{Pmsi, Tunnel};
-use route_order::TableValue;
-use route_targets::{ExtComm, Targets};
 
 /// What a VRF Route Import names: a VRF by its number at the edge of that IPv4 address (RFC 6514 section 7).
 #[derive(Clone, Copy)]

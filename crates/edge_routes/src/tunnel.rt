@@ -1,14 +1,14 @@
 //! The tunnels of edges: mLDP P2MP LSPs whose opaque value is one Generic LSP Identifier (RFC 6388 section 2.3.1).
 ghost use Rattle.std.specs.Prelude.{◌≡◌};
 ghost use Rattle.edge_defs.specs.Imported.{lsp_of, tunnel_by};
-ghost use Rattle.label_defs.specs.Node.{is_p2mp};
+ghost use Rattle.edge_defs.specs.label_defs.Node.{is_p2mp};
 ghost use Rattle.edge_defs.specs.Place.{is_lsp_opaque, lsp, lsp_opaque, tunnel_number};
 ghost use Rattle.edge_routes.specs.Judged.{value_of};
 
 use crate::TakenValue;
-use mldp_fec::{Fec, FecKind, Opaque};
+use bgp_values::of_mldp::mldp_fec::{Fec, FecKind, Opaque};
+use bgp_values::pmsi_attr::{Pmsi, Tunnel};
 use mv_base::Addr;
-use pmsi_attr::{Pmsi, Tunnel};
 use scenario_defs::Vrf;
 
 /// The number of a tunnel of the VRF: that of its inclusive tunnel for 0, and of a selective one for the number of its selection,

@@ -2,12 +2,12 @@
 use Rattle.std.proofs.Common.{◌≡◌, ◌++◌, Bool, true, false, cond, List, [], Option, None, Some, is_some, refl, sym, ap, subst, ◌∙◌}
 use Rattle.std.specs.FinMap as maps
 use Rattle.mv_base.specs.declared.ids.NodeId.{NodeId}
-use Rattle.table_defs.specs.Changes.{changes}
+use Rattle.mv_base.specs.table_defs.Changes.{changes}
 use Rattle.edge_defs.specs.Edge.{Control}
 use Rattle.edge_defs.specs.Held.{held_for, put_to, told}
 use Rattle.edge_defs.specs.Keys.{Table, same_value}
 use Rattle.edge_defs.specs.Place.{EdgePlace}
-use Rattle.edge_tables.specs.Tables.{Both, EachPeer, IsBetween, PeerTable, Tables, put_behind, texts, waiting_at, waiting_of}
+use Rattle.edge_control.specs.edge_tables.Tables.{Both, EachPeer, IsBetween, PeerTable, Tables, put_behind, texts, waiting_at, waiting_of}
 use Rattle.held_tables.specs.Holding.{AreToldAlike, HoldAll, IsToldAlike}
 use Rattle.edge_routing.specs.Routing.{AreBetween}
 

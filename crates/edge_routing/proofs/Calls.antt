@@ -2,20 +2,20 @@
 use Rattle.std.proofs.Common.{◌≡◌, ℕ, List, is_some, sym, ap, subst, ◌∙◌}
 use Rattle.std.specs.FinMap as maps
 use Rattle.mv_base.specs.declared.ids.NodeId.{NodeId}
-use Rattle.core_walks.specs.Core.{Core}
-use Rattle.mldp_fec.specs.declared.fec.Fec.{Fec}
+use Rattle.mv_base.specs.core_walks.Core.{Core}
+use Rattle.mldp.specs.declared.mldp_fec.fec.Fec.{Fec}
 use Rattle.edge_defs.specs.Edge.{Control}
 use Rattle.edge_defs.specs.Steps.{Call, effect}
-use Rattle.edge_home.specs.Home.{Home, place_of}
-use Rattle.edge_tables.specs.Tables.{Tables}
+use Rattle.edge_routes.specs.edge_home.Home.{Home, place_of}
+use Rattle.edge_control.specs.edge_tables.Tables.{Tables}
 use Rattle.held_tables.specs.Holding.{AreToldAlike, HoldAll}
-use Rattle.tree_laws.specs.Joins.{AreOfVrfs}
+use Rattle.vrf_words.specs.tree_laws.Joins.{AreOfVrfs}
 use Rattle.control_laws.specs.Control.{Kept, control_of}
 use Rattle.edge_control.specs.Sound.{wants_of}
-use Rattle.group_laws.specs.Groups.{HaveGroups, IsAllowed}
-use Rattle.group_laws.proofs.Effects.{effect_groups}
-use Rattle.edge_updates.specs.Inclusive.{AreTunnels}
-use Rattle.node_laws.specs.Waits.{kept_for}
+use Rattle.control_laws.specs.group_laws.Groups.{HaveGroups, IsAllowed}
+use Rattle.control_laws.proofs.group_laws.Effects.{effect_groups}
+use Rattle.edge_routing.specs.edge_updates.Inclusive.{AreTunnels}
+use Rattle.edge_labels.specs.node_laws.Waits.{kept_for}
 use Rattle.edge_routing.specs.declared.routing.EdgeRouting.{EdgeRouting}
 use Rattle.edge_routing.specs.Routing.{AreBetween, IsInStep, IsOnWay}
 use Rattle.edge_routing.proofs.Between.{same_keys, same_waiting, still_between}

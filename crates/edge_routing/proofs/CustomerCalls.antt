@@ -3,25 +3,25 @@ use Rattle.std.proofs.Common.{◌≡◌, ℕ, true, List, refl, sym, ap, subst}
 use Rattle.mv_base.specs.Lists.{Among}
 use Rattle.mv_base.specs.declared.addr.Addr.{Addr}
 use Rattle.mv_base.specs.declared.ids.IfaceId.{IfaceId}
-use Rattle.core_walks.specs.Core.{Core}
-use Rattle.mldp_fec.specs.declared.fec.Fec.{Fec}
+use Rattle.mv_base.specs.core_walks.Core.{Core}
+use Rattle.mldp.specs.declared.mldp_fec.fec.Fec.{Fec}
 use Rattle.pim_joinprune.specs.declared.message.JoinPrune.{JoinPrune}
 use Rattle.edge_defs.specs.Edge.{Control}
 use Rattle.edge_defs.specs.Originated.{is_iface_of}
 use Rattle.edge_defs.specs.Place.{own_vrfs}
 use Rattle.edge_defs.specs.Steps.{Active, Idle, Pim, effect}
-use Rattle.edge_home.specs.Home.{Home, as_own, place_of}
-use Rattle.edge_home.specs.declared.own_vrf.OwnVrf.{OwnVrf}
+use Rattle.edge_routes.specs.edge_home.Home.{Home, as_own, place_of}
+use Rattle.edge_routes.specs.declared.edge_home.own_vrf.OwnVrf.{OwnVrf}
 use Rattle.edge_routes.specs.Local.{IsAt}
-use Rattle.edge_tables.specs.Tables.{Tables}
-use Rattle.held_laws.specs.Held.{note_of, with_note, without_note}
+use Rattle.edge_control.specs.edge_tables.Tables.{Tables}
+use Rattle.edge_words.specs.held_laws.Held.{note_of, with_note, without_note}
 use Rattle.held_tables.specs.Holding.{AreToldAlike, HoldAll, IsOwnAt}
 use Rattle.control_laws.specs.Control.{Kept, control_of}
 use Rattle.control_laws.proofs.Parts.{no_core}
 use Rattle.edge_control.specs.Sound.{IsSound, wants_of}
-use Rattle.group_laws.specs.Groups.{HasGroups, IsFlow}
-use Rattle.edge_joins.proofs.TurnLemmas.{all_alike}
-use Rattle.edge_updates.proofs.TunnelLemmas.{alike_tunnels}
+use Rattle.control_laws.specs.group_laws.Groups.{HasGroups, IsFlow}
+use Rattle.edge_routing.proofs.edge_joins.TurnLemmas.{all_alike}
+use Rattle.edge_routing.proofs.edge_updates.TunnelLemmas.{alike_tunnels}
 use Rattle.edge_routing.specs.declared.routing.EdgeRouting.{EdgeRouting}
 use Rattle.edge_routing.specs.Routing.{IsInStep, IsOnWay}
 use Rattle.edge_routing.proofs.Between.{holds}

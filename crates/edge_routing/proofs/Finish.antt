@@ -5,9 +5,9 @@ use Rattle.std.specs.FinMap as maps
 use Rattle.std.specs.FinSet as sets
 use Rattle.mv_base.specs.Lists.{Among}
 use Rattle.mv_base.specs.declared.ids.NodeId.{NodeId}
-use Rattle.core_walks.specs.Core.{Core, IsCoreOf}
-use Rattle.core_walks.specs.Topology.{Topology}
-use Rattle.mldp_fec.specs.declared.fec.Fec.{Fec}
+use Rattle.mv_base.specs.core_walks.Core.{Core, IsCoreOf}
+use Rattle.mv_base.specs.core_walks.Topology.{Topology}
+use Rattle.mldp.specs.declared.mldp_fec.fec.Fec.{Fec}
 use Rattle.label_defs.specs.LabelData.{same_fec}
 use Rattle.edge_defs.specs.Edge.{Control}
 use Rattle.edge_defs.specs.Held.{put_to}
@@ -15,18 +15,18 @@ use Rattle.edge_defs.specs.Place.{own_vrfs}
 use Rattle.edge_defs.specs.Steps.{Call, control_step, effect, is_vrf_step, refreshed}
 use Rattle.edge_defs.specs.Tunnels.{leaves}
 use Rattle.edge_words.specs.Leaf.{IsInclusive}
-use Rattle.edge_home.specs.Home.{Home, peers_of, place_of}
-use Rattle.edge_tables.specs.Tables.{EachPeer, Tables, put_behind, texts, waiting_at}
+use Rattle.edge_routes.specs.edge_home.Home.{Home, peers_of, place_of}
+use Rattle.edge_control.specs.edge_tables.Tables.{EachPeer, Tables, put_behind, texts, waiting_at}
 use Rattle.held_tables.specs.Holding.{AreToldAlike, HoldAll}
-use Rattle.tree_laws.specs.Joins.{AreOfVrfs}
-use Rattle.tree_laws.specs.Wanting.{AreTreesOf}
-use Rattle.tree_laws.proofs.Refreshed.{flows_of_vrfs}
+use Rattle.vrf_words.specs.tree_laws.Joins.{AreOfVrfs}
+use Rattle.vrf_words.specs.tree_laws.Wanting.{AreTreesOf}
+use Rattle.vrf_words.proofs.tree_laws.Refreshed.{flows_of_vrfs}
 use Rattle.control_laws.specs.Control.{AreTrees, Kept, control_of, trees_of}
 use Rattle.edge_control.specs.Refreshing.{AreTold}
-use Rattle.group_laws.specs.Groups.{HaveGroups}
-use Rattle.edge_joins.proofs.TreeLemmas.{one_by_one}
+use Rattle.control_laws.specs.group_laws.Groups.{HaveGroups}
+use Rattle.edge_routing.proofs.edge_joins.TreeLemmas.{one_by_one}
 use Rattle.edge_labels.specs.Changes.{AreCandidates}
-use Rattle.node_laws.specs.Waits.{kept_for}
+use Rattle.edge_labels.specs.node_laws.Waits.{kept_for}
 use Rattle.edge_routing.specs.declared.routing.EdgeRouting.{EdgeRouting}
 use Rattle.edge_routing.specs.declared.routing.LeafCandidates.{LeafCandidates}
 use Rattle.edge_routing.specs.Routing.{AreBetween, HasRefreshed, IsInStep, IsOnWay, IsRefreshedTo, IsStepped}

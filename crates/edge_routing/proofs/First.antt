@@ -5,21 +5,21 @@ use Rattle.std.specs.FinMap as maps
 use Rattle.std.specs.FinMap.Entries.{find}
 use Rattle.mv_base.specs.Lists.{Among}
 use Rattle.mv_base.specs.declared.ids.NodeId.{NodeId}
-use Rattle.core_walks.specs.Core.{Core}
+use Rattle.mv_base.specs.core_walks.Core.{Core}
 use Rattle.table_laws.proofs.CompareLemmas.{one_key, own_key}
 use Rattle.label_defs.specs.Keys.{node_cmp}
 use Rattle.label_defs.proofs.KeyLemmas.{node_cmp_exact, node_cmp_total}
 use Rattle.edge_defs.specs.Edge.{Control, flow_cmp, no_control}
 use Rattle.edge_defs.specs.Held.{told}
 use Rattle.edge_defs.specs.Place.{EdgePlace}
-use Rattle.edge_home.specs.Home.{peers_of, place_of}
-use Rattle.edge_tables.specs.Tables.{PeerTable, Tables, fresh, waiting_at, waiting_of}
+use Rattle.edge_routes.specs.edge_home.Home.{peers_of, place_of}
+use Rattle.edge_control.specs.edge_tables.Tables.{PeerTable, Tables, fresh, waiting_at, waiting_of}
 use Rattle.held_tables.specs.Holding.{AreToldAlike, HoldAll}
 use Rattle.held_tables.specs.Starting.{AreEmpty}
-use Rattle.tree_laws.specs.Joins.{AreOfVrfs}
+use Rattle.vrf_words.specs.tree_laws.Joins.{AreOfVrfs}
 use Rattle.control_laws.specs.Control.{AreTrees, Kept, control_of}
-use Rattle.group_laws.specs.Groups.{HaveGroups}
-use Rattle.group_laws.proofs.Effects.{first_groups}
+use Rattle.control_laws.specs.group_laws.Groups.{HaveGroups}
+use Rattle.control_laws.proofs.group_laws.Effects.{first_groups}
 use Rattle.edge_routing.specs.Routing.{AreBetween, IsInStep}
 use Rattle.edge_routing.proofs.Between.{same_keys, same_waiting, told_at}
 

@@ -6,29 +6,29 @@ use Rattle.std.specs.FinMap.{FinMap}
 use Rattle.std.proofs.lemmas.List.Elements.{All-from_recursion}
 use Rattle.mv_base.specs.Lists.{Among}
 use Rattle.mv_base.specs.declared.addr.Addr.{Addr}
-use Rattle.mvpn_nlri.specs.Spelling.{IsGroup}
-use Rattle.bgp_update.specs.Written.{afi_of}
-use Rattle.core_walks.specs.Core.{Core}
-use Rattle.vrf_trees.specs.declared.changes.TreeJoin.{TreeJoin}
+use Rattle.bgp_values.specs.mvpn_nlri.Spelling.{IsGroup}
+use Rattle.bgp_messages.specs.bgp_update.Written.{afi_of}
+use Rattle.mv_base.specs.core_walks.Core.{Core}
+use Rattle.edge_control.specs.vrf_trees.declared.changes.TreeJoin.{TreeJoin}
 use Rattle.edge_defs.specs.Edge.{Control, Remote, Site, Upstream, VrfFlow, flow_cmp}
 use Rattle.edge_defs.specs.Steps.{refreshed}
-use Rattle.edge_home.specs.Home.{place_of}
+use Rattle.edge_routes.specs.edge_home.Home.{place_of}
 use Rattle.control_laws.specs.Control.{Kept, control_of}
 use Rattle.edge_control.specs.Refreshing.{AreChanged, join_at}
 use Rattle.edge_control.specs.Sound.{IsSound}
-use Rattle.group_laws.specs.Groups.{HaveGroups}
-use Rattle.group_laws.proofs.Refreshes.{refreshed_groups}
-use Rattle.edge_home.specs.Home.{Home}
-use Rattle.edge_tables.specs.Tables.{Tables}
-use Rattle.tree_laws.specs.Joins.{AreOfVrfs}
-use Rattle.tree_laws.proofs.Refreshed.{flows_of_vrfs}
+use Rattle.control_laws.specs.group_laws.Groups.{HaveGroups}
+use Rattle.control_laws.proofs.group_laws.Refreshes.{refreshed_groups}
+use Rattle.edge_routes.specs.edge_home.Home.{Home}
+use Rattle.edge_control.specs.edge_tables.Tables.{Tables}
+use Rattle.vrf_words.specs.tree_laws.Joins.{AreOfVrfs}
+use Rattle.vrf_words.proofs.tree_laws.Refreshed.{flows_of_vrfs}
 use Rattle.held_tables.specs.Holding.{HoldAll}
 use Rattle.held_tables.specs.Joins.{HoldAllBut, with_flows}
-use Rattle.edge_joins.specs.Keys.{keys_of}
+use Rattle.edge_routing.specs.edge_joins.Keys.{keys_of}
 use Rattle.held_tables.proofs.JoinLemmas.{begun}
-use Rattle.edge_joins.specs.Upstreams.{HaveIpv4Imports}
-use Rattle.edge_joins.proofs.ChangedLemmas.{others_alike}
-use Rattle.edge_joins.proofs.RefreshedLemmas.{refreshed_ipv4}
+use Rattle.edge_routing.specs.edge_joins.Upstreams.{HaveIpv4Imports}
+use Rattle.edge_routing.proofs.edge_joins.ChangedLemmas.{others_alike}
+use Rattle.edge_routing.proofs.edge_joins.RefreshedLemmas.{refreshed_ipv4}
 
 all_among : {X : Type 0} (P : X → Type 0) (xs : List X) → ((x : X) → Among x xs → P x) → AllByRecursion P xs
 all_among P [] h = tt

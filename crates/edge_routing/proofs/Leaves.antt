@@ -7,16 +7,16 @@ use Rattle.std.specs.FinSet.{FinSet}
 use Rattle.std.proofs.lemmas.List.Folds.{list_any-append}
 use Rattle.std.proofs.lemmas.Bool.{or_left, or_right}
 use Rattle.mv_base.specs.Lists.{Among}
-use Rattle.mldp_fec.specs.declared.fec.Fec.{Fec}
+use Rattle.mldp.specs.declared.mldp_fec.fec.Fec.{Fec}
 use Rattle.label_defs.specs.Keys.{fec_cmp}
 use Rattle.label_defs.specs.LabelData.{same_fec}
-use Rattle.tree_defs.specs.Trees.{TreeData}
+use Rattle.vrf_words.specs.tree_defs.Trees.{TreeData}
 use Rattle.edge_defs.specs.Edge.{Control}
 use Rattle.edge_defs.specs.Place.{EdgePlace, own_vrfs}
 use Rattle.edge_defs.specs.Tunnels.{leaves}
 use Rattle.edge_words.specs.Leaf.{IsInclusive}
-use Rattle.tree_laws.specs.Wanting.{AreTreesOf, IsWantedIn}
-use Rattle.tree_laws.proofs.Wanting.{leaves_are}
+use Rattle.vrf_words.specs.tree_laws.Wanting.{AreTreesOf, IsWantedIn}
+use Rattle.vrf_words.proofs.tree_laws.Wanting.{leaves_are}
 use Rattle.control_laws.specs.Control.{own_trees}
 use Rattle.edge_control.specs.Sound.{wants_of}
 

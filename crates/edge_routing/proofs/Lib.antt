@@ -1,3 +1,7 @@
+pub use Rattle.edge_streams.proofs as edge_streams
+pub use Rattle.edge_labels.proofs as edge_labels
+pub use Rattle.control_laws.proofs as control_laws
+pub use Rattle.edge_words.proofs as edge_words
 pub mod Between
 pub mod Leaves
 pub mod Finish

@@ -6,28 +6,28 @@ use Rattle.std.proofs.lemmas.Bool.{and_parts, and_from}
 use Rattle.mv_base.specs.Lists.{Among}
 use Rattle.mv_base.specs.declared.addr.Addr.{Addr}
 use Rattle.mv_base.specs.declared.ids.IfaceId.{IfaceId}
-use Rattle.core_walks.specs.Core.{Core}
+use Rattle.mv_base.specs.core_walks.Core.{Core}
 use Rattle.scenario_defs.specs.Rules.{Rules}
 use Rattle.table_laws.proofs.CompareLemmas.{own_key, other_key}
-use Rattle.tree_defs.specs.declared.flow.Flow.{Flow}
-use Rattle.tree_defs.specs.declared.flow.Note.{Note}
-use Rattle.tree_defs.specs.Flows.{is_noted}
-use Rattle.tree_defs.specs.Keys.{same_flow}
-use Rattle.tree_defs.specs.Trees.{TreeData}
-use Rattle.tree_defs.proofs.KeyLemmas as trees
+use Rattle.vrf_words.specs.declared.tree_defs.flow.Flow.{Flow}
+use Rattle.vrf_words.specs.declared.tree_defs.flow.Note.{Note}
+use Rattle.vrf_words.specs.tree_defs.Flows.{is_noted}
+use Rattle.vrf_words.specs.tree_defs.Keys.{same_flow}
+use Rattle.vrf_words.specs.tree_defs.Trees.{TreeData}
+use Rattle.vrf_words.proofs.tree_defs.KeyLemmas as trees
 use Rattle.edge_defs.specs.Edge as edges
 use Rattle.edge_defs.specs.Edge.{Control, note_cmp}
 use Rattle.edge_defs.specs.Originated.{is_iface_of}
 use Rattle.edge_defs.specs.Place.{EdgePlace, OwnVrf, own_vrfs}
 use Rattle.edge_defs.proofs.KeyLemmas.{note_total, note_exact}
-use Rattle.edge_home.specs.Home.{Home, as_own, place_of}
-use Rattle.edge_home.specs.declared.own_vrf.OwnVrf as homes
-use Rattle.edge_tables.specs.Tables.{Tables}
-use Rattle.calm_laws.proofs.Lists.{any_among, any_from, not_both}
-use Rattle.held_laws.specs.Held.{IsNotedBeside, note_of, without_note}
-use Rattle.held_laws.proofs.Calls.{unnoted_beside}
-use Rattle.tree_laws.specs.TreeOf.{IsTreeOf, edge_note}
-use Rattle.tree_laws.proofs.Asking.{contained_item, item_contained}
+use Rattle.edge_routes.specs.edge_home.Home.{Home, as_own, place_of}
+use Rattle.edge_routes.specs.declared.edge_home.own_vrf.OwnVrf as homes
+use Rattle.edge_control.specs.edge_tables.Tables.{Tables}
+use Rattle.edge_words.proofs.calm_laws.Lists.{any_among, any_from, not_both}
+use Rattle.edge_words.specs.held_laws.Held.{IsNotedBeside, note_of, without_note}
+use Rattle.edge_words.proofs.held_laws.Calls.{unnoted_beside}
+use Rattle.vrf_words.specs.tree_laws.TreeOf.{IsTreeOf, edge_note}
+use Rattle.vrf_words.proofs.tree_laws.Asking.{contained_item, item_contained}
 use Rattle.control_laws.specs.Control.{Kept, control_of}
 use Rattle.control_laws.specs.Peers.{as_wanted}
 use Rattle.edge_control.specs.Places.{IsTreeAt}

@@ -6,11 +6,11 @@ use Rattle.std.specs.FinMap as maps
 use Rattle.std.specs.FinMap.{FinMap}
 use Rattle.mv_base.specs.Lists.{Among}
 use Rattle.mv_base.specs.declared.ids.NodeId.{NodeId}
-use Rattle.core_walks.specs.Core.{Core}
-use Rattle.mldp_fec.specs.declared.fec.Fec.{Fec}
-use Rattle.bgp_attributes.specs.declared.key.Key.{Key}
-use Rattle.bgp_attributes.specs.declared.update.Message.{Message}
-use Rattle.bgp_update.specs.Table.{changes_of}
+use Rattle.mv_base.specs.core_walks.Core.{Core}
+use Rattle.mldp.specs.declared.mldp_fec.fec.Fec.{Fec}
+use Rattle.bgp_messages.specs.declared.bgp_attributes.key.Key.{Key}
+use Rattle.bgp_messages.specs.declared.bgp_attributes.update.Message.{Message}
+use Rattle.bgp_messages.specs.bgp_update.Table.{changes_of}
 use Rattle.table_laws.proofs.CompareLemmas.{one_key, other_key, own_key}
 use Rattle.label_defs.specs.Keys.{node_cmp}
 use Rattle.label_defs.proofs.KeyLemmas.{node_apart, node_cases, node_cmp_exact, node_cmp_total, node_itself}
@@ -20,22 +20,22 @@ use Rattle.edge_defs.specs.Keys.{key_cmp}
 use Rattle.edge_defs.specs.Held.{held_for, told}
 use Rattle.edge_defs.specs.Place.{EdgePlace}
 use Rattle.edge_defs.specs.Steps.{Call, Noticed, Raised, Rerouted, Timers, Update, effect, peers_run, taken_change, timed, with_update}
-use Rattle.edge_laws.proofs.Taken.{get-peers_run, table_in, table_run}
-use Rattle.edge_home.specs.Home.{Home, peers_of, place_of}
-use Rattle.edge_tables.specs.Tables.{AtPeer, Both, IsBetween, PeerTable, Tables, downed, raised, waiting_at, waiting_of}
+use Rattle.edge_words.proofs.edge_laws.Taken.{get-peers_run, table_in, table_run}
+use Rattle.edge_routes.specs.edge_home.Home.{Home, peers_of, place_of}
+use Rattle.edge_control.specs.edge_tables.Tables.{AtPeer, Both, IsBetween, PeerTable, Tables, downed, raised, waiting_at, waiting_of}
 use Rattle.held_tables.proofs.RunLemmas.{held_run}
-use Rattle.tree_laws.specs.Joins.{AreOfVrfs}
+use Rattle.vrf_words.specs.tree_laws.Joins.{AreOfVrfs}
 use Rattle.control_laws.specs.Control.{Kept, control_of}
 use Rattle.control_laws.proofs.PeersTimers.{with_run}
 use Rattle.edge_control.specs.Sound.{wants_of}
-use Rattle.edge_joins.proofs.TurnLemmas.{all_alike}
-use Rattle.edge_updates.specs.Changed.{changed_by}
-use Rattle.edge_updates.specs.Inclusive.{AreTunnels, HasAllFrom}
-use Rattle.edge_updates.proofs.TakenLemmas.{update_is}
-use Rattle.edge_updates.proofs.TunnelLemmas.{alike_tunnels, lost_tunnels, raised_tunnels, run_tunnels}
-use Rattle.group_laws.specs.Groups.{HaveGroups, IsAllowed}
-use Rattle.group_laws.proofs.Effects.{effect_groups}
-use Rattle.node_laws.specs.Waits.{kept_for}
+use Rattle.edge_routing.proofs.edge_joins.TurnLemmas.{all_alike}
+use Rattle.edge_routing.specs.edge_updates.Changed.{changed_by}
+use Rattle.edge_routing.specs.edge_updates.Inclusive.{AreTunnels, HasAllFrom}
+use Rattle.edge_routing.proofs.edge_updates.TakenLemmas.{update_is}
+use Rattle.edge_routing.proofs.edge_updates.TunnelLemmas.{alike_tunnels, lost_tunnels, raised_tunnels, run_tunnels}
+use Rattle.control_laws.specs.group_laws.Groups.{HaveGroups, IsAllowed}
+use Rattle.control_laws.proofs.group_laws.Effects.{effect_groups}
+use Rattle.edge_labels.specs.node_laws.Waits.{kept_for}
 use Rattle.edge_routing.specs.declared.routing.EdgeRouting.{EdgeRouting}
 use Rattle.edge_routing.specs.Routing.{AreBetween, IsInStep, IsOnWay}
 use Rattle.edge_routing.proofs.Calls.{HasMade}

@@ -3,7 +3,7 @@ use Rattle.std.proofs.Common.{arith, suc, ◌≡◌, ◌<◌, ◌≤◌, ◌+◌
 use Rattle.mv_base.specs.Lists.{Among}
 use Rattle.mv_base.specs.declared.ids.NodeId.{NodeId}
 use Rattle.scenario_defs.specs.declared.scenario.Node.{Node}
-use Rattle.edge_home.specs.Home.{Home, peers_from, peers_of}
+use Rattle.edge_routes.specs.edge_home.Home.{Home, peers_from, peers_of}
 
 abbrev node_at : ℕ → NodeId
 node_at number = record { 0 = number }

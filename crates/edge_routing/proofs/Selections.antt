@@ -6,9 +6,9 @@ use Rattle.mv_base.specs.Lists.{Among}
 use Rattle.mv_base.specs.declared.ids.NodeId.{NodeId}
 use Rattle.mv_base.specs.declared.ids.VrfId.{VrfId}
 use Rattle.mv_base.specs.declared.pattern.Pattern.{Pattern}
-use Rattle.core_walks.specs.Core.{Core}
-use Rattle.core_walks.specs.Topology.{Topology}
-use Rattle.mldp_fec.specs.declared.fec.Fec.{Fec}
+use Rattle.mv_base.specs.core_walks.Core.{Core}
+use Rattle.mv_base.specs.core_walks.Topology.{Topology}
+use Rattle.mldp.specs.declared.mldp_fec.fec.Fec.{Fec}
 use Rattle.scenario_defs.specs.declared.scenario.Vrf.{Vrf}
 use Rattle.label_defs.specs.LabelData.{same_fec}
 use Rattle.edge_defs.specs.Edge.{Control, Selected}
@@ -16,19 +16,19 @@ use Rattle.edge_defs.specs.Held.{put_to}
 use Rattle.edge_defs.specs.Place.{OwnVrf, own_vrfs, tunnel_number}
 use Rattle.edge_defs.specs.Steps.{Call, Select, Unselect, control_step, effect, is_vrf_step, refreshed}
 use Rattle.edge_defs.specs.Tunnels.{leaves}
-use Rattle.edge_home.specs.Home.{Home, as_own, peers_of, place_of}
-use Rattle.edge_home.specs.declared.own_vrf.OwnVrf as homes
-use Rattle.edge_tables.specs.Tables.{EachPeer, Tables, put_behind, texts, waiting_at}
-use Rattle.held_laws.specs.Held.{with_selected, without_selected}
+use Rattle.edge_routes.specs.edge_home.Home.{Home, as_own, peers_of, place_of}
+use Rattle.edge_routes.specs.declared.edge_home.own_vrf.OwnVrf as homes
+use Rattle.edge_control.specs.edge_tables.Tables.{EachPeer, Tables, put_behind, texts, waiting_at}
+use Rattle.edge_words.specs.held_laws.Held.{with_selected, without_selected}
 use Rattle.held_tables.specs.Holding.{AreToldAlike, HoldAll}
-use Rattle.tree_laws.specs.Wanting.{AreTreesOf}
+use Rattle.vrf_words.specs.tree_laws.Wanting.{AreTreesOf}
 use Rattle.control_laws.specs.Control.{AreTrees, Kept, control_of}
 use Rattle.control_laws.proofs.Parts.{no_core}
 use Rattle.edge_control.specs.Places.{number_behind, vrfs_of}
 use Rattle.edge_control.specs.Sound.{IsSound, wants_of}
-use Rattle.edge_updates.proofs.TunnelLemmas.{alike_tunnels}
+use Rattle.edge_routing.proofs.edge_updates.TunnelLemmas.{alike_tunnels}
 use Rattle.edge_labels.specs.Changes.{AreCandidates}
-use Rattle.node_laws.specs.Waits.{kept_for}
+use Rattle.edge_labels.specs.node_laws.Waits.{kept_for}
 use Rattle.edge_routing.specs.declared.routing.EdgeRouting.{EdgeRouting}
 use Rattle.edge_routing.specs.declared.routing.LeafCandidates.{LeafCandidates}
 use Rattle.edge_routing.specs.Routing.{AreBetween, IsInStep, IsOnWay, IsStepped}

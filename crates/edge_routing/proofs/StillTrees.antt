@@ -9,12 +9,12 @@ use Rattle.label_defs.specs.Keys.{fec_cmp, node_cmp}
 use Rattle.selective.specs.Order.{route_total}
 use Rattle.selective.specs.declared.route_key.RouteKey.{RouteKey}
 use Rattle.selective.proofs.OrderLemmas.{route_exact}
-use Rattle.tree_defs.specs.Trees.{TreeData, wanted_by}
-use Rattle.tree_defs.proofs.KeyLemmas.{flow_total, flow_exact}
+use Rattle.vrf_words.specs.tree_defs.Trees.{TreeData, wanted_by}
+use Rattle.vrf_words.proofs.tree_defs.KeyLemmas.{flow_total, flow_exact}
 use Rattle.edge_defs.specs.Edge.{Control, Taken, Upstream, flow_cmp}
 use Rattle.edge_defs.specs.Place.{EdgePlace, OwnVrf, vrfs_from}
-use Rattle.edge_home.specs.Home.{Home, place_of}
-use Rattle.tree_laws.specs.TreeOf.{IsSelectiveAt, IsTreeOf, choice_of, flow_in}
+use Rattle.edge_routes.specs.edge_home.Home.{Home, place_of}
+use Rattle.vrf_words.specs.tree_laws.TreeOf.{IsSelectiveAt, IsTreeOf, choice_of, flow_in}
 use Rattle.control_laws.specs.Control.{AreTrees, Kept, control_of, own_trees, trees_of}
 use Rattle.control_laws.specs.Peers.{IsTreeBetween, as_wanted}
 use Rattle.control_laws.proofs.Owned.{of_each}

@@ -3,25 +3,25 @@ use Rattle.std.specs.Prelude.{◌≡◌, ◌↔◌, ℕ, ◌++◌, true, List, S
 use Rattle.std.specs.FinMap as maps
 use Rattle.mv_base.specs.Lists.{Among}
 use Rattle.mv_base.specs.declared.ids.NodeId.{NodeId}
-use Rattle.core_walks.specs.Core.{Core, IsCoreOf}
-use Rattle.core_walks.specs.Topology.{Topology}
-use Rattle.mldp_fec.specs.declared.fec.Fec.{Fec}
+use Rattle.mv_base.specs.core_walks.Core.{Core, IsCoreOf}
+use Rattle.mv_base.specs.core_walks.Topology.{Topology}
+use Rattle.mldp.specs.declared.mldp_fec.fec.Fec.{Fec}
 use Rattle.edge_defs.specs.Edge.{Control}
 use Rattle.edge_defs.specs.Held.{put_to}
 use Rattle.edge_defs.specs.Place.{EdgePlace}
 use Rattle.edge_defs.specs.Steps.{Call, control_step, effect, refreshed}
 use Rattle.edge_defs.specs.Tunnels.{leaves}
-use Rattle.edge_home.specs.Home.{peers_of, place_of}
-use Rattle.edge_tables.specs.Tables.{IsBetween, PeerTable, Tables, texts, waiting_at}
-use Rattle.tree_laws.specs.Joins.{AreOfVrfs}
+use Rattle.edge_routes.specs.edge_home.Home.{peers_of, place_of}
+use Rattle.edge_control.specs.edge_tables.Tables.{IsBetween, PeerTable, Tables, texts, waiting_at}
+use Rattle.vrf_words.specs.tree_laws.Joins.{AreOfVrfs}
 use Rattle.control_laws.specs.Control.{AreTrees, Kept, control_of}
 use Rattle.edge_control.specs.Refreshing.{AreTold}
 use Rattle.edge_control.specs.Sound.{wants_of}
 use Rattle.held_tables.specs.Holding.{AreToldAlike, HoldAll}
-use Rattle.group_laws.specs.Groups.{HaveGroups}
-use Rattle.edge_updates.specs.Inclusive.{AreTunnels}
+use Rattle.control_laws.specs.group_laws.Groups.{HaveGroups}
+use Rattle.edge_routing.specs.edge_updates.Inclusive.{AreTunnels}
 use Rattle.edge_labels.specs.Changes.{AreCandidates}
-use Rattle.node_laws.specs.Waits.{kept_for}
+use Rattle.edge_labels.specs.node_laws.Waits.{kept_for}
 use Rattle.edge_routing.specs.declared.routing.EdgeRouting.{EdgeRouting}
 use Rattle.edge_routing.specs.declared.routing.LeafCandidates.{LeafCandidates}
 

@@ -1,24 +1,24 @@
 //! Calls of customers.
 ghost use Rattle.std.specs.Prelude.{◌≡◌, ◌<◌, ◌^◌, true, false, length, Err, IfOk, OnOk};
-ghost use Rattle.bgp_update.specs.Written.{afi_of};
-ghost use Rattle.mvpn_nlri.specs.Spelling.{IsGroup};
-ghost use Rattle.pim_defs.specs.Entries.{applied, are_too_many};
-ghost use Rattle.core_walks.specs.Core.{Core as Walks};
+ghost use Rattle.bgp_messages.specs.bgp_update.Written.{afi_of};
+ghost use Rattle.bgp_values.specs.mvpn_nlri.Spelling.{IsGroup};
+ghost use Rattle.edge_defs.specs.pim_defs.Entries.{applied, are_too_many};
+ghost use Rattle.mv_base.specs.core_walks.Core.{Core as Walks};
 ghost use Rattle.edge_defs.specs.Edge.{Control};
 ghost use Rattle.edge_defs.specs.Steps.{Active, Idle, Pim};
-ghost use Rattle.edge_home.specs.Home.{place_of};
+ghost use Rattle.edge_routes.specs.edge_home.Home.{place_of};
 ghost use Rattle.control_laws.specs.Control.{control_of};
 ghost use Rattle.edge_control.specs.Places.{is_note_too_many, is_own_iface};
 ghost use Rattle.edge_control.specs.declared.fault.ControlFault.TheVariants as ControlFault;
-ghost use Rattle.held_laws.specs.Held.{note_of, without_note};
+ghost use Rattle.edge_words.specs.held_laws.Held.{note_of, without_note};
 ghost use Rattle.held_tables.specs.Holding.{AreToldAlike, HoldAll};
-ghost use Rattle.group_laws.specs.Groups.{HasGroups};
+ghost use Rattle.control_laws.specs.group_laws.Groups.{HasGroups};
 ghost use Rattle.edge_routing.specs.Routing.{IsInStep, IsStepped};
 
 use crate::routing::{EdgeRouting, LeafCandidates};
 use core_paths::Core;
+use edge_control::of_edge_tables::EdgeTables;
 use edge_control::{ControlFault, EdgeControl, own_of_iface};
-use edge_tables::EdgeTables;
 use held_tables::{drop_source, hold_source};
 use mv_base::{Addr, IfaceId, NoMemory};
 use pim_joinprune::JoinPrune;

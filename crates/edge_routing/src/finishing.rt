@@ -2,16 +2,16 @@
 ghost use Rattle.std.specs.Prelude.{◌≡◌, ◌++◌, ℕ, true, length, IfOk, OnOk};
 ghost use Rattle.edge_defs.specs.Steps.{Call, is_vrf_step};
 ghost use Rattle.control_laws.specs.Control.{control_of};
-ghost use Rattle.group_laws.specs.Groups.{HaveGroups};
+ghost use Rattle.control_laws.specs.group_laws.Groups.{HaveGroups};
 ghost use Rattle.edge_routing.specs.Routing.{HasRefreshed, IsInStep, IsOnWay, IsStepped};
 ghost use Rattle.edge_routing.specs.declared.routing.EdgeRouting.{EdgeRouting as Routings};
 
+use crate::edge_joins::hold_joins;
+use crate::edge_leaves::wanted_of;
 use crate::routing::{EdgeRouting, LeafCandidates};
 use core_paths::Core;
 use edge_control::{ControlChanges, EdgeControl};
-use edge_joins::hold_joins;
-use edge_leaves::wanted_of;
-use mldp_fec::Fec;
+use mldp::mldp_fec::Fec;
 use mv_base::NoMemory;
 use std::alloc::Global;
 

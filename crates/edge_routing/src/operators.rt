@@ -1,8 +1,8 @@
 //! Selections of the operator (RFC 6514 section 12.1). They change no flow.
 ghost use Rattle.std.specs.Prelude.{◌≡◌, ◌<◌, ◌≤◌, ◌^◌, ℕ, true, false, Err, IfOk, OnOk, None};
 ghost use Rattle.std.specs.FinMap as maps;
-ghost use Rattle.core_walks.specs.Topology.{Topology};
-ghost use Rattle.mvpn_nlri.specs.Spelling.{IsAnyOr, IsGroup};
+ghost use Rattle.mv_base.specs.core_walks.Topology.{Topology};
+ghost use Rattle.bgp_values.specs.mvpn_nlri.Spelling.{IsAnyOr, IsGroup};
 ghost use Rattle.edge_defs.specs.Originated.{afi_by};
 ghost use Rattle.edge_defs.specs.Edge.{Control, Selected};
 ghost use Rattle.edge_defs.specs.Place.{EdgePlace, tunnel_number};
@@ -10,15 +10,15 @@ ghost use Rattle.edge_defs.specs.Steps.{Select, Unselect};
 ghost use Rattle.control_laws.specs.Control.{control_of};
 ghost use Rattle.edge_control.specs.Places.{is_own_vrf, is_selection_too_many};
 ghost use Rattle.edge_control.specs.declared.fault.ControlFault.TheVariants as ControlFault;
-ghost use Rattle.held_laws.specs.Held.{with_selected};
+ghost use Rattle.edge_words.specs.held_laws.Held.{with_selected};
 ghost use Rattle.held_tables.specs.Holding.{AreToldAlike, HoldAll, IsOwnAt};
 ghost use Rattle.edge_routing.specs.Routing.{IsInStep, IsStepped};
 
 use crate::routing::{EdgeRouting, LeafCandidates};
+use edge_control::of_edge_tables::EdgeTables;
 use edge_control::{ControlFault, own_of_vrf};
-use edge_home::OwnVrf;
+use edge_routes::edge_home::OwnVrf;
 use edge_routes::tunnel_number;
-use edge_tables::EdgeTables;
 use held_tables::{drop_selection, hold_selection};
 use mv_base::{NoMemory, Pattern, VrfId};
 use std::alloc::Global;

@@ -4,14 +4,14 @@ ghost use Rattle.std.specs.FinMap as maps;
 ghost use Rattle.mv_base.specs.Lists.{Among};
 ghost use Rattle.scenario_defs.specs.declared.event.Kind.TheVariants.{Bgp};
 ghost use Rattle.edge_defs.specs.Steps.{Noticed, Raised, Rerouted, Timers, Update};
-ghost use Rattle.edge_home.specs.Home.{peers_of};
+ghost use Rattle.edge_routes.specs.edge_home.Home.{peers_of};
 ghost use Rattle.edge_streams.specs.Spelled.{SaysWritable};
 ghost use Rattle.edge_routing.specs.Routing.{IsInStep, IsStepped};
 
+use crate::edge_updates::{inclusive_from, take_update};
 use crate::routing::{EdgeRouting, LeafCandidates};
-use bgp_attributes::Message;
+use bgp_messages::bgp_attributes::Message;
 use core_paths::Core;
-use edge_updates::{inclusive_from, take_update};
 use mv_base::{NoMemory, NodeId};
 use std::alloc::Global;
 

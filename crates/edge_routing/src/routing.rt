@@ -2,15 +2,15 @@
 ghost use Rattle.std.specs.Prelude.{◌≡◌, IfOk, [], map};
 ghost use Rattle.mv_base.specs.declared.ids.NodeId.{NodeId};
 ghost use Rattle.edge_defs.specs.Edge.{no_control};
-ghost use Rattle.edge_home.specs.Home.{IsHome, home_of};
-ghost use Rattle.edge_tables.specs.Tables.{waiting_at};
+ghost use Rattle.edge_routes.specs.edge_home.Home.{IsHome, home_of};
+ghost use Rattle.edge_control.specs.edge_tables.Tables.{waiting_at};
 ghost use Rattle.control_laws.specs.Control.{AreTrees, control_of};
 ghost use Rattle.edge_routing.specs.Routing.{IsInStep};
 
 use edge_control::EdgeControl;
-use edge_tables::EdgeTables;
+use edge_control::of_edge_tables::EdgeTables;
 use held_tables::start;
-use mldp_fec::Fec;
+use mldp::mldp_fec::Fec;
 use mv_base::{NoMemory, NodeId};
 use scenario_defs::Scenario;
 use std::alloc::Global;

@@ -1,5 +1,5 @@
 //! Worked roots and egresses.
-use mldp_fec::{Fec, FecKind, Opaque};
+use mldp::mldp_fec::{Fec, FecKind, Opaque};
 use mv_base::{Addr, NodeId, Pattern, Rd};
 use selective::{LeafTunnels, RootTunnels};
 use std::test::Fail;

@@ -3,22 +3,22 @@ use Rattle.std.proofs.Common.{◌≡◌, ℕ, Bool, false, cond, List, map, Opti
 use Rattle.std.specs.FinMap as maps
 use Rattle.std.specs.FinMap.{FinMap}
 use Rattle.mv_base.specs.declared.ids.NodeId.{NodeId}
-use Rattle.framing.specs.Cut.{Front}
-use Rattle.framing.specs.Feed.{Fed, fed, unfed}
-use Rattle.framing.specs.Feeding.{NextIs}
+use Rattle.mv_base.specs.framing.Cut.{Front}
+use Rattle.mv_base.specs.framing.Feed.{Fed, fed, unfed}
+use Rattle.mv_base.specs.framing.Feeding.{NextIs}
 use Rattle.indexmap.specs.IndexMap.{get}
-use Rattle.label_defs.proofs.KeyLemmas.{node_cases, node_itself, node_apart}
+use Rattle.network_defs.proofs.label_defs.KeyLemmas.{node_cases, node_itself, node_apart}
 use Rattle.scenario_defs.specs.declared.event.Kind.{Kind}
 use Rattle.scenario_defs.specs.declared.event.Kind.TheVariants as kinds
-use Rattle.bgp_attributes.specs.declared.update.Message.{Message}
-use Rattle.bgp_attributes.specs.declared.fault.StreamFault.{StreamFault}
-use Rattle.bgp_update.specs.Reading.{message_front}
-use Rattle.mldp_msgs.specs.declared.message.LabelMessage.{LabelMessage}
-use Rattle.mldp_msgs.specs.declared.fault.LdpFault.{LdpFault}
-use Rattle.mldp_msgs.specs.Reading.{pdu_front}
-use Rattle.session_defs.specs.Message.{SessionMessage, Bgp, Label, SessionFault, BgpFault, LabelFault, as_front, front_of}
-use Rattle.session_defs.specs.Octets.{Stream}
-use Rattle.session_defs.specs.PeerSession.{PeerSession, peer_cmp, stream_at, fault_at}
+use Rattle.bgp_messages.specs.declared.bgp_attributes.update.Message.{Message}
+use Rattle.bgp_messages.specs.declared.bgp_attributes.fault.StreamFault.{StreamFault}
+use Rattle.bgp_messages.specs.bgp_update.Reading.{message_front}
+use Rattle.mldp.specs.declared.mldp_msgs.message.LabelMessage.{LabelMessage}
+use Rattle.mldp.specs.declared.mldp_msgs.fault.LdpFault.{LdpFault}
+use Rattle.mldp.specs.mldp_msgs.Reading.{pdu_front}
+use Rattle.network_defs.specs.session_defs.Message.{SessionMessage, Bgp, Label, SessionFault, BgpFault, LabelFault, as_front, front_of}
+use Rattle.network_defs.specs.session_defs.Octets.{Stream}
+use Rattle.network_defs.specs.session_defs.PeerSession.{PeerSession, peer_cmp, stream_at, fault_at}
 use Rattle.edge_streams.specs.Kept.{NodeMap, is_node, session, fault_as, stream_as, bgp_stream, ldp_stream, streams_of, NextAt}
 use Rattle.edge_streams.specs.Streams.{with_octets, TakesFirst}
 use Rattle.edge_streams.proofs.FedAs.{fed_same}

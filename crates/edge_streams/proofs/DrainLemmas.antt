@@ -6,10 +6,10 @@ use Rattle.std.specs.FinMap.{FinMap, same_map}
 use Rattle.std.specs.Cmp.{Equal-is}
 use Rattle.std.proofs.lemmas.Cmp.{eq_by_cmp_equiv}
 use Rattle.std.proofs.lemmas.List.{append-nil}
-use Rattle.framing.specs.Feed.{unfed}
-use Rattle.session_defs.specs.Message.{SessionMessage}
-use Rattle.session_defs.specs.Octets.{Stream}
-use Rattle.session_defs.specs.PeerSession.{PeerSession, peer_cmp, stream_at}
+use Rattle.mv_base.specs.framing.Feed.{unfed}
+use Rattle.network_defs.specs.session_defs.Message.{SessionMessage}
+use Rattle.network_defs.specs.session_defs.Octets.{Stream}
+use Rattle.network_defs.specs.session_defs.PeerSession.{PeerSession, peer_cmp, stream_at}
 use Rattle.edge_streams.specs.Streams.{TakesFirst}
 use Rattle.edge_streams.proofs.SessionMaps.{peer_cmp_exact, peer_cmp_total}
 

@@ -1,10 +1,10 @@
 -- The stream of one protocol that is fed is the session's stream that is fed.
 use Rattle.std.proofs.Common.{◌≡◌, ℕ, zero, suc, ◌+◌, ◌-◌, List, [], ◌∷◌, ◌++◌, length, map, Option, Some, None, refl, sym, ap, ◌∙◌}
 use Rattle.std.proofs.lemmas.List.{map-append}
-use Rattle.framing.specs.Cut.{Front, Cut, cut_at, cut, with_front}
-use Rattle.framing.specs.Cut.Front.{more, whole, bad}
-use Rattle.framing.specs.Feed.{Fed, fed, fed_by, fed_unless, moved, held_of}
-use Rattle.session_defs.specs.Message.{SessionMessage, SessionFault, as_front}
+use Rattle.mv_base.specs.framing.Cut.{Front, Cut, cut_at, cut, with_front}
+use Rattle.mv_base.specs.framing.Cut.Front.{more, whole, bad}
+use Rattle.mv_base.specs.framing.Feed.{Fed, fed, fed_by, fed_unless, moved, held_of}
+use Rattle.network_defs.specs.session_defs.Message.{SessionMessage, SessionFault, as_front}
 use Rattle.edge_streams.specs.Kept.{fault_as, stream_as}
 
 module _ {M E : Type 0} (message : M → SessionMessage) (fault : E → SessionFault) (front : List ℕ → Front M E) where

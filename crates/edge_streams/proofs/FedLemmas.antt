@@ -3,10 +3,10 @@ use Rattle.std.proofs.Common.{◌≡◌, ◌∙◌, refl, sym, ap, ℕ, Bool, tr
 use Rattle.std.specs.Ordering.{eq_by_cmp}
 use Rattle.std.specs.FinMap as maps
 use Rattle.std.specs.FinMap.{FinMap}
-use Rattle.framing.specs.Feed.{fed}
-use Rattle.session_defs.specs.Message.{front_of}
-use Rattle.session_defs.specs.Octets.{Stream}
-use Rattle.session_defs.specs.PeerSession.{PeerSession, peer_cmp, stream_at}
+use Rattle.mv_base.specs.framing.Feed.{fed}
+use Rattle.network_defs.specs.session_defs.Message.{front_of}
+use Rattle.network_defs.specs.session_defs.Octets.{Stream}
+use Rattle.network_defs.specs.session_defs.PeerSession.{PeerSession, peer_cmp, stream_at}
 use Rattle.edge_streams.specs.Streams.{with_octets}
 use Rattle.edge_streams.proofs.DrainLemmas.{put_again, put_there, same_session, stream_or, stream_put}
 use Rattle.edge_streams.proofs.SessionMaps.{peer_cmp_total}

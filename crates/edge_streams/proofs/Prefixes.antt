@@ -5,10 +5,10 @@ use Rattle.std.proofs.Math.Nat.{div-one, mod-one, mul-mod_left}
 use Rattle.std.proofs.Math.Pow.{mod-mod-pow}
 use Rattle.std.proofs.Math.Arith.{mod-mul}
 use Rattle.std.proofs.lemmas.Nat.{pow-add}
-use Rattle.mvpn_nlri.specs.declared.route.Afi.{Afi}
-use Rattle.mvpn_nlri.specs.declared.route.Afi.TheVariants.{Ipv4, Ipv6}
-use Rattle.bgp_attributes.specs.Spelling.{addr_bits, cleared, padded, address}
-use Rattle.bgp_update.specs.Written.{afi_of, IsVpnPrefix}
+use Rattle.bgp_values.specs.declared.mvpn_nlri.route.Afi.{Afi}
+use Rattle.bgp_values.specs.declared.mvpn_nlri.route.Afi.TheVariants.{Ipv4, Ipv6}
+use Rattle.bgp_messages.specs.bgp_attributes.Spelling.{addr_bits, cleared, padded, address}
+use Rattle.bgp_messages.specs.bgp_update.Written.{afi_of, IsVpnPrefix}
 
 -- the number of octets, the most significant first
 abbrev value : List ℕ → ℕ

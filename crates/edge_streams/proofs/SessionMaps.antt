@@ -10,17 +10,17 @@ use Rattle.std.proofs.lemmas.Cmp.{on_total}
 use Rattle.std.proofs.lemmas.List.{append-nil}
 use Rattle.indexmap.specs.IndexMap.{get}
 use Rattle.mv_base.specs.declared.ids.NodeId.{NodeId}
-use Rattle.framing.specs.Feed.{Fed}
-use Rattle.label_defs.proofs.KeyLemmas.{node_cases, node_itself, node_apart, ties, apart}
+use Rattle.mv_base.specs.framing.Feed.{Fed}
+use Rattle.network_defs.proofs.label_defs.KeyLemmas.{node_cases, node_itself, node_apart, ties, apart}
 use Rattle.scenario_defs.specs.declared.event.Kind.{Kind}
 use Rattle.scenario_defs.specs.declared.event.Kind.TheVariants as kinds
 use Rattle.scenario_defs.specs.Kinds.{same_kind}
-use Rattle.bgp_attributes.specs.declared.update.Message.{Message}
-use Rattle.bgp_attributes.specs.declared.fault.StreamFault.{StreamFault}
-use Rattle.mldp_msgs.specs.declared.message.LabelMessage.{LabelMessage}
-use Rattle.mldp_msgs.specs.declared.fault.LdpFault.{LdpFault}
-use Rattle.session_defs.specs.Octets.{Stream}
-use Rattle.session_defs.specs.PeerSession.{PeerSession, kind_number, peer_cmp}
+use Rattle.bgp_messages.specs.declared.bgp_attributes.update.Message.{Message}
+use Rattle.bgp_messages.specs.declared.bgp_attributes.fault.StreamFault.{StreamFault}
+use Rattle.mldp.specs.declared.mldp_msgs.message.LabelMessage.{LabelMessage}
+use Rattle.mldp.specs.declared.mldp_msgs.fault.LdpFault.{LdpFault}
+use Rattle.network_defs.specs.session_defs.Octets.{Stream}
+use Rattle.network_defs.specs.session_defs.PeerSession.{PeerSession, kind_number, peer_cmp}
 use Rattle.edge_streams.specs.Kept.{NodeMap, is_node, session, entries_as, bgp_stream, ldp_stream, streams_of}
 
 -- ---- the order of sessions

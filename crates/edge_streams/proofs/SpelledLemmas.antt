@@ -1,22 +1,22 @@
 -- Each message that comes to wait in a stream is one that octets spell, and the fault of a stream is the first that it answered.
 use Rattle.std.proofs.Common.{◌≡◌, ℕ, List, [], ◌∷◌, ◌++◌, Some, Result, Ok, Err, refl, sym, ap, subst, ◌∙◌}
 use Rattle.std.specs.List.{flat_map, AllByRecursion}
-use Rattle.framing.specs.Units.{Spelled, Begins}
-use Rattle.framing.specs.Cut.{Front, Fails}
-use Rattle.framing.specs.Feed.{Fed}
-use Rattle.framing.specs.Feeding.{Feeds, FeedIs}
-use Rattle.framing.specs.declared.fault.FeedFault.{FeedFault}
-use Rattle.framing.specs.declared.fault.FeedFault.TheVariants as faults
-use Rattle.bgp_attributes.specs.declared.update.Message.{Message}
-use Rattle.bgp_attributes.specs.declared.fault.StreamFault.{StreamFault}
-use Rattle.bgp_update.specs.Spelling as bgp
-use Rattle.bgp_update.specs.FirstFault.{UnitFault}
-use Rattle.mldp_msgs.specs.declared.message.LabelMessage.{LabelMessage}
-use Rattle.mldp_msgs.specs.declared.fault.LdpFault.{LdpFault}
-use Rattle.mldp_msgs.specs.Spelling as ldp
-use Rattle.mldp_msgs.specs.FirstFault.{PduFault}
-use Rattle.mldp_msgs.specs.FirstFault.PduFault.{version, pdu_length, in_message}
-use Rattle.session_defs.proofs.Lines.{all_both}
+use Rattle.mv_base.specs.framing.Units.{Spelled, Begins}
+use Rattle.mv_base.specs.framing.Cut.{Front, Fails}
+use Rattle.mv_base.specs.framing.Feed.{Fed}
+use Rattle.mv_base.specs.framing.Feeding.{Feeds, FeedIs}
+use Rattle.mv_base.specs.declared.framing.fault.FeedFault.{FeedFault}
+use Rattle.mv_base.specs.declared.framing.fault.FeedFault.TheVariants as faults
+use Rattle.bgp_messages.specs.declared.bgp_attributes.update.Message.{Message}
+use Rattle.bgp_messages.specs.declared.bgp_attributes.fault.StreamFault.{StreamFault}
+use Rattle.bgp_messages.specs.bgp_update.Spelling as bgp
+use Rattle.bgp_messages.specs.bgp_update.FirstFault.{UnitFault}
+use Rattle.mldp.specs.declared.mldp_msgs.message.LabelMessage.{LabelMessage}
+use Rattle.mldp.specs.declared.mldp_msgs.fault.LdpFault.{LdpFault}
+use Rattle.mldp.specs.mldp_msgs.Spelling as ldp
+use Rattle.mldp.specs.mldp_msgs.FirstFault.{PduFault}
+use Rattle.mldp.specs.mldp_msgs.FirstFault.PduFault.{version, pdu_length, in_message}
+use Rattle.network_defs.proofs.session_defs.Lines.{all_both}
 use Rattle.edge_streams.specs.Spelled.{IsSpelled, IsSpelledLabel}
 
 -- ---- units

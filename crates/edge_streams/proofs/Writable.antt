@@ -4,31 +4,31 @@ use Rattle.std.specs.List.{Contains, AllByRecursion}
 use Rattle.std.proofs.lemmas.List.Elements.{All-from_recursion}
 use Rattle.mv_base.specs.declared.addr.Addr.{Addr}
 use Rattle.mv_base.specs.declared.addr.Addr.TheVariants.{V4, V6}
-use Rattle.framing.specs.Parts.{ArePartsAfter}
-use Rattle.route_targets.specs.declared.communities.ExtComm.{ExtComm}
-use Rattle.mldp_fec.specs.declared.fec.Fec.{Fec}
-use Rattle.pmsi_attr.specs.declared.pmsi.Pmsi.{Pmsi}
-use Rattle.pmsi_attr.proofs.PmsiLemmas.{written_spells}
-use Rattle.mvpn_nlri.specs.declared.route.Afi.{Afi}
-use Rattle.mvpn_nlri.specs.declared.route.Afi.TheVariants.{Ipv4, Ipv6}
-use Rattle.mvpn_nlri.specs.Spelling as routes
-use Rattle.bgp_attributes.specs.declared.key.Key.{Key}
-use Rattle.bgp_attributes.specs.declared.key.Key.TheVariants as keys
-use Rattle.bgp_attributes.specs.declared.family.Family.{Family}
-use Rattle.bgp_attributes.specs.declared.family.Family.TheVariants.{Mcast, Vpn}
-use Rattle.bgp_attributes.specs.declared.attribute.Attribute.{Attribute}
-use Rattle.bgp_attributes.specs.declared.attribute.Attribute.TheVariants.{Reach, Unreach, Communities, Tunnel, Passed}
-use Rattle.bgp_attributes.specs.declared.update.Update.{Update}
-use Rattle.bgp_attributes.specs.declared.update.Message.{Message}
-use Rattle.bgp_attributes.specs.declared.update.Message.TheVariants as messages
-use Rattle.bgp_attributes.specs.Spelling.{SpellsNextHop, SpellsKey, SpellsUnit, AreComms, SpellsAttribute, IsNew, AreKeys, comms_in, comms_of, pmsi_of, adverts_in, keys_in}
-use Rattle.bgp_attributes.specs.Spelling as attributes
-use Rattle.bgp_update.specs.Spelling as bgp
-use Rattle.bgp_update.specs.Written.{afi_of, family_of, IsVpnPrefix, IsNextHop, IsWritableKey, IsTunnel, IsWritableAdvert}
-use Rattle.mldp_msgs.specs.declared.message.LabelMessage.{LabelMessage}
-use Rattle.mldp_msgs.specs.declared.message.LabelMessage.TheVariants as labels
-use Rattle.mldp_msgs.specs.Spelling.{SpellsTlv, IsLabel, IsElement, IsWritable, Carries}
-use Rattle.mldp_msgs.specs.Spelling as ldp
+use Rattle.mv_base.specs.framing.Parts.{ArePartsAfter}
+use Rattle.mv_base.specs.declared.route_targets.communities.ExtComm.{ExtComm}
+use Rattle.mldp.specs.declared.mldp_fec.fec.Fec.{Fec}
+use Rattle.bgp_values.specs.declared.pmsi_attr.pmsi.Pmsi.{Pmsi}
+use Rattle.bgp_values.proofs.pmsi_attr.PmsiLemmas.{written_spells}
+use Rattle.bgp_values.specs.declared.mvpn_nlri.route.Afi.{Afi}
+use Rattle.bgp_values.specs.declared.mvpn_nlri.route.Afi.TheVariants.{Ipv4, Ipv6}
+use Rattle.bgp_values.specs.mvpn_nlri.Spelling as routes
+use Rattle.bgp_messages.specs.declared.bgp_attributes.key.Key.{Key}
+use Rattle.bgp_messages.specs.declared.bgp_attributes.key.Key.TheVariants as keys
+use Rattle.bgp_messages.specs.declared.bgp_attributes.family.Family.{Family}
+use Rattle.bgp_messages.specs.declared.bgp_attributes.family.Family.TheVariants.{Mcast, Vpn}
+use Rattle.bgp_messages.specs.declared.bgp_attributes.attribute.Attribute.{Attribute}
+use Rattle.bgp_messages.specs.declared.bgp_attributes.attribute.Attribute.TheVariants.{Reach, Unreach, Communities, Tunnel, Passed}
+use Rattle.bgp_messages.specs.declared.bgp_attributes.update.Update.{Update}
+use Rattle.bgp_messages.specs.declared.bgp_attributes.update.Message.{Message}
+use Rattle.bgp_messages.specs.declared.bgp_attributes.update.Message.TheVariants as messages
+use Rattle.bgp_messages.specs.bgp_attributes.Spelling.{SpellsNextHop, SpellsKey, SpellsUnit, AreComms, SpellsAttribute, IsNew, AreKeys, comms_in, comms_of, pmsi_of, adverts_in, keys_in}
+use Rattle.bgp_messages.specs.bgp_attributes.Spelling as attributes
+use Rattle.bgp_messages.specs.bgp_update.Spelling as bgp
+use Rattle.bgp_messages.specs.bgp_update.Written.{afi_of, family_of, IsVpnPrefix, IsNextHop, IsWritableKey, IsTunnel, IsWritableAdvert}
+use Rattle.mldp.specs.declared.mldp_msgs.message.LabelMessage.{LabelMessage}
+use Rattle.mldp.specs.declared.mldp_msgs.message.LabelMessage.TheVariants as labels
+use Rattle.mldp.specs.mldp_msgs.Spelling.{SpellsTlv, IsLabel, IsElement, IsWritable, Carries}
+use Rattle.mldp.specs.mldp_msgs.Spelling as ldp
 use Rattle.edge_streams.specs.Spelled.{IsSpelled, IsSpelledLabel, SaysWritable, SaysWritableLabel}
 use Rattle.edge_streams.proofs.Prefixes.{is_prefix, own_afi}
 use Rattle.edge_streams.proofs.SpelledLemmas.{flat_holds, begins_hold}

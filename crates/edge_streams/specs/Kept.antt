@@ -7,17 +7,17 @@ use Rattle.std.specs.declared.hash.BuildHasherDefault.{BuildHasherDefault}
 use Rattle.indexmap.specs.IndexMap.{IndexMap}
 use Rattle.mv_base.specs.declared.ids.NodeId.{NodeId}
 use Rattle.mv_base.specs.contracts.ids.NodeIdPartialEq.TheImpl as nodes_equal
-use Rattle.framing.specs.Feed.{Fed}
-use Rattle.framing.specs.Feeding.{NextIs}
+use Rattle.mv_base.specs.framing.Feed.{Fed}
+use Rattle.mv_base.specs.framing.Feeding.{NextIs}
 use Rattle.scenario_defs.specs.declared.event.Kind.{Kind}
 use Rattle.scenario_defs.specs.declared.event.Kind.TheVariants as kinds
-use Rattle.bgp_attributes.specs.declared.update.Message.{Message}
-use Rattle.bgp_attributes.specs.declared.fault.StreamFault.{StreamFault}
-use Rattle.mldp_msgs.specs.declared.message.LabelMessage.{LabelMessage}
-use Rattle.mldp_msgs.specs.declared.fault.LdpFault.{LdpFault}
-use Rattle.session_defs.specs.Message.{SessionMessage, Bgp, Label, SessionFault, BgpFault, LabelFault}
-use Rattle.session_defs.specs.Octets.{Stream}
-use Rattle.session_defs.specs.PeerSession.{PeerSession, peer_cmp}
+use Rattle.bgp_messages.specs.declared.bgp_attributes.update.Message.{Message}
+use Rattle.bgp_messages.specs.declared.bgp_attributes.fault.StreamFault.{StreamFault}
+use Rattle.mldp.specs.declared.mldp_msgs.message.LabelMessage.{LabelMessage}
+use Rattle.mldp.specs.declared.mldp_msgs.fault.LdpFault.{LdpFault}
+use Rattle.network_defs.specs.session_defs.Message.{SessionMessage, Bgp, Label, SessionFault, BgpFault, LabelFault}
+use Rattle.network_defs.specs.session_defs.Octets.{Stream}
+use Rattle.network_defs.specs.session_defs.PeerSession.{PeerSession, peer_cmp}
 
 abbrev pub NodeMap : Type 0 → Type 0
 NodeMap X = IndexMap NodeId X (BuildHasherDefault FoldHasher)

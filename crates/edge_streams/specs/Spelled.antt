@@ -1,14 +1,14 @@
 -- What is known of a message that a stream hands out: octets spell it, and so what it says can be written.
 use Rattle.std.specs.Prelude.{ℕ, List, [], ◌∷◌, ⊤}
 use Rattle.std.specs.List.{AllByRecursion}
-use Rattle.bgp_attributes.specs.declared.update.Message.{Message}
-use Rattle.bgp_attributes.specs.declared.update.Message.TheVariants as messages
-use Rattle.bgp_update.specs.Spelling as bgp
-use Rattle.bgp_update.specs.Written.{IsWritableAdvert, IsWritableKey}
-use Rattle.mldp_msgs.specs.declared.message.LabelMessage.{LabelMessage}
-use Rattle.mldp_msgs.specs.declared.message.LabelMessage.TheVariants as labels
-use Rattle.mldp_msgs.specs.Spelling as ldp
-use Rattle.mldp_msgs.specs.Spelling.{IsWritable}
+use Rattle.bgp_messages.specs.declared.bgp_attributes.update.Message.{Message}
+use Rattle.bgp_messages.specs.declared.bgp_attributes.update.Message.TheVariants as messages
+use Rattle.bgp_messages.specs.bgp_update.Spelling as bgp
+use Rattle.bgp_messages.specs.bgp_update.Written.{IsWritableAdvert, IsWritableKey}
+use Rattle.mldp.specs.declared.mldp_msgs.message.LabelMessage.{LabelMessage}
+use Rattle.mldp.specs.declared.mldp_msgs.message.LabelMessage.TheVariants as labels
+use Rattle.mldp.specs.mldp_msgs.Spelling as ldp
+use Rattle.mldp.specs.mldp_msgs.Spelling.{IsWritable}
 
 -- octets spell the BGP message (RFC 4271 section 4)
 abbrev pub IsSpelled : Message → Type 0

@@ -6,20 +6,20 @@ use Rattle.std.specs.FinMap.{FinMap}
 use mathlib.Core.Logic.{inl, inr}
 use Rattle.mv_base.specs.declared.ids.NodeId.{NodeId}
 use Rattle.mv_base.specs.contracts.ids.NodeId as nodes
-use Rattle.framing.specs.Feed.{fed}
+use Rattle.mv_base.specs.framing.Feed.{fed}
 use Rattle.scenario_defs.specs.declared.event.Kind.{Kind}
 use Rattle.scenario_defs.specs.contracts.event.Kind as kind_row
-use Rattle.bgp_attributes.specs.declared.update.Message.{Message}
-use Rattle.bgp_attributes.specs.contracts.update.Message as bgp_messages
-use Rattle.bgp_attributes.specs.declared.fault.StreamFault.{StreamFault}
-use Rattle.bgp_attributes.specs.contracts.fault.StreamFault as bgp_faults
-use Rattle.mldp_msgs.specs.declared.message.LabelMessage.{LabelMessage}
-use Rattle.mldp_msgs.specs.contracts.message.LabelMessage as ldp_messages
-use Rattle.mldp_msgs.specs.declared.fault.LdpFault.{LdpFault}
-use Rattle.mldp_msgs.specs.contracts.fault.LdpFault as ldp_faults
-use Rattle.session_defs.specs.Message.{SessionMessage, Bgp, Label, SessionFault, BgpFault, LabelFault, front_of}
-use Rattle.session_defs.specs.Octets.{Stream}
-use Rattle.session_defs.specs.PeerSession.{PeerSession, peer_cmp, stream_at}
+use Rattle.bgp_messages.specs.declared.bgp_attributes.update.Message.{Message}
+use Rattle.bgp_messages.specs.contracts.bgp_attributes.update.Message as bgp_messages
+use Rattle.bgp_messages.specs.declared.bgp_attributes.fault.StreamFault.{StreamFault}
+use Rattle.bgp_messages.specs.contracts.bgp_attributes.fault.StreamFault as bgp_faults
+use Rattle.mldp.specs.declared.mldp_msgs.message.LabelMessage.{LabelMessage}
+use Rattle.mldp.specs.contracts.mldp_msgs.message.LabelMessage as ldp_messages
+use Rattle.mldp.specs.declared.mldp_msgs.fault.LdpFault.{LdpFault}
+use Rattle.mldp.specs.contracts.mldp_msgs.fault.LdpFault as ldp_faults
+use Rattle.network_defs.specs.session_defs.Message.{SessionMessage, Bgp, Label, SessionFault, BgpFault, LabelFault, front_of}
+use Rattle.network_defs.specs.session_defs.Octets.{Stream}
+use Rattle.network_defs.specs.session_defs.PeerSession.{PeerSession, peer_cmp, stream_at}
 use Rattle.edge_streams.specs.declared.reason.SessionReason.{SessionReason}
 use Rattle.edge_streams.specs.declared.reason.SessionReason.TheVariants as reasons
 

@@ -1,14 +1,14 @@
 //! The streams of BGP sessions, by peer.
 ghost use Rattle.std.specs.Prelude.{◌≡◌, false, option_map, IfSome, OnOk, OnErr, if◌then◌else◌};
-ghost use Rattle.framing.specs.Feed.{fed, unfed};
-ghost use Rattle.framing.specs.Feeding.{NextIs};
+ghost use Rattle.mv_base.specs.framing.Feed.{fed, unfed};
+ghost use Rattle.mv_base.specs.framing.Feeding.{NextIs};
 ghost use Rattle.indexmap.specs.IndexMap.{get, IsUnique};
 ghost use Rattle.mv_base.specs.declared.ids.NodeId.{NodeId};
-ghost use Rattle.bgp_update.specs.Reading.{message_front};
+ghost use Rattle.bgp_messages.specs.bgp_update.Reading.{message_front};
 ghost use Rattle.edge_streams.specs.Kept.{is_node, NextAt};
 ghost use Rattle.edge_streams.specs.Spelled.{IsSpelled};
 
-use bgp_update::{FeedFault, Message, Stream, StreamFault};
+use bgp_messages::bgp_update::{FeedFault, Message, Stream, StreamFault};
 use indexmap::IndexMap;
 use mv_base::{NoMemory, NodeId};
 use std::alloc::Global;
@@ -27,9 +27,9 @@ pub(crate) type BgpStreams = IndexMap<NodeId, BgpStream>;
 impl Model for BgpStream {
     ghost use Rattle.std.specs.Prelude.{◌≡◌};
     ghost use Rattle.std.specs.List.{AllByRecursion};
-    ghost use Rattle.framing.specs.Feed.{Fed};
-    ghost use Rattle.bgp_attributes.specs.declared.update.Message.{Message};
-    ghost use Rattle.bgp_attributes.specs.declared.fault.StreamFault.{StreamFault};
+    ghost use Rattle.mv_base.specs.framing.Feed.{Fed};
+    ghost use Rattle.bgp_messages.specs.declared.bgp_attributes.update.Message.{Message};
+    ghost use Rattle.bgp_messages.specs.declared.bgp_attributes.fault.StreamFault.{StreamFault};
     ghost use Rattle.edge_streams.specs.Spelled.{IsSpelled};
 
     ghost Value = { Fed Message StreamFault };

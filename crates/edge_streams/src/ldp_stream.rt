@@ -1,15 +1,15 @@
 //! The streams of LDP sessions, by neighbour.
 ghost use Rattle.std.specs.Prelude.{◌≡◌, false, option_map, IfSome, OnOk, OnErr, if◌then◌else◌};
-ghost use Rattle.framing.specs.Feed.{fed, unfed};
-ghost use Rattle.framing.specs.Feeding.{NextIs};
+ghost use Rattle.mv_base.specs.framing.Feed.{fed, unfed};
+ghost use Rattle.mv_base.specs.framing.Feeding.{NextIs};
 ghost use Rattle.indexmap.specs.IndexMap.{get, IsUnique};
 ghost use Rattle.mv_base.specs.declared.ids.NodeId.{NodeId};
-ghost use Rattle.mldp_msgs.specs.Reading.{pdu_front};
+ghost use Rattle.mldp.specs.mldp_msgs.Reading.{pdu_front};
 ghost use Rattle.edge_streams.specs.Kept.{is_node, NextAt};
 ghost use Rattle.edge_streams.specs.Spelled.{IsSpelledLabel};
 
 use indexmap::IndexMap;
-use mldp_msgs::{FeedFault, LabelMessage, LdpFault, Stream};
+use mldp::mldp_msgs::{FeedFault, LabelMessage, LdpFault, Stream};
 use mv_base::{NoMemory, NodeId};
 use std::alloc::Global;
 use std::marker::Model;
@@ -27,9 +27,9 @@ pub(crate) type LdpStreams = IndexMap<NodeId, LdpStream>;
 impl Model for LdpStream {
     ghost use Rattle.std.specs.Prelude.{◌≡◌};
     ghost use Rattle.std.specs.List.{AllByRecursion};
-    ghost use Rattle.framing.specs.Feed.{Fed};
-    ghost use Rattle.mldp_msgs.specs.declared.message.LabelMessage.{LabelMessage};
-    ghost use Rattle.mldp_msgs.specs.declared.fault.LdpFault.{LdpFault};
+    ghost use Rattle.mv_base.specs.framing.Feed.{Fed};
+    ghost use Rattle.mldp.specs.declared.mldp_msgs.message.LabelMessage.{LabelMessage};
+    ghost use Rattle.mldp.specs.declared.mldp_msgs.fault.LdpFault.{LdpFault};
     ghost use Rattle.edge_streams.specs.Spelled.{IsSpelledLabel};
 
     ghost Value = { Fed LabelMessage LdpFault };

@@ -1,11 +1,11 @@
 //! What is wrong with the octets of a session.
 ghost use Rattle.std.specs.Prelude.{◌≡◌};
-ghost use Rattle.session_defs.specs.Message.{BgpFault, LabelFault};
+ghost use Rattle.network_defs.specs.session_defs.Message.{BgpFault, LabelFault};
 ghost use Rattle.edge_streams.specs.Kept.{fault_as};
 ghost use Rattle.edge_streams.specs.Streams.{told_fault};
 
-use bgp_update::StreamFault;
-use mldp_msgs::LdpFault;
+use bgp_messages::bgp_update::StreamFault;
+use mldp::mldp_msgs::LdpFault;
 
 /// The first fault of a session's stream.
 #[derive(Clone, Copy, PartialEq, Eq)]

@@ -1,10 +1,10 @@
 //! The streams of a node's sessions.
 ghost use Rattle.std.specs.Prelude.{◌≡◌, [], map, true, is_some, option_map, All, IfOk, IfSome, OnOk, OnErr};
 ghost use Rattle.std.specs.FinMap as maps;
-ghost use Rattle.framing.specs.Feed.{unfed};
+ghost use Rattle.mv_base.specs.framing.Feed.{unfed};
 ghost use Rattle.scenario_defs.specs.declared.event.Kind.TheVariants as kinds;
-ghost use Rattle.session_defs.specs.Message.{Bgp, Label};
-ghost use Rattle.session_defs.specs.PeerSession.{fault_at, stream_at};
+ghost use Rattle.network_defs.specs.session_defs.Message.{Bgp, Label};
+ghost use Rattle.network_defs.specs.session_defs.PeerSession.{fault_at, stream_at};
 ghost use Rattle.edge_streams.specs.Kept.{session};
 ghost use Rattle.edge_streams.specs.Spelled.{IsSpelled, IsSpelledLabel, SaysWritable, SaysWritableLabel};
 ghost use Rattle.edge_streams.specs.Streams.{with_octets, TakesFirst, told_fault};
@@ -13,9 +13,9 @@ use crate::bgp_stream::{BgpStream, BgpStreams};
 use crate::ldp_stream::{LdpStream, LdpStreams};
 use crate::reason::{SessionReason, bgp_reason, ldp_reason};
 use crate::{bgp_stream, ldp_stream};
-use bgp_update::Message;
+use bgp_messages::bgp_update::Message;
 use indexmap::IndexMap;
-use mldp_msgs::LabelMessage;
+use mldp::mldp_msgs::LabelMessage;
 use mv_base::{NoMemory, NodeId};
 use scenario_defs::Kind;
 use std::alloc::Global;
@@ -33,8 +33,8 @@ pub struct EdgeStreams {
 impl Model for EdgeStreams {
     ghost use Rattle.std.specs.FinMap.{FinMap};
     ghost use Rattle.indexmap.specs.IndexMap.{IsUnique};
-    ghost use Rattle.session_defs.specs.Octets as sessions;
-    ghost use Rattle.session_defs.specs.PeerSession.{peer_cmp};
+    ghost use Rattle.network_defs.specs.session_defs.Octets as sessions;
+    ghost use Rattle.network_defs.specs.session_defs.PeerSession.{peer_cmp};
     ghost use Rattle.edge_streams.specs.Kept.{is_node, streams_of};
     ghost use Rattle.edge_streams.specs.Streams.{streams_code};
 

@@ -3,11 +3,11 @@ use Rattle.std.proofs.Common.{◌≡◌, ℕ, Bool, true, false, List, [], ◌�
 use Rattle.std.specs.Prelude.{if◌then◌else◌}
 use Rattle.std.proofs.lemmas.List.{take_all, take_at}
 use Rattle.std.proofs.lemmas.List.Concat.{flat_map-append}
-use Rattle.bgp_attributes.specs.declared.key.Key.{Key}
-use Rattle.bgp_update.specs.Written.{written}
-use Rattle.table_defs.specs.declared.change.Change.{Change}
-use Rattle.rib_sync.specs.Ribs.{RibOut, flushed}
-use Rattle.rib_sync.specs.Ribs as ribs
+use Rattle.bgp_messages.specs.declared.bgp_attributes.key.Key.{Key}
+use Rattle.bgp_messages.specs.bgp_update.Written.{written}
+use Rattle.mv_base.specs.declared.table_defs.change.Change.{Change}
+use Rattle.edge_tables.specs.rib_sync.Ribs.{RibOut, flushed}
+use Rattle.edge_tables.specs.rib_sync.Ribs as ribs
 use Rattle.edge_defs.specs.Keys.{Value, key_cmp, same_value}
 use Rattle.edge_defs.specs.Messages.{as_update}
 use Rattle.edge_tables.specs.Tables.{IsFront, IsPutPart, PeerTable, pending, put_behind, texts}

@@ -6,24 +6,24 @@ use Rattle.mv_base.specs.declared.addr.Addr.{Addr}
 use Rattle.mv_base.specs.declared.addr.Addr.TheVariants.{V4, V6}
 use Rattle.mv_base.specs.declared.prefix.Prefix.{Prefix}
 use Rattle.mv_base.specs.declared.rd.Rd.{Rd}
-use Rattle.mldp_fec.specs.Spelling as fec
-use Rattle.pmsi_attr.specs.Spelling as tunnels
-use Rattle.pmsi_attr.specs.declared.pmsi.Pmsi.{Pmsi}
-use Rattle.pmsi_attr.specs.declared.pmsi.Tunnel.{Tunnel}
-use Rattle.pmsi_attr.specs.declared.pmsi.Tunnel.TheVariants as tunnel_kinds
-use Rattle.mvpn_nlri.specs.declared.route.Afi.TheVariants.{Ipv4, Ipv6}
-use Rattle.mvpn_nlri.proofs.WritingLemmas.{fields_room}
-use Rattle.bgp_attributes.specs.Spelling.{octets_for}
-use Rattle.bgp_attributes.specs.declared.family.Family.{Family}
-use Rattle.bgp_attributes.specs.declared.family.Family.TheVariants.{Mcast, Vpn}
-use Rattle.bgp_attributes.specs.declared.key.Key.{Key}
-use Rattle.bgp_attributes.specs.declared.key.Key.TheVariants as keys
-use Rattle.bgp_attributes.specs.declared.update.Advert.{Advert}
-use Rattle.bgp_attributes.specs.declared.update.Change.TheVariants.{Reach, Unreach}
-use Rattle.bgp_update.specs.Written.{advert_text, advertised, attribute, attribute_head, comms_octets, family_of, hop_of, key_text, message_text, reach_value, tunnel_text, unreach_value, vpn_text, withdrawn, written, IsNextHop, IsTunnel, IsVpn, IsWritableAdvert, IsWritableKey}
-use Rattle.bgp_update.proofs.Appending.{comms_len}
+use Rattle.bgp_values.specs.mldp.mldp_fec.Spelling as fec
+use Rattle.bgp_values.specs.pmsi_attr.Spelling as tunnels
+use Rattle.bgp_values.specs.declared.pmsi_attr.pmsi.Pmsi.{Pmsi}
+use Rattle.bgp_values.specs.declared.pmsi_attr.pmsi.Tunnel.{Tunnel}
+use Rattle.bgp_values.specs.declared.pmsi_attr.pmsi.Tunnel.TheVariants as tunnel_kinds
+use Rattle.bgp_values.specs.declared.mvpn_nlri.route.Afi.TheVariants.{Ipv4, Ipv6}
+use Rattle.bgp_values.proofs.mvpn_nlri.WritingLemmas.{fields_room}
+use Rattle.bgp_messages.specs.bgp_attributes.Spelling.{octets_for}
+use Rattle.bgp_messages.specs.declared.bgp_attributes.family.Family.{Family}
+use Rattle.bgp_messages.specs.declared.bgp_attributes.family.Family.TheVariants.{Mcast, Vpn}
+use Rattle.bgp_messages.specs.declared.bgp_attributes.key.Key.{Key}
+use Rattle.bgp_messages.specs.declared.bgp_attributes.key.Key.TheVariants as keys
+use Rattle.bgp_messages.specs.declared.bgp_attributes.update.Advert.{Advert}
+use Rattle.bgp_messages.specs.declared.bgp_attributes.update.Change.TheVariants.{Reach, Unreach}
+use Rattle.bgp_messages.specs.bgp_update.Written.{advert_text, advertised, attribute, attribute_head, comms_octets, family_of, hop_of, key_text, message_text, reach_value, tunnel_text, unreach_value, vpn_text, withdrawn, written, IsNextHop, IsTunnel, IsVpn, IsWritableAdvert, IsWritableKey}
+use Rattle.bgp_messages.proofs.bgp_update.Appending.{comms_len}
 use Rattle.edge_defs.specs.Keys.{Value}
-use Rattle.route_order.specs.Values.{IsWritableValue}
+use Rattle.edge_routes.specs.route_order.Values.{IsWritableValue}
 use Rattle.edge_tables.specs.Tables.{advert_of}
 
 -- ---- what is announced has a spelling

@@ -2,7 +2,7 @@
 use Rattle.std.specs.Prelude.{◌≡◌, ◌==◌, ℕ, Bool, List, map}
 use Rattle.std.specs.FinMap.{from_entries}
 use Rattle.mv_base.specs.declared.ids.NodeId.{NodeId}
-use Rattle.rib_sync.specs.Ribs.{RibOut, rib_out}
+use Rattle.edge_tables.specs.rib_sync.Ribs.{RibOut, rib_out}
 use Rattle.edge_defs.specs.Keys.{Value, key_cmp}
 use Rattle.edge_tables.specs.Tables.{PeerTable, Tables}
 use Rattle.edge_tables.specs.declared.slot.Slot.{Slot}

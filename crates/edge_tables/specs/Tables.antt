@@ -9,16 +9,16 @@ use Rattle.mv_base.specs.declared.addr.Addr.{Addr}
 use Rattle.mv_base.specs.contracts.addr.Addr as addrs
 use Rattle.mv_base.specs.declared.ids.NodeId.{NodeId}
 use Rattle.mv_base.specs.contracts.ids.NodeId as nodes
-use Rattle.pmsi_attr.specs.declared.pmsi.Pmsi.{Pmsi}
-use Rattle.pmsi_attr.specs.contracts.pmsi.Pmsi as pmsis
-use Rattle.route_targets.specs.declared.communities.ExtComm.{ExtComm}
-use Rattle.route_targets.specs.contracts.communities.ExtComm as comms
-use Rattle.bgp_attributes.specs.declared.key.Key.{Key}
-use Rattle.bgp_attributes.specs.contracts.key.Key as keys
-use Rattle.bgp_attributes.specs.declared.update.Advert.{Advert}
-use Rattle.bgp_update.specs.Written.{written}
-use Rattle.table_defs.specs.declared.change.Change.{Change}
-use Rattle.table_defs.specs.Changes.{changes}
+use Rattle.bgp_values.specs.declared.pmsi_attr.pmsi.Pmsi.{Pmsi}
+use Rattle.bgp_values.specs.contracts.pmsi_attr.pmsi.Pmsi as pmsis
+use Rattle.mv_base.specs.declared.route_targets.communities.ExtComm.{ExtComm}
+use Rattle.mv_base.specs.contracts.route_targets.communities.ExtComm as comms
+use Rattle.bgp_messages.specs.declared.bgp_attributes.key.Key.{Key}
+use Rattle.bgp_messages.specs.contracts.bgp_attributes.key.Key as keys
+use Rattle.bgp_messages.specs.declared.bgp_attributes.update.Advert.{Advert}
+use Rattle.bgp_messages.specs.bgp_update.Written.{written}
+use Rattle.mv_base.specs.declared.table_defs.change.Change.{Change}
+use Rattle.mv_base.specs.table_defs.Changes.{changes}
 use Rattle.label_defs.specs.Keys.{node_cmp}
 use Rattle.edge_defs.specs.Edge.{Control}
 use Rattle.edge_defs.specs.Held.{held_for, told}

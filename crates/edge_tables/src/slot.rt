@@ -3,10 +3,10 @@ ghost use Rattle.std.specs.Prelude.{◌≡◌, [], OnOk, OnErr};
 ghost use Rattle.edge_tables.specs.Tables.{IsPutPart, downed, fresh, put_behind, raised, with_route, without_route};
 ghost use Rattle.edge_tables.specs.Slots.{peer_table};
 
+use crate::rib_sync::Outbox;
 use crate::writing::put_changes;
+use edge_routes::route_order::{TableKey, TableValue};
 use mv_base::{Bytes, NoMemory, NodeId};
-use rib_sync::Outbox;
-use route_order::{TableKey, TableValue};
 use std::alloc::Global;
 use std::mem;
 

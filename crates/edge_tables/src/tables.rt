@@ -7,8 +7,8 @@ ghost use Rattle.edge_tables.specs.Tables.{with_route, without_route};
 ghost use Rattle.edge_tables.specs.Slots.{Becomes, is_of, peer_table};
 
 use crate::slot::Slot;
+use edge_routes::route_order::{TableKey, TableValue};
 use mv_base::{Bytes, NoMemory, NodeId};
-use route_order::{TableKey, TableValue};
 use std::alloc::Global;
 use std::marker::Model;
 

@@ -1,18 +1,18 @@
 //! The UPDATE messages of changes.
 ghost use Rattle.std.specs.Prelude.{◌≡◌, ◌≤◌, ◌++◌, length, take, IfOk, OnOk, OnErr};
-ghost use Rattle.bgp_attributes.specs.declared.update.Change.TheVariants as updates;
-ghost use Rattle.bgp_update.specs.Written.{IsWritable, IsWritableAdvert, written};
-ghost use Rattle.table_defs.specs.declared.change.Change.TheVariants as changes;
+ghost use Rattle.bgp_messages.specs.declared.bgp_attributes.update.Change.TheVariants as updates;
+ghost use Rattle.bgp_messages.specs.bgp_update.Written.{IsWritable, IsWritableAdvert, written};
+ghost use Rattle.mv_base.specs.declared.table_defs.change.Change.TheVariants as changes;
 ghost use Rattle.edge_defs.specs.Messages.{as_update};
 ghost use Rattle.edge_tables.specs.Tables.{IsFront, advert_of, texts};
 
-use bgp_attributes::{Advert, Comms};
-use bgp_update::EncodeFault;
+use crate::rib_sync::Pending;
+use bgp_messages::bgp_attributes::{Advert, Comms};
+use bgp_messages::bgp_update::EncodeFault;
+use edge_routes::route_order::{TableKey, TableValue};
+use mv_base::table_defs::Change;
 use mv_base::{Bytes, NoMemory};
-use rib_sync::Pending;
-use route_order::{TableKey, TableValue};
 use std::alloc::Global;
-use table_defs::Change;
 
 /// The route that is announced.
 #[tactic(auto, using(crate::proofs::WrittenLemmas::advert_writable))]
@@ -36,7 +36,7 @@ fn advert(alloc: Global, key: &TableKey, value: &TableValue) -> Result<Advert, N
 fn update(
     alloc: Global,
     change: &Change<TableKey, TableValue>,
-) -> Result<bgp_attributes::Change, NoMemory>
+) -> Result<bgp_messages::bgp_attributes::Change, NoMemory>
     ensures update { IfOk result (λ update. update ≡ as_update change.now) }
     ensures writable { IfOk result (λ update. IsWritable update) }
     ensures short { IfOk result (λ update. length (written update) ≤ 4096) }
@@ -44,9 +44,9 @@ fn update(
     match change {
         Change::Reach(key, value) => {
             let advert = advert(alloc, key, value)?;
-            Ok(bgp_attributes::Change::Reach(advert))
+            Ok(bgp_messages::bgp_attributes::Change::Reach(advert))
         }
-        Change::Unreach(key) => Ok(bgp_attributes::Change::Unreach(*key.key())),
+        Change::Unreach(key) => Ok(bgp_messages::bgp_attributes::Change::Unreach(*key.key())),
     }
 }
 
@@ -56,7 +56,7 @@ fn put_change(out: &mut Bytes, change: &Change<TableKey, TableValue>) -> Result<
     ensures err { OnErr result (out.new ≡ out.old) }
 {
     let update = update(out.alloc(), change)?;
-    match bgp_update::encode(out.alloc(), &update) {
+    match bgp_messages::bgp_update::encode(out.alloc(), &update) {
         Ok(text) => out.extend(text.as_slice()),
         Err(EncodeFault::NoMemory) => Err(NoMemory),
         Err(EncodeFault::TooLong) => unreachable!(),

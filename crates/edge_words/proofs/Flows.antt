@@ -10,10 +10,10 @@ use Rattle.mv_base.specs.Number.{◌>>?◌, only_if}
 use Rattle.mv_base.specs.declared.addr.Addr.{Addr}
 use Rattle.mv_base.specs.declared.ids.IfaceId.{IfaceId}
 use Rattle.mv_base.specs.declared.ids.VrfId.{VrfId}
-use Rattle.pim_defs.specs.Entries.{expiry_at}
-use Rattle.pim_defs.specs.Expiry.{counts}
-use Rattle.pim_defs.specs.declared.expiry.Expiry.{Expiry}
-use Rattle.pim_defs.proofs.KeyLemmas.{entry_cmp_exact}
+use Rattle.edge_defs.specs.pim_defs.Entries.{expiry_at}
+use Rattle.edge_defs.specs.pim_defs.Expiry.{counts}
+use Rattle.edge_defs.specs.pim_defs.declared.expiry.Expiry.{Expiry}
+use Rattle.edge_defs.proofs.pim_defs.KeyLemmas.{entry_cmp_exact}
 use Rattle.scenario_defs.specs.declared.event.IfaceEntry.{IfaceEntry}
 use Rattle.scenario_defs.specs.declared.event.JoinEntry.TheVariants as entries
 use Rattle.label_defs.specs.Members.{in_order}
@@ -25,10 +25,10 @@ use Rattle.edge_defs.specs.Originated.{is_iface_of, notes_of}
 use Rattle.edge_defs.specs.Place.{EdgePlace, OwnVrf, own_vrfs}
 use Rattle.edge_defs.specs.Upstream.{upstream_for}
 use Rattle.edge_defs.proofs.KeyLemmas.{note_total, note_exact, flow_total, flow_exact}
-use Rattle.calm_laws.proofs.Lists.{passes, among_front, among_behind, among_either, among_map, map_among, among_flat_map, flat_map_among, filter_among, among_filter, any_from, any_among, among_found, found_among}
-use Rattle.calm_laws.proofs.Maps.{some_found, found_stands, get_entry}
-use Rattle.calm_laws.proofs.Upstreams.{chained}
-use Rattle.calm_laws.proofs.Vrfs.{one_number}
+use Rattle.edge_words.proofs.calm_laws.Lists.{passes, among_front, among_behind, among_either, among_map, map_among, among_flat_map, flat_map_among, filter_among, among_filter, any_from, any_among, among_found, found_among}
+use Rattle.edge_words.proofs.calm_laws.Maps.{some_found, found_stands, get_entry}
+use Rattle.edge_words.proofs.calm_laws.Upstreams.{chained}
+use Rattle.edge_words.proofs.calm_laws.Vrfs.{one_number}
 use Rattle.edge_words.specs.Asked.{IsIfaceOf, IsNoted, IsTold, IsKnown, Asks, IsAsked}
 use Rattle.edge_words.proofs.Members.{listed, contained, taken_of, table_of, iface_of, of_iface, ifaces_from, ifaces_to, one_flow}
 

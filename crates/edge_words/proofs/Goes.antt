@@ -11,8 +11,8 @@ use Rattle.mv_base.specs.declared.ids.IfaceId.{IfaceId}
 use Rattle.mv_base.specs.declared.ids.NodeId.{NodeId}
 use Rattle.mv_base.specs.declared.ids.SiteId.{SiteId}
 use Rattle.mv_base.specs.declared.rd.Rd.{Rd}
-use Rattle.mldp_fec.specs.declared.fec.Fec.{Fec}
-use Rattle.bgp_attributes.specs.declared.key.Key.{Key}
+use Rattle.label_defs.specs.mldp.declared.mldp_fec.fec.Fec.{Fec}
+use Rattle.bgp_messages.specs.declared.bgp_attributes.key.Key.{Key}
 use Rattle.scenario_defs.specs.Vpn.{is_of_site}
 use Rattle.scenario_defs.specs.declared.scenario.Iface.{Iface}
 use Rattle.scenario_defs.specs.declared.scenario.Scenario.{Scenario}
@@ -30,7 +30,7 @@ use Rattle.edge_defs.specs.Imported.{FlowRoute, ImportedSelective, found_in, imp
 use Rattle.edge_defs.specs.Place.{EdgePlace, OwnVrf, addr_of, own_vrfs}
 use Rattle.edge_defs.specs.Tunnels.{transmit_tunnel, is_joined_by, is_joined_in}
 use Rattle.edge_defs.specs.Upstream.{upstream_for}
-use Rattle.calm_laws.proofs.Lists.{among_flat_map, flat_map_among, filter_among, among_filter, any_from, any_among, among_found, found_among}
+use Rattle.edge_words.proofs.calm_laws.Lists.{among_flat_map, flat_map_among, filter_among, among_filter, any_from, any_among, among_found, found_among}
 use Rattle.edge_words.specs.Goes.{IsOutside, IsAsking, IsJoined, EntersOut, EntersOn, IsImported, ArrivesOut, ArrivesOn}
 use Rattle.edge_words.proofs.Flows.{asks_is, is_asks}
 use Rattle.edge_words.proofs.Members.{listed, contained, taken_of, table_of, ifaces_from, ifaces_to, one_flow}

@@ -12,30 +12,30 @@ use Rattle.mv_base.specs.declared.addr.Addr.TheVariants.{V4}
 use Rattle.mv_base.specs.declared.ids.NodeId.{NodeId}
 use Rattle.mv_base.specs.declared.ids.SiteId.{SiteId}
 use Rattle.mv_base.specs.declared.rd.Rd.{Rd}
-use Rattle.bgp_attributes.specs.declared.key.Key.{Key}
-use Rattle.bgp_attributes.specs.declared.key.Key.TheVariants.{Mcast, Unicast}
+use Rattle.bgp_messages.specs.declared.bgp_attributes.key.Key.{Key}
+use Rattle.bgp_messages.specs.declared.bgp_attributes.key.Key.TheVariants.{Mcast, Unicast}
 use Rattle.scenario_defs.specs.Home.{local_routes}
 use Rattle.scenario_defs.specs.Rules.{Rules}
 use Rattle.scenario_defs.specs.declared.scenario.Node.{Node}
 use Rattle.scenario_defs.specs.declared.scenario.Route.{Route}
 use Rattle.scenario_defs.specs.declared.scenario.Scenario.{Scenario}
 use Rattle.scenario_defs.proofs.RuleLemmas.{pair_at}
-use Rattle.choice_defs.specs.Choice as choice
-use Rattle.choice_defs.specs.Choice.{AreOfEdges, IsChosen, IsUncovered, best_route, of_site}
-use Rattle.choice_defs.specs.declared.known_route.KnownRoute.{KnownRoute}
-use Rattle.choice_defs.specs.declared.origin.Origin.{Origin}
-use Rattle.choice_defs.specs.declared.origin.Origin.TheVariants as origins
-use Rattle.choice_defs.proofs.BestLemmas.{Best, BestIs, best, opposite}
-use Rattle.choice_defs.proofs.ChoiceLemmas.{chosen_when}
+use Rattle.edge_defs.specs.choice_defs.Choice as choice
+use Rattle.edge_defs.specs.choice_defs.Choice.{AreOfEdges, IsChosen, IsUncovered, best_route, of_site}
+use Rattle.edge_defs.specs.choice_defs.declared.known_route.KnownRoute.{KnownRoute}
+use Rattle.edge_defs.specs.choice_defs.declared.origin.Origin.{Origin}
+use Rattle.edge_defs.specs.choice_defs.declared.origin.Origin.TheVariants as origins
+use Rattle.edge_defs.proofs.choice_defs.BestLemmas.{Best, BestIs, best, opposite}
+use Rattle.edge_defs.proofs.choice_defs.ChoiceLemmas.{chosen_when}
 use Rattle.selective_defs.specs.Selective.{Among}
 use Rattle.label_defs.proofs.KeyLemmas.{node_cmp_total}
 use Rattle.edge_defs.specs.Edge.{Upstream, Site, Remote, TakenRoute, Taken, Control}
 use Rattle.edge_defs.specs.Imported.{JoinBy, is_admitted, join_by, taken_from}
 use Rattle.edge_defs.specs.Place.{EdgePlace, OwnVrf, addr_of}
 use Rattle.edge_defs.specs.Upstream.{known_route, known_from, known_routes, upstream_by, costs_of, upstream_for}
-use Rattle.calm_laws.proofs.Lists.{among_choice, among_either, map_among, flat_map_among, found_among}
-use Rattle.calm_laws.proofs.Maps.{entry_get}
-use Rattle.calm_laws.proofs.Upstreams.{chained}
+use Rattle.edge_words.proofs.calm_laws.Lists.{among_choice, among_either, map_among, flat_map_among, found_among}
+use Rattle.edge_words.proofs.calm_laws.Maps.{entry_get}
+use Rattle.edge_words.proofs.calm_laws.Upstreams.{chained}
 use Rattle.edge_words.specs.Known.{AreNodes, Says}
 use Rattle.edge_words.proofs.Members.{taken_of}
 

@@ -6,8 +6,8 @@ use Rattle.std.specs.FinSet as sets
 use Rattle.std.proofs.lemmas.Bool.{eq-eqb, eqb-true}
 use Rattle.mv_base.specs.declared.ids.NodeId.{NodeId}
 use Rattle.mv_base.specs.declared.ids.VrfId.{VrfId}
-use Rattle.mldp_fec.specs.declared.fec.Fec.{Fec}
-use Rattle.bgp_attributes.specs.declared.key.Key.{Key}
+use Rattle.label_defs.specs.mldp.declared.mldp_fec.fec.Fec.{Fec}
+use Rattle.bgp_messages.specs.declared.bgp_attributes.key.Key.{Key}
 use Rattle.label_defs.proofs.KeyLemmas.{fec_cmp_total, fec_cmp_exact}
 use Rattle.selective_defs.specs.Selective.{Among, wanted}
 use Rattle.selective_defs.specs.declared.learned_route.LearnedRoute.{LearnedRoute}
@@ -17,8 +17,8 @@ use Rattle.edge_defs.specs.Imported.{ImportedSelective, taken_from, imported_inc
 use Rattle.edge_defs.specs.Place.{EdgePlace, OwnVrf, addr_of, own_vrfs}
 use Rattle.edge_defs.specs.Tunnels.{learned_route, learned_routes, inclusive_tunnels, flow_tunnels, flows_of, tunnels_of, leaves}
 use Rattle.edge_defs.proofs.KeyLemmas.{flow_total, flow_exact, key_total, key_exact}
-use Rattle.calm_laws.proofs.Lists.{among_front, among_behind, among_either, among_map, map_among, among_flat_map, flat_map_among, filter_among, among_filter, among_found, found_among}
-use Rattle.calm_laws.proofs.Maps.{entry_get, get_entry}
+use Rattle.edge_words.proofs.calm_laws.Lists.{among_front, among_behind, among_either, among_map, map_among, among_flat_map, flat_map_among, filter_among, among_filter, among_found, found_among}
+use Rattle.edge_words.proofs.calm_laws.Maps.{entry_get, get_entry}
 use Rattle.edge_words.specs.Leaf.{IsInclusive, IsSelective, IsLearned}
 use Rattle.edge_words.proofs.Members.{from_list, to_list, taken_of, table_of}
 

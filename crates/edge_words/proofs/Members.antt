@@ -13,7 +13,7 @@ use Rattle.mv_base.specs.declared.addr.Addr.{Addr}
 use Rattle.mv_base.specs.declared.ids.IfaceId.{IfaceId}
 use Rattle.mv_base.specs.declared.ids.NodeId.{NodeId}
 use Rattle.mv_base.specs.declared.ids.VrfId.{VrfId}
-use Rattle.bgp_attributes.specs.declared.key.Key.{Key}
+use Rattle.bgp_messages.specs.declared.bgp_attributes.key.Key.{Key}
 use Rattle.scenario_defs.specs.Vpn.{is_of_vrf, ifaces_where}
 use Rattle.scenario_defs.specs.declared.scenario.Iface.{Iface}
 use Rattle.scenario_defs.specs.declared.scenario.Scenario.{Scenario}
@@ -27,9 +27,9 @@ use Rattle.edge_defs.specs.Imported.{FlowRoute, taken_from}
 use Rattle.edge_defs.specs.Keys.{key_cmp}
 use Rattle.edge_defs.specs.Originated.{is_iface_of}
 use Rattle.edge_defs.proofs.KeyLemmas.{key_total, key_exact}
-use Rattle.calm_laws.proofs.Lists.{any_from, any_among}
-use Rattle.calm_laws.proofs.Maps.{entry_get, get_entry}
-use Rattle.calm_laws.proofs.Tables.{taken_is}
+use Rattle.edge_words.proofs.calm_laws.Lists.{any_from, any_among}
+use Rattle.edge_words.proofs.calm_laws.Maps.{entry_get, get_entry}
+use Rattle.edge_words.proofs.calm_laws.Tables.{taken_is}
 use Rattle.edge_words.specs.Asked.{IsIfaceOf}
 
 pub either : (a b : Bool) → (a ≡ true → b ≡ true) → (b ≡ true → a ≡ true) → a ≡ b

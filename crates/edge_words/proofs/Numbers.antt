@@ -13,10 +13,10 @@ use Rattle.edge_defs.specs.Edge.{VrfPattern, pattern_cmp, Selected, Control}
 use Rattle.edge_defs.specs.Steps.{is_used}
 use Rattle.edge_defs.specs.Tunnels.{selection_of, selections_of}
 use Rattle.edge_defs.proofs.KeyLemmas.{pattern_total, pattern_exact}
-use Rattle.calm_laws.proofs.Lists.{among_map, among_filter, any_from, any_among, not_both}
-use Rattle.calm_laws.proofs.Maps.{entry_get, get_entry}
+use Rattle.edge_words.proofs.calm_laws.Lists.{among_map, among_filter, any_from, any_among, not_both}
+use Rattle.edge_words.proofs.calm_laws.Maps.{entry_get, get_entry}
 use Rattle.edge_words.specs.Known.{IsLeastFree, IsNumbered}
-use Rattle.table_laws.proofs.CompareLemmas.{own_key}
+use Rattle.edge_defs.proofs.table_laws.CompareLemmas.{own_key}
 
 length-map : {A B : Type 0} (f : A → B) (xs : List A) → length (map f xs) ≡ length xs
 length-map f [] = refl

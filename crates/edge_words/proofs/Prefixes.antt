@@ -12,13 +12,13 @@ use Rattle.mv_base.specs.declared.addr.Addr.{Addr}
 use Rattle.mv_base.specs.declared.addr.Addr.TheVariants.{V4, V6}
 use Rattle.mv_base.specs.declared.ids.SiteId.{SiteId}
 use Rattle.mv_base.specs.declared.prefix.Prefix.{Prefix}
-use Rattle.bgp_attributes.specs.Spelling.{address, cleared, padded}
-use Rattle.bgp_attributes.proofs.PrefixLemmas.{address_again}
+use Rattle.bgp_messages.specs.bgp_attributes.Spelling.{address, cleared, padded}
+use Rattle.bgp_messages.proofs.bgp_attributes.PrefixLemmas.{address_again}
 use Rattle.scenario_defs.specs.Home.{routes_of_site, routes_from}
 use Rattle.scenario_defs.specs.declared.scenario.Route.{Route}
 use Rattle.scenario_defs.specs.declared.scenario.Site.{Site}
 use Rattle.selective_defs.specs.Selective.{Among}
-use Rattle.calm_laws.proofs.Lists.{among_either, map_among}
+use Rattle.edge_words.proofs.calm_laws.Lists.{among_either, map_among}
 
 -- ---- places in lists
 

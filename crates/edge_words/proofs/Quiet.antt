@@ -8,12 +8,12 @@ use Rattle.std.specs.Cmp.{IsTotalOrder}
 use Rattle.std.proofs.lemmas.Bool.Decides.{nat_tests}
 use Rattle.std.proofs.lemmas.List.Sums.{sum_by-cons}
 use Rattle.mv_base.specs.declared.ids.NodeId.{NodeId}
-use Rattle.bgp_attributes.specs.declared.key.Key.{Key}
-use Rattle.pim_defs.specs.Entries as entries
-use Rattle.pim_defs.specs.Expiry.{is_after, remaining}
-use Rattle.pim_defs.specs.declared.expiry.Expiry.{Expiry}
-use Rattle.pim_defs.proofs.EntriesLemmas.{get-kept}
-use Rattle.pim_defs.proofs.KeyLemmas.{entry_cmp_total, entry_cmp_exact}
+use Rattle.bgp_messages.specs.declared.bgp_attributes.key.Key.{Key}
+use Rattle.edge_defs.specs.pim_defs.Entries as entries
+use Rattle.edge_defs.specs.pim_defs.Expiry.{is_after, remaining}
+use Rattle.edge_defs.specs.pim_defs.declared.expiry.Expiry.{Expiry}
+use Rattle.edge_defs.proofs.pim_defs.EntriesLemmas.{get-kept}
+use Rattle.edge_defs.proofs.pim_defs.KeyLemmas.{entry_cmp_total, entry_cmp_exact}
 use Rattle.label_defs.specs.LabelData as labels
 use Rattle.label_defs.specs.LabelData.{is_rested, is_hold_due}
 use Rattle.label_defs.specs.Steps as label_steps
@@ -30,9 +30,9 @@ use Rattle.edge_defs.specs.Imported.{ImportedSelective, taken_from, imported_sel
 use Rattle.edge_defs.specs.Place.{EdgePlace, OwnVrf, addr_of, own_vrfs, label_place}
 use Rattle.edge_defs.specs.Steps.{selection_run, is_imported, timed}
 use Rattle.edge_defs.proofs.KeyLemmas.{pattern_total, pattern_exact}
-use Rattle.edge_laws.proofs.Taken.{run_at, table_in, get-peers_run, run_taken}
-use Rattle.calm_laws.proofs.Lists.{among_map, map_among, any_from}
-use Rattle.calm_laws.proofs.Maps.{entry_get, get_entry, find-map}
+use Rattle.edge_words.proofs.edge_laws.Taken.{run_at, table_in, get-peers_run, run_taken}
+use Rattle.edge_words.proofs.calm_laws.Lists.{among_map, map_among, any_from}
+use Rattle.edge_words.proofs.calm_laws.Maps.{entry_get, get_entry, find-map}
 use Rattle.edge_words.specs.Quiet.{NoneDue}
 use Rattle.edge_words.proofs.Members.{taken_of, table_of}
 
@@ -214,7 +214,7 @@ module _ (place : EdgePlace) (now : ℕ) (edge : EdgeData) where
 module _ (place : EdgePlace) (now : ℕ) (edge : EdgeData) where
   -- the edge behind its timers, before its trees settle
   abbrev behind : EdgeData
-  behind = record { control = timed place now edge.control; part = label_steps.timed (label_place place.scenario place.core place.me) now edge.part }
+  behind = record edge { control = timed place now edge.control; part = label_steps.timed (label_place place.scenario place.core place.me) now edge.part }
 
   woken_later : (usage : LabelUse) (until : ℕ) → woken now usage ≡ uses.Resting until → now < until
   woken_later (uses.Mapped fec upstream) until h = absurd cc

@@ -6,9 +6,9 @@ use Rattle.mv_base.specs.declared.addr.Addr.{Addr}
 use Rattle.mv_base.specs.declared.ids.IfaceId.{IfaceId}
 use Rattle.mv_base.specs.declared.ids.NodeId.{NodeId}
 use Rattle.mv_base.specs.declared.ids.VrfId.{VrfId}
-use Rattle.bgp_attributes.specs.declared.key.Key.{Key}
-use Rattle.pim_defs.specs.Entries.{expiry_at}
-use Rattle.pim_defs.specs.Expiry.{counts}
+use Rattle.bgp_messages.specs.declared.bgp_attributes.key.Key.{Key}
+use Rattle.edge_defs.specs.pim_defs.Entries.{expiry_at}
+use Rattle.edge_defs.specs.pim_defs.Expiry.{counts}
 use Rattle.scenario_defs.specs.declared.event.JoinEntry.{JoinEntry}
 use Rattle.scenario_defs.specs.declared.event.JoinEntry.TheVariants as entries
 use Rattle.scenario_defs.specs.declared.scenario.Iface.{Iface}

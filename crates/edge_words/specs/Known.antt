@@ -5,8 +5,8 @@ use Rattle.std.specs.FinMap.{FinMap}
 use Rattle.mv_base.specs.declared.ids.NodeId.{NodeId}
 use Rattle.mv_base.specs.declared.ids.VrfId.{VrfId}
 use Rattle.mv_base.specs.declared.pattern.Pattern.{Pattern}
-use Rattle.choice_defs.specs.declared.origin.Origin.{Origin}
-use Rattle.choice_defs.specs.declared.origin.Origin.TheVariants as origins
+use Rattle.edge_defs.specs.choice_defs.declared.origin.Origin.{Origin}
+use Rattle.edge_defs.specs.choice_defs.declared.origin.Origin.TheVariants as origins
 use Rattle.edge_defs.specs.Edge.{VrfPattern, pattern_cmp, Selected, Import, Upstream, Site, Remote, Control}
 use Rattle.edge_defs.specs.Place.{EdgePlace}
 use Rattle.edge_defs.specs.Steps.{with_selection}

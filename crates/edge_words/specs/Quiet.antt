@@ -2,10 +2,10 @@
 use Rattle.std.specs.Prelude.{◌≡◌, ◌<◌, ◌⊎◌, ℕ, ◌+◌, true, slice_get, Some}
 use Rattle.std.specs.FinMap as maps
 use Rattle.mv_base.specs.declared.ids.NodeId.{NodeId}
-use Rattle.bgp_attributes.specs.declared.key.Key.{Key}
+use Rattle.bgp_messages.specs.declared.bgp_attributes.key.Key.{Key}
 use Rattle.scenario_defs.specs.declared.event.IfaceEntry.{IfaceEntry}
-use Rattle.pim_defs.specs.declared.expiry.Expiry.{Expiry}
-use Rattle.pim_defs.specs.Expiry.{is_after}
+use Rattle.edge_defs.specs.pim_defs.declared.expiry.Expiry.{Expiry}
+use Rattle.edge_defs.specs.pim_defs.Expiry.{is_after}
 use Rattle.label_defs.specs.declared.end.End.{End}
 use Rattle.label_defs.specs.declared.label_use.LabelUse.TheVariants as uses
 use Rattle.selective_defs.specs.Selective.{Among}

@@ -8,10 +8,10 @@ ghost use Rattle.mv_base.specs.declared.ids.IfaceId.{IfaceId};
 ghost use Rattle.mv_base.specs.declared.ids.SiteId.{SiteId};
 ghost use Rattle.mv_base.specs.declared.ids.VrfId.{VrfId};
 ghost use Rattle.mv_base.specs.declared.pattern.Pattern.{Pattern};
-ghost use Rattle.mldp_fec.specs.declared.fec.Fec.{Fec};
+ghost use Rattle.label_defs.specs.mldp.declared.mldp_fec.fec.Fec.{Fec};
 ghost use Rattle.scenario_defs.specs.Rules.{Rules};
-ghost use Rattle.choice_defs.specs.Choice.{AreOfEdges, IsChosen, IsUncovered};
-ghost use Rattle.choice_defs.specs.declared.origin.Origin.{Origin};
+ghost use Rattle.edge_defs.specs.choice_defs.Choice.{AreOfEdges, IsChosen, IsUncovered};
+ghost use Rattle.edge_defs.specs.choice_defs.declared.origin.Origin.{Origin};
 ghost use Rattle.label_defs.specs.declared.branch.Branch.{Branch};
 ghost use Rattle.selective_defs.specs.Selective.{Among};
 ghost use Rattle.selective_defs.specs.declared.learned_route.LearnedRoute.{LearnedRoute};
@@ -75,7 +75,7 @@ pub fn none_is_due()
 /// A run of the timers leaves none of them due.
 pub fn timers_leave_none_due()
     ensures { (place : EdgePlace) (now : ℕ) (edge : EdgeData) → NoneDue place now
-        (record {
+        (record edge {
           control = timed place now edge.control;
           part = label_steps.timed (label_place place.scenario place.core place.me) now edge.part;
         }) }

@@ -1,6 +1,6 @@
 //! Calls that take memory, where there is some, and octets that come in pieces.
-use mldp_fec::{Fec, FecKind, Opaque, decode};
-use mldp_msgs::{LabelMessage, Stream, encode, is_mapped};
+use mldp::mldp_fec::{Fec, FecKind, Opaque, decode};
+use mldp::mldp_msgs::{LabelMessage, Stream, encode, is_mapped};
 use mv_base::{Addr, Bytes, NoMemory};
 use std::alloc::Global;
 use std::test::*;

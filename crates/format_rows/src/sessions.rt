@@ -1,6 +1,8 @@
 //! The laws at numbers as states and calls.
 
-use session_defs::{a_message_cut_in_two, moves_deliver, octets_carry_messages};
+use edge_streams::of_network_defs::session_defs::{
+    a_message_cut_in_two, moves_deliver, octets_carry_messages,
+};
 
 #[test]
 fn numbers() {

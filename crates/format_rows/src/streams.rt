@@ -1,8 +1,8 @@
 //! Octets of sessions that come in pieces, their first faults, and sessions that come up again.
-use bgp_update::{Message, StreamFault};
+use bgp_messages::bgp_update::{Message, StreamFault};
 use edge_streams::{EdgeStreams, SessionReason};
-use mldp_fec::FecKind;
-use mldp_msgs::{LabelMessage, LdpFault};
+use mldp::mldp_fec::FecKind;
+use mldp::mldp_msgs::{LabelMessage, LdpFault};
 use mv_base::NodeId;
 use scenario_defs::Kind;
 use std::test::*;

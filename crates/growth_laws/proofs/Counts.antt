@@ -1,18 +1,18 @@
 -- As many labels at most are mapped to some trees as these are, where each of them has one at most.
-use Rattle.std.proofs.Common.{◌≡◌, ℕ, ◌+◌, ◌≤◌, suc, Bool, true, false, cond, ◌||◌, List, [], ◌∷◌, length, count_by, slice_get, Some, None, inl, inr, refl, ap, ◌∙◌, arith}
+use Rattle.std.proofs.Common.{◌≡◌, ℕ, ◌+◌, ◌≤◌, suc, Bool, true, false, not, cond, ◌||◌, List, [], ◌∷◌, length, count_by, slice_get, Some, None, inl, inr, refl, ap, ◌∙◌, arith}
 use Rattle.std.proofs.lemmas.Bool.{cases_Bool, false_from_ne_true, or_left, or_right}
 use Rattle.mv_base.specs.Lists.{Among}
 use Rattle.mv_base.specs.declared.ids.NodeId.{NodeId}
-use Rattle.mldp_fec.specs.declared.fec.Fec.{Fec}
+use Rattle.mldp.specs.declared.mldp_fec.fec.Fec.{Fec}
 use Rattle.label_defs.specs.declared.label_use.LabelUse.{LabelUse}
 use Rattle.label_defs.specs.declared.label_use.LabelUse.TheVariants as uses
-use Rattle.label_defs.specs.LabelData.{Place, LabelData, same_fec, is_mapped, free_label}
+use Rattle.label_defs.specs.LabelData.{Place, LabelData, is_free, same_fec, is_mapped, free_label}
 use Rattle.label_defs.specs.Settled.{Maps}
 use Rattle.label_defs.proofs.CountLemmas.{count_none}
 use Rattle.label_defs.proofs.KeyLemmas.{same_fec_from}
 use Rattle.label_defs.proofs.MemberLemmas.{count-cons}
 use Rattle.label_defs.proofs.UseLemmas.{used_place, mapped_is, free_none}
-use Rattle.growth_laws.specs.Labels.{IsFreeOrMaps, Growing}
+use Rattle.growth_laws.specs.Labels.{labels_held, IsFreeOrMaps, Growing}
 
 -- ---- elements that pass
 
@@ -21,6 +21,10 @@ either_counts true true = omega arith
 either_counts true false = omega arith
 either_counts false true = omega arith
 either_counts false false = omega arith
+
+passing_counts : (a b : Bool) → (a ≡ true → b ≡ true) → cond {A = ℕ} a 1 0 ≤ cond {A = ℕ} b 1 0
+passing_counts true b passes = omega (arith, ap (λ (t : Bool). cond {A = ℕ} t 1 0) (passes refl))
+passing_counts false b passes = omega arith
 
 module _ {X : Type 0} where
   one_counted : (p : X → Bool) (xs : List X)
@@ -49,6 +53,15 @@ module _ {X : Type 0} where
       let first = count-cons p x xs in
       let second = count-cons q x xs in
       omega (arith, rest, here, most, sum, first, second)
+
+  passing_counted : (p q : X → Bool) (xs : List X) → ((k : ℕ) (x : X) → slice_get xs k ≡ Some x → p x ≡ true → q x ≡ true) → count_by p xs ≤ count_by q xs
+  passing_counted p q [] passes = omega arith
+  passing_counted p q (x ∷ xs) passes =
+      let rest = passing_counted p q xs (λ k y e. passes (suc k) y e) in
+      let here = passing_counts (p x) (q x) (passes 0 x refl) in
+      let first = count-cons p x xs in
+      let second = count-cons q x xs in
+      omega (arith, rest, here, first, second)
 
   each_counted : (p : X → Bool) (xs : List X) → ((k : ℕ) (x : X) → slice_get xs k ≡ Some x → p x ≡ true) → count_by p xs ≡ length xs
   each_counted p [] each = refl
@@ -91,20 +104,33 @@ maps_at part fec k x at passes =
     let is = mapped_is fec x passes in
     (is.0, used_place part.labels k ∙ at ∙ ap (λ (u : LabelUse). Some u) is.1)
 
--- one of its labels is free
-pub never_full : (place : Place) (trees : List Fec) (part : LabelData) → Growing place trees part → free_label part ≡ None → ⊥
-never_full place trees part g full =
-    let all = each_counted (maps_one trees) part.labels (λ k x at. passes k x at (g.used (16 + k) x (used_place part.labels k ∙ at))) in
+-- it holds no more labels than there are trees
+pub few_held : (place : Place) (trees : List Fec) (part : LabelData) → Growing place trees part → labels_held part ≤ length trees
+few_held place trees part g =
+    let held = passing_counted (λ (usage : LabelUse). not (is_free usage)) (maps_one trees) part.labels (λ k x at. passes x (g.used (16 + k) x (used_place part.labels k ∙ at))) in
     let few = few_mapped part.labels trees (λ fec i j x y at_x at_y p q.
     (let first = maps_at part fec i x at_x p in
     let second = maps_at part fec j y at_y q in
     let same = g.one fec (16 + i) (16 + j) first.0 second.0 first.1 second.1 in
     omega (arith, same))) in
+    omega (arith, held, few)
+  where
+    passes : (x : LabelUse) → IsFreeOrMaps trees x → not (is_free x) ≡ true → maps_one trees x ≡ true
+    passes uses.Free is held = (let bad : false ≡ true = held in absurd cc)
+    passes (uses.Mapped fec upstream) is held = among_maps trees fec upstream is
+    passes (uses.Leaving fec upstream) is held = absurd is
+    passes (uses.Resting until) is held = absurd is
+
+-- one of its labels is free
+pub never_full : (place : Place) (trees : List Fec) (part : LabelData) → Growing place trees part → free_label part ≡ None → ⊥
+never_full place trees part g full =
+    let all = each_counted (λ (usage : LabelUse). not (is_free usage)) part.labels taken in
+    let few = few_held place trees part g in
     let room = g.room in
     omega (arith, all, few, room)
   where
-    passes : (k : ℕ) (x : LabelUse) → slice_get part.labels k ≡ Some x → IsFreeOrMaps trees x → maps_one trees x ≡ true
-    passes k uses.Free at is = absurd (free_none part full (16 + k) (used_place part.labels k ∙ at))
-    passes k (uses.Mapped fec upstream) at is = among_maps trees fec upstream is
-    passes k (uses.Leaving fec upstream) at is = absurd is
-    passes k (uses.Resting until) at is = absurd is
+    taken : (k : ℕ) (x : LabelUse) → slice_get part.labels k ≡ Some x → not (is_free x) ≡ true
+    taken k uses.Free at = absurd (free_none part full (16 + k) (used_place part.labels k ∙ at))
+    taken k (uses.Mapped fec upstream) at = refl
+    taken k (uses.Leaving fec upstream) at = refl
+    taken k (uses.Resting until) at = refl

@@ -11,14 +11,14 @@ use Rattle.mv_base.specs.declared.ids.IfaceId.{IfaceId}
 use Rattle.mv_base.specs.declared.ids.NodeId.{NodeId}
 use Rattle.mv_base.specs.declared.ids.VrfId.{VrfId}
 use Rattle.mv_base.specs.declared.pattern.Pattern.{Pattern}
-use Rattle.mldp_fec.specs.declared.fec.Fec.{Fec}
-use Rattle.bgp_attributes.specs.declared.key.Key.{Key}
-use Rattle.bgp_update.specs.Table.{changes_of}
+use Rattle.mldp.specs.declared.mldp_fec.fec.Fec.{Fec}
+use Rattle.bgp_messages.specs.declared.bgp_attributes.key.Key.{Key}
+use Rattle.bgp_messages.specs.bgp_update.Table.{changes_of}
 use Rattle.scenario_defs.specs.Rules.{Rules}
 use Rattle.scenario_defs.specs.declared.event.JoinEntry.TheVariants as entries
-use Rattle.table_defs.specs.Changes.{key_of, value_of}
-use Rattle.table_defs.specs.declared.change.Change.{Change}
-use Rattle.table_defs.specs.declared.change.Change.TheVariants.{Reach, Unreach}
+use Rattle.mv_base.specs.table_defs.Changes.{key_of, value_of}
+use Rattle.mv_base.specs.declared.table_defs.change.Change.{Change}
+use Rattle.mv_base.specs.declared.table_defs.change.Change.TheVariants.{Reach, Unreach}
 use Rattle.label_defs.specs.Keys.{node_cmp}
 use Rattle.label_defs.proofs.KeyLemmas.{node_cases}
 use Rattle.label_defs.proofs.SetLemmas.{put_here, get-changed}
@@ -30,11 +30,11 @@ use Rattle.edge_defs.specs.Place.{EdgePlace, OwnVrf, own_addr, own_vrfs, lsp, tu
 use Rattle.edge_defs.specs.Steps as steps
 use Rattle.edge_defs.specs.Steps.{learned, taken_change, with_update, with_selection, selection_run, selections_run, peers_run, effect}
 use Rattle.edge_defs.proofs.KeyLemmas.{pattern_total, pattern_exact}
-use Rattle.edge_laws.specs.Acts.{message_of}
-use Rattle.edge_laws.proofs.Local.{taken_behind}
-use Rattle.edge_laws.proofs.Taken.{change_taken, table_run, run_at, get-peers_run, table_in, run_taken, put_own, put_other}
-use Rattle.held_laws.specs.Held.{IsJoinKey, Originates}
-use Rattle.held_laws.proofs.Originated.{one_value}
+use Rattle.edge_words.specs.edge_laws.Acts.{message_of}
+use Rattle.edge_words.proofs.edge_laws.Local.{taken_behind}
+use Rattle.edge_words.proofs.edge_laws.Taken.{change_taken, table_run, run_at, get-peers_run, table_in, run_taken, put_own, put_other}
+use Rattle.edge_words.specs.held_laws.Held.{IsJoinKey, Originates}
+use Rattle.edge_words.proofs.held_laws.Originated.{one_value}
 use Rattle.table_laws.proofs.CompareLemmas.{one_key}
 use Rattle.edge_defs.proofs.KeyLemmas.{key_exact}
 use Rattle.growth_laws.specs.Edges.{TakenStays, EntriesStay, AreLasting}

@@ -10,8 +10,8 @@ use Rattle.mv_base.specs.declared.addr.Addr.{Addr}
 use Rattle.mv_base.specs.declared.ids.IfaceId.{IfaceId}
 use Rattle.mv_base.specs.declared.ids.NodeId.{NodeId}
 use Rattle.mv_base.specs.declared.prefix.Prefix.{Prefix}
-use Rattle.bgp_attributes.specs.declared.key.Key.{Key}
-use Rattle.bgp_attributes.specs.declared.key.Key.TheVariants.{Mcast, Unicast}
+use Rattle.bgp_messages.specs.declared.bgp_attributes.key.Key.{Key}
+use Rattle.bgp_messages.specs.declared.bgp_attributes.key.Key.TheVariants.{Mcast, Unicast}
 use Rattle.scenario_defs.specs.Home.{local_routes}
 use Rattle.scenario_defs.specs.declared.event.IfaceEntry.{IfaceEntry}
 use Rattle.scenario_defs.specs.declared.event.JoinEntry.TheVariants as entries
@@ -35,12 +35,12 @@ use Rattle.edge_defs.specs.Upstream.{known_route, known_from, known_routes, upst
 use Rattle.pim_defs.proofs.KeyLemmas.{entry_cmp_exact}
 use Rattle.edge_defs.proofs.KeyLemmas.{key_total, key_exact, flow_total, flow_exact}
 use Rattle.edge_words.proofs.Members.{ifaces_from, of_iface}
-use Rattle.calm_laws.proofs.Lists.{among_choice, any_from, any_among, among_front, among_behind, among_either, among_map, map_among, among_flat_map, flat_map_among, filter_among, among_filter, found_among, among_found}
-use Rattle.calm_laws.proofs.Maps.{entry_get, get_entry, some_found, found_stands}
-use Rattle.calm_laws.proofs.Tables.{among_peers, peer_table}
-use Rattle.calm_laws.proofs.Upstreams.{chained}
-use Rattle.calm_laws.proofs.Vrfs.{one_number}
-use Rattle.held_laws.specs.Held.{IsJoinKey}
+use Rattle.edge_words.proofs.calm_laws.Lists.{among_choice, any_from, any_among, among_front, among_behind, among_either, among_map, map_among, among_flat_map, flat_map_among, filter_among, among_filter, found_among, among_found}
+use Rattle.edge_words.proofs.calm_laws.Maps.{entry_get, get_entry, some_found, found_stands}
+use Rattle.edge_words.proofs.calm_laws.Tables.{among_peers, peer_table}
+use Rattle.edge_words.proofs.calm_laws.Upstreams.{chained}
+use Rattle.edge_words.proofs.calm_laws.Vrfs.{one_number}
+use Rattle.edge_words.specs.held_laws.Held.{IsJoinKey}
 use Rattle.growth_laws.specs.Edges.{TakenStays, FlowsStay, EntriesStay, AreLasting, KnowsOneOrigin, KeepsAll}
 use Rattle.growth_laws.proofs.Leaves.{peer_up}
 

@@ -11,9 +11,9 @@ use Rattle.mv_base.specs.declared.ids.NodeId.{NodeId}
 use Rattle.mv_base.specs.declared.ids.VrfId.{VrfId}
 use Rattle.mv_base.specs.declared.prefix.Prefix.{Prefix}
 use Rattle.mv_base.specs.declared.rd.Rd.{Rd}
-use Rattle.route_targets.specs.Targets.{same}
-use Rattle.bgp_attributes.specs.declared.key.Key.{Key}
-use Rattle.bgp_attributes.specs.declared.key.Key.TheVariants as keys
+use Rattle.mv_base.specs.route_targets.Targets.{same}
+use Rattle.bgp_messages.specs.declared.bgp_attributes.key.Key.{Key}
+use Rattle.bgp_messages.specs.declared.bgp_attributes.key.Key.TheVariants as keys
 use Rattle.scenario_defs.specs.Home.{local_routes}
 use Rattle.scenario_defs.specs.Rules.{Rules}
 use Rattle.scenario_defs.specs.Vpn.{targets_of, same_vpn}
@@ -23,21 +23,21 @@ use Rattle.scenario_defs.specs.declared.scenario.Vrf.{Vrf}
 use Rattle.choice_defs.specs.Choice.{of_site}
 use Rattle.choice_defs.specs.declared.known_route.KnownRoute.{KnownRoute}
 use Rattle.choice_defs.specs.declared.origin.Origin.TheVariants as origins
-use Rattle.core_walks.specs.Core.{Core}
+use Rattle.mv_base.specs.core_walks.Core.{Core}
 use Rattle.edge_defs.specs.Edge.{TakenRoute, Taken, Control}
 use Rattle.edge_defs.specs.Imported.{taken_from, join_by, is_admitted}
 use Rattle.edge_defs.specs.Keys.{Value}
 use Rattle.edge_defs.specs.Place.{EdgePlace, OwnVrf, addr_of, own_vrfs}
 use Rattle.edge_defs.specs.Upstream.{known_route, known_from, known_routes}
 use Rattle.edge_defs.proofs.KeyLemmas.{key_total}
-use Rattle.edge_laws.specs.Network.{EdgeNetwork}
-use Rattle.calm_laws.proofs.Lists.{among_either, map_among, flat_map_among, found_among}
-use Rattle.calm_laws.proofs.Maps.{entry_get}
-use Rattle.calm_laws.proofs.Tables.{peer_table}
-use Rattle.calm_laws.proofs.Targets.{same_back, same_itself, same_through}
-use Rattle.calm_laws.proofs.Upstreams.{chained, admitted_unicast}
-use Rattle.calm_laws.proofs.Vrfs.{own_at, own_edge}
-use Rattle.held_laws.specs.Held.{IsJoinKey, IsOriginated, Inclusive, Unicast, Selective, Active, Originates}
+use Rattle.edge_words.specs.edge_laws.Network.{EdgeNetwork}
+use Rattle.edge_words.proofs.calm_laws.Lists.{among_either, map_among, flat_map_among, found_among}
+use Rattle.edge_words.proofs.calm_laws.Maps.{entry_get}
+use Rattle.edge_words.proofs.calm_laws.Tables.{peer_table}
+use Rattle.edge_words.proofs.calm_laws.Targets.{same_back, same_itself, same_through}
+use Rattle.edge_words.proofs.calm_laws.Upstreams.{chained, admitted_unicast}
+use Rattle.edge_words.proofs.calm_laws.Vrfs.{own_at, own_edge}
+use Rattle.edge_words.specs.held_laws.Held.{IsJoinKey, IsOriginated, Inclusive, Unicast, Selective, Active, Originates}
 use Rattle.growth_laws.specs.Edges.{KnowsOneOrigin}
 use Rattle.growth_laws.specs.Scripts.{HasOneHome}
 

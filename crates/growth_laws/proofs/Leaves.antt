@@ -13,11 +13,11 @@ use Rattle.mv_base.specs.Pattern.{rank}
 use Rattle.mv_base.specs.declared.addr.Addr.{Addr}
 use Rattle.mv_base.specs.declared.ids.NodeId.{NodeId}
 use Rattle.mv_base.specs.declared.pattern.Pattern.{Pattern}
-use Rattle.mldp_fec.specs.declared.fec.Fec.{Fec}
-use Rattle.mvpn_nlri.specs.declared.route.Afi.TheVariants.{Ipv4, Ipv6}
-use Rattle.mvpn_nlri.specs.declared.route.Route.TheVariants as routes
-use Rattle.bgp_attributes.specs.declared.key.Key.{Key}
-use Rattle.bgp_attributes.specs.declared.key.Key.TheVariants.{Mcast, Unicast}
+use Rattle.mldp.specs.declared.mldp_fec.fec.Fec.{Fec}
+use Rattle.bgp_values.specs.declared.mvpn_nlri.route.Afi.TheVariants.{Ipv4, Ipv6}
+use Rattle.bgp_values.specs.declared.mvpn_nlri.route.Route.TheVariants as routes
+use Rattle.bgp_messages.specs.declared.bgp_attributes.key.Key.{Key}
+use Rattle.bgp_messages.specs.declared.bgp_attributes.key.Key.TheVariants.{Mcast, Unicast}
 use Rattle.label_defs.specs.Keys.{fec_cmp}
 use Rattle.label_defs.proofs.KeyLemmas.{ties, fec_cmp_total, fec_cmp_exact}
 use Rattle.selective_defs.specs.Selective.{matches, overtakes, is_wanted, wanted}
@@ -28,11 +28,11 @@ use Rattle.edge_defs.specs.Keys.{key_cmp, Value}
 use Rattle.edge_defs.specs.Place.{EdgePlace, OwnVrf, addr_of, own_vrfs}
 use Rattle.edge_defs.specs.Tunnels.{learned_route, learned_routes, inclusive_tunnels, flow_tunnels, flows_of, tunnels_of, leaves}
 use Rattle.edge_defs.proofs.KeyLemmas.{key_total, key_exact, flow_total, flow_exact}
-use Rattle.calm_laws.proofs.Lists.{any_from, any_among, among_front, among_behind, among_either, among_map, map_among, among_flat_map, flat_map_among, filter_among, among_filter, found_among, among_found}
-use Rattle.calm_laws.proofs.Maps.{entry_get, get_entry}
-use Rattle.calm_laws.proofs.Imports.{learned_of}
-use Rattle.calm_laws.proofs.Tables.{among_peers, peer_table}
-use Rattle.held_laws.specs.Held.{IsJoinKey}
+use Rattle.edge_words.proofs.calm_laws.Lists.{any_from, any_among, among_front, among_behind, among_either, among_map, map_among, among_flat_map, flat_map_among, filter_among, among_filter, found_among, among_found}
+use Rattle.edge_words.proofs.calm_laws.Maps.{entry_get, get_entry}
+use Rattle.edge_words.proofs.calm_laws.Imports.{learned_of}
+use Rattle.edge_words.proofs.calm_laws.Tables.{among_peers, peer_table}
+use Rattle.edge_words.specs.held_laws.Held.{IsJoinKey}
 use Rattle.growth_laws.specs.Edges.{TakenStays, FlowsStay, IsNarrow, AreNarrow, LeavesStay}
 
 -- ---- what a leaf is by

@@ -1,3 +1,5 @@
+pub use Rattle.edge_words.proofs as edge_words
+pub use Rattle.network_laws.proofs as network_laws
 mod Counts
 mod Turns
 mod Calls

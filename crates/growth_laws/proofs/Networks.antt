@@ -11,35 +11,35 @@ use Rattle.mv_base.specs.declared.ids.IfaceId.{IfaceId}
 use Rattle.mv_base.specs.declared.ids.NodeId.{NodeId}
 use Rattle.mv_base.specs.declared.ids.VrfId.{VrfId}
 use Rattle.mv_base.specs.declared.pattern.Pattern.{Pattern}
-use Rattle.mldp_fec.specs.declared.fec.Fec.{Fec}
-use Rattle.mldp_msgs.specs.declared.message.LabelMessage.{LabelMessage}
-use Rattle.mldp_msgs.specs.declared.message.LabelMessage.TheVariants as messages
-use Rattle.bgp_attributes.specs.declared.update.Message.{Message}
+use Rattle.mldp.specs.declared.mldp_fec.fec.Fec.{Fec}
+use Rattle.mldp.specs.declared.mldp_msgs.message.LabelMessage.{LabelMessage}
+use Rattle.mldp.specs.declared.mldp_msgs.message.LabelMessage.TheVariants as messages
+use Rattle.bgp_messages.specs.declared.bgp_attributes.update.Message.{Message}
 use Rattle.scenario_defs.specs.declared.event.JoinEntry.TheVariants as entries
 use Rattle.scenario_defs.specs.declared.event.Kind.{Kind}
 use Rattle.scenario_defs.specs.declared.event.Kind.TheVariants as kinds
 use Rattle.scenario_defs.specs.declared.scenario.Scenario.{Scenario}
 use Rattle.label_defs.specs.LabelData.{Place}
 use Rattle.label_defs.specs.Steps as labels
-use Rattle.session_defs.specs.Message.{SessionMessage, Bgp, Label, same_direction}
-use Rattle.session_defs.specs.Refined.{deliveries}
-use Rattle.session_defs.specs.System.{Put, Stepped, System, MessageNetwork, Behind, messages_over, with_messages, with_step, with_rest, with_earlier, delivered, message_run}
-use Rattle.session_defs.specs.declared.direction.Direction.{Direction}
-use Rattle.session_defs.proofs.Lines.{direction_is, own_direction}
+use Rattle.network_defs.specs.session_defs.Message.{SessionMessage, Bgp, Label, same_direction}
+use Rattle.network_defs.specs.session_defs.Refined.{deliveries}
+use Rattle.network_defs.specs.session_defs.System.{Put, Stepped, System, MessageNetwork, Behind, messages_over, with_messages, with_step, with_rest, with_earlier, delivered, message_run}
+use Rattle.network_defs.specs.declared.session_defs.direction.Direction.{Direction}
+use Rattle.network_defs.proofs.session_defs.Lines.{direction_is, own_direction}
 use Rattle.pim_defs.specs.Single.{join_of}
 use Rattle.selective_defs.specs.Selective.{free_number}
 use Rattle.edge_defs.specs.Edge.{Control, pattern_cmp, Selected, EdgeData}
 use Rattle.edge_defs.specs.Place.{EdgePlace, OwnVrf, own_addr, own_vrfs, lsp, tunnel_number}
 use Rattle.edge_defs.specs.Steps as steps
 use Rattle.edge_defs.specs.Steps.{is_used, own_label_call, one_call}
-use Rattle.edge_laws.specs.Acts.{message_of}
+use Rattle.edge_words.specs.edge_laws.Acts.{message_of}
 use Rattle.network_defs.specs.Counts.{direction, is_bgp_up, is_end_up}
 use Rattle.network_defs.specs.Nodes.{NodeState, Edge, Nodes, place_of, label_place_of, part_of}
 use Rattle.network_defs.specs.Refusals.{control_of}
 use Rattle.network_defs.specs.System.{call_of, node_called}
 use Rattle.network_laws.specs.Honest.{SoundCall, sound_system}
 use Rattle.network_laws.proofs.Lists.{each_append, each_flat, each_weaker}
-use Rattle.rule_laws.proofs.Deliveries.{waits}
+use Rattle.run_laws.proofs.rule_laws.Deliveries.{waits}
 use Rattle.growth_laws.specs.Labels.{AreAmong, IsMappingOf, TakesNothingBack}
 use Rattle.growth_laws.proofs.Calls.{grows_with}
 use Rattle.growth_laws.proofs.Effects.{Grown, GrowsTo, itself_grows, update_grows, raise_grows, join_grows, timers_grow, select_grows}

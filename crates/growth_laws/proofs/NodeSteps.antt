@@ -10,12 +10,12 @@ use Rattle.mv_base.specs.Lists.{Among}
 use Rattle.mv_base.specs.Number.{◌>>?◌}
 use Rattle.mv_base.specs.declared.addr.Addr.{Addr}
 use Rattle.mv_base.specs.declared.ids.NodeId.{NodeId}
-use Rattle.mldp_fec.specs.declared.fec.Fec.{Fec}
-use Rattle.bgp_attributes.specs.declared.key.Key.{Key}
+use Rattle.mldp.specs.declared.mldp_fec.fec.Fec.{Fec}
+use Rattle.bgp_messages.specs.declared.bgp_attributes.key.Key.{Key}
 use Rattle.scenario_defs.specs.Rules.{Rules}
 use Rattle.scenario_defs.specs.declared.event.Kind.{Kind}
 use Rattle.scenario_defs.specs.declared.event.Kind.TheVariants as kinds
-use Rattle.table_defs.specs.declared.change.Change.{Change}
+use Rattle.mv_base.specs.declared.table_defs.change.Change.{Change}
 use Rattle.label_defs.specs.Keys.{node_cmp}
 use Rattle.label_defs.specs.LabelData as label_data
 use Rattle.label_defs.specs.LabelData.{Place, LabelData}
@@ -25,21 +25,21 @@ use Rattle.label_defs.specs.Steps.{Numbered, numbered, told, effect, label_step,
 use Rattle.label_defs.specs.declared.end.End.{End}
 use Rattle.label_defs.specs.declared.put.Put as label_put_of
 use Rattle.label_defs.proofs.KeyLemmas.{node_equal, node_itself}
-use Rattle.session_defs.specs.Message.{SessionMessage, Bgp, Label}
-use Rattle.session_defs.specs.System.{Put, Stepped}
+use Rattle.network_defs.specs.session_defs.Message.{SessionMessage, Bgp, Label}
+use Rattle.network_defs.specs.session_defs.System.{Put, Stepped}
 use Rattle.edge_defs.specs.Edge.{TakenRoute, Taken, Control, EdgeData, no_control}
 use Rattle.edge_defs.specs.Held.{put_to}
 use Rattle.edge_defs.specs.Imported.{taken_from}
 use Rattle.edge_defs.specs.Keys.{Value, key_cmp}
 use Rattle.edge_defs.specs.Place.{EdgePlace, addr_of}
 use Rattle.edge_defs.specs.Steps as steps
-use Rattle.edge_defs.specs.Steps.{LabelStep, EdgeStepped, is_vrf_step, refreshed, control_step, own_label_call, changed_leaves, one_call, label_row, part_after, edge_step}
+use Rattle.edge_defs.specs.Steps.{LabelStep, EdgeStepped, is_vrf_step, refreshed, control_step, own_label_call, changed_leaves, one_call, label_row, part_after, raised_after, edge_step}
 use Rattle.edge_defs.specs.Tunnels.{leaves}
-use Rattle.edge_laws.specs.Acts.{message_of}
-use Rattle.edge_laws.proofs.Taken.{table_in}
-use Rattle.calm_laws.proofs.Flows.{Stands, step_stands}
-use Rattle.calm_laws.proofs.Lists.{among_either, map_among}
-use Rattle.node_defs.specs.Puts.{bgp_put, bgp_puts, label_put, label_puts}
+use Rattle.edge_words.specs.edge_laws.Acts.{message_of}
+use Rattle.edge_words.proofs.edge_laws.Taken.{table_in}
+use Rattle.edge_words.proofs.calm_laws.Flows.{Stands, step_stands}
+use Rattle.edge_words.proofs.calm_laws.Lists.{among_either, map_among}
+use Rattle.network_defs.specs.node_defs.Puts.{bgp_put, bgp_puts, label_put, label_puts}
 use Rattle.mvpn_model.specs.Sessions.{edges}
 use Rattle.network_defs.specs.Counts.{is_bgp_up, is_end_up}
 use Rattle.network_defs.specs.Nodes.{NodeState, Edge, CoreNode, Nodes, with_node, place_of, label_place_of, core_at, part_of}
@@ -259,7 +259,7 @@ module _ (horizon : ℕ) (trees : List Fec) (nodes : Nodes) (g : NodesGrown hori
     r = row_grows place nodes.clock trees calls edge.part may (subst (λ (s : NodeState). Growing (label_place_of nodes n) trees (part_of s)) at (g.labels n))
 
     abbrev made : List LabelStep → EdgeStepped
-    made row = record { edge = record { control = control; part = part_after edge.part row }; row = row }
+    made row = record { edge = record { control = control; part = part_after edge.part row; raised = raised_after nodes.clock edge.raised call }; row = row }
 
     abbrev stepped : EdgeStepped → Stepped Nodes
     stepped new = record {
@@ -268,7 +268,7 @@ module _ (horizon : ℕ) (trees : List Fec) (nodes : Nodes) (g : NodesGrown hori
     }
 
     abbrev next : NodeState
-    next = Edge (record { control = control; part = part_after edge.part r.row })
+    next = Edge (record { control = control; part = part_after edge.part r.row; raised = raised_after nodes.clock edge.raised call })
 
     abbrev after : Nodes
     after = with_node nodes n next

@@ -12,7 +12,7 @@ use Rattle.mv_base.specs.declared.ids.NodeId.{NodeId}
 use Rattle.mv_base.specs.declared.ids.SiteId.{SiteId}
 use Rattle.mv_base.specs.declared.ids.VrfId.{VrfId}
 use Rattle.mv_base.specs.declared.pattern.Pattern.{Pattern}
-use Rattle.mldp_fec.specs.declared.fec.Fec.{Fec}
+use Rattle.mldp.specs.declared.mldp_fec.fec.Fec.{Fec}
 use Rattle.scenario_defs.specs.Vpn.{edge_of, entered}
 use Rattle.scenario_defs.specs.declared.event.Event.{Event}
 use Rattle.scenario_defs.specs.declared.event.Event.TheVariants as events
@@ -24,8 +24,8 @@ use Rattle.scenario_defs.specs.declared.report.Refusal.TheVariants as refusals
 use Rattle.scenario_defs.specs.declared.report.ReportLine.TheVariants as lines
 use Rattle.scenario_defs.specs.declared.scenario.Scenario.{Scenario}
 use Rattle.scenario_defs.specs.declared.scenario.Vrf.{Vrf}
-use Rattle.session_defs.specs.Refined.{seen}
-use Rattle.session_defs.specs.declared.direction.Direction.{Direction}
+use Rattle.network_defs.specs.session_defs.Refined.{seen}
+use Rattle.network_defs.specs.declared.session_defs.direction.Direction.{Direction}
 use Rattle.pim_defs.specs.Single.{join_of}
 use Rattle.mvpn_model.specs.Messages.{own_addr}
 use Rattle.mvpn_model.specs.Packet.{packet}
@@ -34,7 +34,7 @@ use Rattle.mvpn_model.specs.Sessions.{sessions}
 use Rattle.mvpn_model.specs.declared.session.Session.{Session}
 use Rattle.edge_defs.specs.Place.{addr_of, lsp, tunnel_number}
 use Rattle.edge_defs.specs.Steps as steps
-use Rattle.calm_laws.proofs.Vrfs.{own_at}
+use Rattle.edge_words.proofs.calm_laws.Vrfs.{own_at}
 use Rattle.network_defs.specs.Acts.{Act, Tick, Timers, Move, Notice, RaiseFirst, RaiseSecond, At, Enter, Land, Drop, Tell, act}
 use Rattle.network_defs.specs.Counts.{direction, directions, link_ways, all_nodes, is_joined, is_up}
 use Rattle.network_defs.specs.Events.{Happened, Outcome, Done, Halted, row, each, times, raise_acts, notices, healed, turn, settled, landings, drain_round, sent, at_edge, done}
@@ -48,7 +48,7 @@ use Rattle.network_laws.specs.Honest.{IsSoundCall, IsSoundEvent}
 use Rattle.network_laws.proofs.Lists.{each_of, each_map, each_flat, each_weaker}
 use Rattle.network_laws.proofs.RunMessages.{join_is_sound}
 use Rattle.network_laws.proofs.RunNodes.{IsNode, IsFoundNode, nodes_within, edge_within, vrf_within}
-use Rattle.rule_laws.proofs.Events.{IsFitSession, sessions_fit, not_refused, or_not_refused}
+use Rattle.run_laws.proofs.rule_laws.Events.{IsFitSession, sessions_fit, not_refused, or_not_refused}
 use Rattle.growth_laws.specs.Scripts.{OnlyAdds, ticks_of, is_selection}
 use Rattle.growth_laws.proofs.Musts.{Comes, then_comes, first_comes, row_comes, alone_comes, each_comes, times_comes}
 use Rattle.growth_laws.proofs.Networks.{NetworkGrown, network_more, join_called, new_number, select_called}
@@ -307,3 +307,25 @@ never_halts scenario horizon short (first ∷ more) timed after number now trees
     never_halts scenario horizon short more timed after (number + 1) x.later x.more run.1 run.2 world acts node
     (turned (WorldGrown scenario horizon x.later x.more) (outcome old first) run.0 run.1 run.3 x.comes)
     (rest_left scenario horizon now x.later trees x.more first (more ++ timed ∷ after) l x.soon x.few) run.5 e
+
+-- What first events of a script come to: the network has grown, with no more trees than at first and selections among these events.
+pub record GrownBy (scenario : Scenario) (horizon : ℕ) (trees : List Fec) (events : List Timed) (world : World) : Type 0 where
+  pub now : ℕ
+  pub more : List Fec
+  pub few : length more ≤ length trees + count_by (λ (timed : Timed). is_selection timed.event) events
+  pub grown : WorldGrown scenario horizon now more world
+
+pub runs_grow : (scenario : Scenario) (horizon : ℕ) → horizon < 210 → (events rest : List Timed) (number now : ℕ) (trees : List Fec) (old : World) (trace : List Traced) (world : World)
+    → WorldGrown scenario horizon now trees old → Left scenario horizon now trees (events ++ rest) → Runs old number events trace world → GrownBy scenario horizon trees events world
+runs_grow scenario horizon short [] rest number now trees old trace world s l run =
+    record { now = now; more = trees; few = omega arith; grown = subst (WorldGrown scenario horizon now trees) (sym run.1) s }
+runs_grow scenario horizon short (first ∷ events) rest number now trees old trace world s l run =
+    let fits = first_left scenario horizon now trees first (events ++ rest) l in
+    let x = event_comes scenario old horizon now trees short s first l.adds.0 l.sound.0 fits.0 fits.1 in
+    let behind = runs_grow scenario horizon short events rest (number + 1) x.later x.more run.1 run.2 world
+    (turned (WorldGrown scenario horizon x.later x.more) (outcome old first) run.0 run.1 run.3 x.comes)
+    (rest_left scenario horizon now x.later trees x.more first (events ++ rest) l x.soon x.few) run.5 in
+    let picks = sum_by-cons (λ (one : Timed). cond {A = ℕ} (is_selection one.event) 1 0) first events in
+    let own = x.few in
+    let few = behind.few in
+    record { now = behind.now; more = behind.more; few = omega (arith, own, few, picks); grown = behind.grown }

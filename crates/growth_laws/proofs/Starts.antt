@@ -1,14 +1,14 @@
 -- A network in which nothing has happened, and scripts that never halt.
-use Rattle.std.proofs.Common.{◌≡◌, ℕ, ◌<◌, Bool, true, false, cond, List, [], ◌∷◌, map, length, slice_get, sum_by, zero, suc, is_some, Option, Some, None, inl, inr, refl, sym, ap, subst, ◌∙◌, arith}
+use Rattle.std.proofs.Common.{◌≡◌, ℕ, ◌+◌, ◌<◌, ◌≤◌, Bool, true, false, cond, List, [], ◌∷◌, map, length, take, drop, slice_get, sum_by, count_by, zero, suc, is_some, Option, Some, None, inl, inr, refl, sym, ap, subst, ◌∙◌, arith}
 use Rattle.std.specs.List.{AllByRecursion}
 use Rattle.std.specs.FinMap as maps
-use Rattle.std.proofs.lemmas.List.{length-map, length-replicate}
+use Rattle.std.proofs.lemmas.List.{length-map, length-replicate, take-append-drop}
 use Rattle.std.proofs.lemmas.Option.{none-some, same_Some}
 use Rattle.mv_base.specs.Lists.{Among}
 use Rattle.mv_base.specs.declared.addr.Addr.{Addr}
 use Rattle.mv_base.specs.declared.addr.Addr.TheVariants.{V4}
 use Rattle.mv_base.specs.declared.ids.NodeId.{NodeId}
-use Rattle.mldp_fec.specs.declared.fec.Fec.{Fec}
+use Rattle.mldp.specs.declared.mldp_fec.fec.Fec.{Fec}
 use Rattle.scenario_defs.specs.Rules.{Rules, IsEventOf, ScriptRules}
 use Rattle.scenario_defs.specs.declared.event.Kind.{Kind}
 use Rattle.scenario_defs.specs.declared.event.Kind.TheVariants as kinds
@@ -26,10 +26,10 @@ use Rattle.edge_defs.specs.Edge as edges
 use Rattle.edge_defs.specs.Edge.{pattern_cmp, Selected, TakenRoute, Taken, Control, no_control}
 use Rattle.edge_defs.specs.Keys.{key_cmp}
 use Rattle.edge_defs.specs.Place.{EdgePlace, addr_of, lsp, tunnel_number}
-use Rattle.edge_laws.proofs.Taken.{table_in}
-use Rattle.calm_laws.proofs.Flows.{Stands, fresh_stands}
-use Rattle.calm_laws.proofs.Lists.{among_map}
-use Rattle.calm_laws.proofs.Vrfs.{own_at, own_edge}
+use Rattle.edge_words.proofs.edge_laws.Taken.{table_in}
+use Rattle.edge_words.proofs.calm_laws.Flows.{Stands, fresh_stands}
+use Rattle.edge_words.proofs.calm_laws.Lists.{among_map}
+use Rattle.edge_words.proofs.calm_laws.Vrfs.{own_at, own_edge}
 use Rattle.mvpn_model.specs.Report.{Entry}
 use Rattle.network_defs.specs.Costs.{Cores, AreCoresOf}
 use Rattle.network_defs.specs.Counts.{is_end_up}
@@ -44,12 +44,13 @@ use Rattle.run_laws.specs.Octets.{EventHasOctets, ScriptHasOctets}
 use Rattle.run_laws.specs.Runs.{RunsOrHalts, AllRun, OneHalts}
 use Rattle.run_laws.proofs.Halting.{either}
 use Rattle.run_laws.proofs.SoundEvents.{sound_event}
-use Rattle.growth_laws.specs.Labels.{Growing}
-use Rattle.growth_laws.specs.Scripts.{HasOneHome, ticks_of, OnlyGrows}
+use Rattle.growth_laws.specs.Labels.{Growing, labels_held}
+use Rattle.growth_laws.specs.Scripts.{HasOneHome, ticks_of, is_selection, OnlyGrows}
 use Rattle.growth_laws.proofs.Calls.{fresh_grows}
+use Rattle.growth_laws.proofs.Counts.{few_held}
 use Rattle.growth_laws.proofs.Effects.{Grown}
 use Rattle.growth_laws.proofs.NodeSteps.{kept}
-use Rattle.growth_laws.proofs.Runs.{Left, never_halts}
+use Rattle.growth_laws.proofs.Runs.{Left, never_halts, runs_grow}
 use Rattle.growth_laws.proofs.Told.{HasInclusive}
 use Rattle.growth_laws.proofs.Worlds.{WorldGrown}
 
@@ -150,22 +151,47 @@ all_sound : (scenario : Scenario) → Rules scenario → (row : List Timed) → 
 all_sound scenario rules [] is octets = tt
 all_sound scenario rules (timed ∷ more) is octets = (sound_event scenario timed.event rules is.0 octets.0, all_sound scenario rules more is.1 octets.1)
 
+-- what is left of a script at its start is all of it
+all_left : (script : Script) → ScriptRules script → ScriptHasOctets script → OnlyGrows script
+    → Left script.scenario (sum_by (λ (timed : Timed). ticks_of timed.event) script.events) 0 (inclusive_trees script.scenario) script.events
+all_left script rules octets grows =
+    let long : length (inclusive_trees script.scenario) ≡ length script.scenario.vrfs = length-map script.scenario.vrfs (inclusive_of script.scenario) in
+    let room = grows.labels in
+    record {
+      adds = grows.adds;
+      sound = all_sound script.scenario rules.scenario script.events rules.events octets.events;
+      short = omega arith;
+      room = omega (arith, long, room);
+    }
+
+script_starts : (cores : Cores) (script : Script) (horizon : ℕ) → ScriptRules script → ScriptHasOctets script → OnlyGrows script
+    → WorldGrown script.scenario horizon 0 (inclusive_trees script.scenario) (start script.scenario cores)
+script_starts cores script horizon rules octets grows =
+    let room = grows.labels in
+    start_grown script.scenario cores horizon (record { rules = rules.scenario; octets = octets.scenario }) grows.home (omega (arith, room))
+
 pub growing_never_halt : (cores : Cores) (script : Script) (report : List Entry) (node : NodeId) → ScriptRules script → ScriptHasOctets script → OnlyGrows script → Halts cores script report node → ⊥
 growing_never_halt cores script report node rules octets grows halt =
     let scenario : Scenario = script.scenario in
     let horizon : ℕ = sum_by (λ (timed : Timed). ticks_of timed.event) script.events in
     let trees : List Fec = inclusive_trees scenario in
-    let long : length trees ≡ length scenario.vrfs = length-map scenario.vrfs (inclusive_of scenario) in
-    let room = grows.labels in
-    let left : Left scenario horizon 0 trees script.events = record {
-      adds = grows.adds;
-      sound = all_sound scenario rules.scenario script.events rules.events octets.events;
-      short = omega arith;
-      room = omega (arith, long, room);
-    } in
     never_halts scenario horizon grows.short halt.before halt.timed halt.after 0 0 trees (start scenario cores) halt.trace halt.world halt.acts node
-    (start_grown scenario cores horizon (record { rules = rules.scenario; octets = octets.scenario }) grows.home (omega (arith, room)))
-    (subst (Left scenario horizon 0 trees) halt.events left) halt.run halt.lacks
+    (script_starts cores script horizon rules octets grows) (subst (Left scenario horizon 0 trees) halt.events (all_left script rules octets grows)) halt.run halt.lacks
+
+-- behind first events a node holds a label for each tree at most
+pub growing_holds_few : (cores : Cores) (script : Script) (count : ℕ) (trace : List Traced) (world : World) (node : NodeId) → ScriptRules script → ScriptHasOctets script → OnlyGrows script
+    → Run cores script (take count script.events) trace world
+    → labels_held (part_of (world.network.state.node node)) ≤ length script.scenario.vrfs + count_by (λ (timed : Timed). is_selection timed.event) (take count script.events)
+growing_holds_few cores script count trace world node rules octets grows run =
+    let scenario : Scenario = script.scenario in
+    let horizon : ℕ = sum_by (λ (timed : Timed). ticks_of timed.event) script.events in
+    let trees : List Fec = inclusive_trees scenario in
+    let behind = runs_grow scenario horizon grows.short (take count script.events) (drop count script.events) 0 0 trees (start scenario cores) trace world
+    (script_starts cores script horizon rules octets grows) (subst (Left scenario horizon 0 trees) (sym (take-append-drop count script.events)) (all_left script rules octets grows)) run in
+    let held = few_held _ behind.more (part_of (world.network.state.node node)) (behind.grown.3.nodes.labels node) in
+    let few = behind.few in
+    let long : length trees ≡ length scenario.vrfs = length-map scenario.vrfs (inclusive_of scenario) in
+    omega (arith, held, few, long)
 
 -- all events run, since none halts
 pub growing_run : (cores : Cores) (script : Script) → AreCoresOf script.scenario cores → ScriptRules script → ScriptHasOctets script → OnlyGrows script → (trace : List Traced) × (new : World) × Run cores script script.events trace new

@@ -26,9 +26,9 @@ use Rattle.scenario_defs.specs.declared.scenario.Route.{Route}
 use Rattle.scenario_defs.specs.declared.scenario.Scenario.{Scenario}
 use Rattle.scenario_defs.specs.declared.scenario.Site.{Site}
 use Rattle.scenario_defs.specs.declared.scenario.Vrf.{Vrf}
-use Rattle.calm_laws.proofs.Comms.{all_of}
-use Rattle.calm_laws.proofs.Lists.{any_from, any_among, among_front, among_behind, among_either, among_map}
-use Rattle.calm_laws.proofs.Targets.{same_back}
+use Rattle.edge_words.proofs.calm_laws.Comms.{all_of}
+use Rattle.edge_words.proofs.calm_laws.Lists.{any_from, any_among, among_front, among_behind, among_either, among_map}
+use Rattle.edge_words.proofs.calm_laws.Targets.{same_back}
 use Rattle.growth_laws.specs.Edges.{IsSourceEntry}
 use Rattle.growth_laws.specs.Scripts.{HasOneHome, OnlyAdds, ticks_of, is_selection, OnlyGrows}
 use Rattle.growth_laws.specs.Tests.{is_source_entry, only_adds, all_add, HomeRoute, homes_from, overlap, meet, are_apart, has_one_home, only_grows}

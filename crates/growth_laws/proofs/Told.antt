@@ -9,14 +9,14 @@ use Rattle.mv_base.specs.Lists.{Among}
 use Rattle.mv_base.specs.Pattern.{rank}
 use Rattle.mv_base.specs.declared.ids.NodeId.{NodeId}
 use Rattle.mv_base.specs.declared.pattern.Pattern.{Pattern}
-use Rattle.mldp_fec.specs.declared.fec.Fec.{Fec}
-use Rattle.mvpn_nlri.specs.declared.route.Route.TheVariants as routes
-use Rattle.bgp_attributes.specs.declared.key.Key.{Key}
-use Rattle.bgp_attributes.specs.declared.key.Key.TheVariants as keys
+use Rattle.mldp.specs.declared.mldp_fec.fec.Fec.{Fec}
+use Rattle.bgp_values.specs.declared.mvpn_nlri.route.Route.TheVariants as routes
+use Rattle.bgp_messages.specs.declared.bgp_attributes.key.Key.{Key}
+use Rattle.bgp_messages.specs.declared.bgp_attributes.key.Key.TheVariants as keys
 use Rattle.scenario_defs.specs.Rules.{Rules}
-use Rattle.table_defs.specs.Changes.{lost, news, withdrawals, advertisements, changes}
-use Rattle.table_defs.specs.declared.change.Change.{Change}
-use Rattle.table_defs.specs.declared.change.Change.TheVariants.{Reach, Unreach}
+use Rattle.mv_base.specs.table_defs.Changes.{lost, news, withdrawals, advertisements, changes}
+use Rattle.mv_base.specs.declared.table_defs.change.Change.{Change}
+use Rattle.mv_base.specs.declared.table_defs.change.Change.TheVariants.{Reach, Unreach}
 use Rattle.edge_defs.specs.Edge.{Note, VrfPattern, Selected, Control}
 use Rattle.edge_defs.specs.Held.{held_for, told, put_to}
 use Rattle.edge_defs.specs.Imported.{lsp_of}
@@ -24,8 +24,8 @@ use Rattle.edge_defs.specs.Keys.{Value, Table, key_cmp, same_value}
 use Rattle.edge_defs.specs.Originated.{tunnel_value}
 use Rattle.edge_defs.specs.Place.{EdgePlace, OwnVrf, own_addr, own_vrfs, lsp, tunnel_number}
 use Rattle.edge_defs.proofs.KeyLemmas.{key_total, key_exact}
-use Rattle.held_laws.specs.Held.{IsJoinKey, IsOriginated, Inclusive, Unicast, Selective, Active, Originates}
-use Rattle.held_laws.proofs.Originated.{held_both}
+use Rattle.edge_words.specs.held_laws.Held.{IsJoinKey, IsOriginated, Inclusive, Unicast, Selective, Active, Originates}
+use Rattle.edge_words.proofs.held_laws.Originated.{held_both}
 use Rattle.network_laws.proofs.Lists.{each_append, each_map}
 use Rattle.network_laws.proofs.Maps.{all_entries, kept_is}
 use Rattle.growth_laws.specs.Edges.{IsNarrow}

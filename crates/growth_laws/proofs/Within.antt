@@ -10,8 +10,8 @@ use Rattle.mv_base.specs.Lists.{Among}
 use Rattle.mv_base.specs.Number.{◌>>?◌, only_if}
 use Rattle.mv_base.specs.declared.addr.Addr.{Addr}
 use Rattle.mv_base.specs.declared.ids.NodeId.{NodeId}
-use Rattle.mldp_fec.specs.declared.fec.Fec.{Fec}
-use Rattle.bgp_attributes.specs.declared.key.Key.{Key}
+use Rattle.mldp.specs.declared.mldp_fec.fec.Fec.{Fec}
+use Rattle.bgp_messages.specs.declared.bgp_attributes.key.Key.{Key}
 use Rattle.scenario_defs.specs.declared.scenario.Vrf.{Vrf}
 use Rattle.label_defs.specs.Keys.{fec_cmp}
 use Rattle.label_defs.specs.LabelData.{Place}
@@ -28,12 +28,12 @@ use Rattle.edge_defs.specs.Place.{EdgePlace, OwnVrf, addr_of}
 use Rattle.edge_defs.specs.Steps.{changed_leaves}
 use Rattle.edge_defs.specs.Tunnels.{learned_route, learned_routes, inclusive_tunnels, flow_tunnels, flows_of, leaves}
 use Rattle.edge_defs.proofs.KeyLemmas.{key_total}
-use Rattle.calm_laws.proofs.Lists.{among_either, map_among, flat_map_among, filter_among, found_among}
-use Rattle.calm_laws.proofs.Maps.{entry_get}
-use Rattle.calm_laws.proofs.Imports.{learned_of}
-use Rattle.calm_laws.proofs.Tables.{peer_table}
-use Rattle.calm_laws.proofs.Upstreams.{chained}
-use Rattle.held_laws.specs.Held.{IsJoinKey}
+use Rattle.edge_words.proofs.calm_laws.Lists.{among_either, map_among, flat_map_among, filter_among, found_among}
+use Rattle.edge_words.proofs.calm_laws.Maps.{entry_get}
+use Rattle.edge_words.proofs.calm_laws.Imports.{learned_of}
+use Rattle.edge_words.proofs.calm_laws.Tables.{peer_table}
+use Rattle.edge_words.proofs.calm_laws.Upstreams.{chained}
+use Rattle.edge_words.specs.held_laws.Held.{IsJoinKey}
 use Rattle.network_laws.proofs.Lists.{each_map, each_filter}
 use Rattle.growth_laws.specs.Labels.{TakesNothingBack}
 use Rattle.growth_laws.proofs.Homes.{TakenIsTold}

@@ -6,8 +6,8 @@ use Rattle.std.proofs.lemmas.Bool.{false_from_ne_true, or_left, or_right}
 use Rattle.std.proofs.lemmas.Option.{none-some, same_Some}
 use Rattle.mv_base.specs.Number.{◌>>?◌}
 use Rattle.mv_base.specs.declared.ids.NodeId.{NodeId}
-use Rattle.framing.specs.Feed.{unfed, fed}
-use Rattle.mldp_fec.specs.declared.fec.Fec.{Fec}
+use Rattle.mv_base.specs.framing.Feed.{unfed, fed}
+use Rattle.mldp.specs.declared.mldp_fec.fec.Fec.{Fec}
 use Rattle.scenario_defs.specs.Kinds.{same_kind}
 use Rattle.scenario_defs.specs.declared.event.Kind.{Kind}
 use Rattle.scenario_defs.specs.declared.event.Kind.TheVariants as kinds
@@ -16,17 +16,17 @@ use Rattle.scenario_defs.specs.declared.report.ReportLine.TheVariants as lines
 use Rattle.scenario_defs.specs.declared.scenario.Scenario.{Scenario}
 use Rattle.label_defs.proofs.BetweenLemmas.{between_swap}
 use Rattle.label_defs.proofs.KeyLemmas.{node_itself}
-use Rattle.session_defs.specs.Message.{SessionMessage, same_direction, front_of}
-use Rattle.session_defs.specs.Octets as octets
-use Rattle.session_defs.specs.Octets.{OctetNetwork, OctetAct, with_octets, with_step, all_taken, moved, octet_run}
-use Rattle.session_defs.specs.Refined.{IsLine, AreLines, seen, Keeps, deliveries}
-use Rattle.session_defs.specs.System.{Put, Stepped, MessageNetwork, Behind, with_messages, with_earlier, message_run}
-use Rattle.session_defs.specs.declared.direction.Direction.{Direction}
-use Rattle.session_defs.proofs.Deliveries.{IsSeen, with_news, news_are}
-use Rattle.session_defs.proofs.Lines.{line_joined}
-use Rattle.session_defs.proofs.Moves.{moved_seen}
+use Rattle.network_defs.specs.session_defs.Message.{SessionMessage, same_direction, front_of}
+use Rattle.network_defs.specs.session_defs.Octets as octets
+use Rattle.network_defs.specs.session_defs.Octets.{OctetNetwork, OctetAct, with_octets, with_step, all_taken, moved, octet_run}
+use Rattle.network_defs.specs.session_defs.Refined.{IsLine, AreLines, seen, Keeps, deliveries}
+use Rattle.network_defs.specs.session_defs.System.{Put, Stepped, MessageNetwork, Behind, with_messages, with_earlier, message_run}
+use Rattle.network_defs.specs.declared.session_defs.direction.Direction.{Direction}
+use Rattle.network_defs.proofs.session_defs.Deliveries.{IsSeen, with_news, news_are}
+use Rattle.network_defs.proofs.session_defs.Lines.{line_joined}
+use Rattle.network_defs.proofs.session_defs.Moves.{moved_seen}
 use Rattle.edge_defs.specs.Steps as steps
-use Rattle.calm_laws.proofs.Flows.{later_stands}
+use Rattle.edge_words.proofs.calm_laws.Flows.{later_stands}
 use Rattle.network_defs.specs.Acts.{Tick, Timers, Move, RaiseFirst, RaiseSecond, At, Acted, with_network, is_of_session, with_aged, act}
 use Rattle.network_defs.specs.Counts.{direction, is_end_up}
 use Rattle.network_defs.specs.Nodes.{Nodes, place_of}

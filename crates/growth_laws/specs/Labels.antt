@@ -1,12 +1,12 @@
 -- Label nodes in which nothing is taken back: each label is free, or is mapped for good.
-use Rattle.std.specs.Prelude.{◌≡◌, ◌<◌, ℕ, ⊤, true, List, length, Some}
+use Rattle.std.specs.Prelude.{◌≡◌, ◌<◌, ℕ, ⊤, true, not, List, length, count_by, Some}
 use Rattle.std.specs.List.{AllByRecursion}
 use Rattle.mv_base.specs.Lists.{Among}
 use Rattle.mv_base.specs.declared.ids.NodeId.{NodeId}
-use Rattle.mldp_fec.specs.declared.fec.Fec.{Fec}
-use Rattle.mldp_msgs.specs.declared.message.LabelMessage.{LabelMessage}
-use Rattle.mldp_msgs.specs.declared.message.LabelMessage.TheVariants as messages
-use Rattle.label_defs.specs.LabelData.{Place, LabelData, use_of, has_tree}
+use Rattle.mldp.specs.declared.mldp_fec.fec.Fec.{Fec}
+use Rattle.mldp.specs.declared.mldp_msgs.message.LabelMessage.{LabelMessage}
+use Rattle.mldp.specs.declared.mldp_msgs.message.LabelMessage.TheVariants as messages
+use Rattle.label_defs.specs.LabelData.{Place, LabelData, is_free, use_of, has_tree}
 use Rattle.label_defs.specs.Settled.{Maps}
 use Rattle.label_defs.specs.Settling.{Stepped}
 use Rattle.label_defs.specs.Steps.{Call, Taken, Want, Raised, Timers, label_step}
@@ -17,6 +17,10 @@ use Rattle.label_defs.specs.declared.put.Put.{Put}
 -- all of the first trees are among the second ones
 abbrev pub AreAmong : List Fec → List Fec → Type 0
 AreAmong trees more = (fec : Fec) → Among fec trees → Among fec more
+
+-- how many of its labels the node holds: those that are not free
+abbrev pub labels_held : LabelData → ℕ
+labels_held part = count_by (λ usage. not (is_free usage)) part.labels
 
 -- the label is free, or it is mapped to one of the trees
 abbrev pub IsFreeOrMaps : List Fec → LabelUse → Type 0

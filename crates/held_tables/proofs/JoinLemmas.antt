@@ -11,14 +11,14 @@ use Rattle.mv_base.specs.Number.{only_if}
 use Rattle.mv_base.specs.declared.ids.NodeId.{NodeId}
 use Rattle.mv_base.specs.declared.ids.VrfId.{VrfId}
 use Rattle.mv_base.specs.declared.rd.Rd.{Rd}
-use Rattle.mvpn_nlri.specs.declared.route.Afi.{Afi}
-use Rattle.mvpn_nlri.specs.declared.route.Afi.TheVariants.{Ipv4, Ipv6}
-use Rattle.mvpn_nlri.specs.declared.route.Route.TheVariants as routes
-use Rattle.bgp_attributes.specs.declared.key.Key.{Key}
-use Rattle.bgp_attributes.specs.declared.key.Key.TheVariants as keys
-use Rattle.bgp_update.specs.Written.{afi_of}
+use Rattle.bgp_values.specs.declared.mvpn_nlri.route.Afi.{Afi}
+use Rattle.bgp_values.specs.declared.mvpn_nlri.route.Afi.TheVariants.{Ipv4, Ipv6}
+use Rattle.bgp_values.specs.declared.mvpn_nlri.route.Route.TheVariants as routes
+use Rattle.bgp_messages.specs.declared.bgp_attributes.key.Key.{Key}
+use Rattle.bgp_messages.specs.declared.bgp_attributes.key.Key.TheVariants as keys
+use Rattle.bgp_messages.specs.bgp_update.Written.{afi_of}
 use Rattle.table_laws.proofs.CompareLemmas.{one_key, own_key, other_key}
-use Rattle.tree_defs.specs.declared.flow.Flow.{Flow}
+use Rattle.vrf_words.specs.declared.tree_defs.flow.Flow.{Flow}
 use Rattle.edge_defs.specs.Edge.{Control, Import, Remote, Site, Upstream, VrfFlow, flow_cmp}
 use Rattle.edge_defs.specs.Held.{held_for, join_route, join_routes}
 use Rattle.edge_defs.specs.Keys.{Table, Value, key_cmp}
@@ -26,14 +26,14 @@ use Rattle.edge_defs.specs.Originated.{originated}
 use Rattle.edge_defs.specs.Place.{EdgePlace, own_vrfs}
 use Rattle.edge_defs.proofs.KeyLemmas.{flow_exact, flow_total, key_exact, key_total}
 use Rattle.edge_tables.specs.Tables.{AtPeer, Both, PeerTable, Tables}
-use Rattle.calm_laws.proofs.Entries.{Entry, join_kind, kind_of}
-use Rattle.calm_laws.proofs.Lists.{among_behind, among_flat_map, among_front, any_among, any_from}
-use Rattle.held_laws.specs.Held.{IsJoinKey}
-use Rattle.held_laws.proofs.Originated.{no_join}
-use Rattle.tree_laws.specs.Joins.{AreOfVrfs, join_key}
-use Rattle.tree_laws.specs.TreeOf.{flow_in}
-use Rattle.tree_laws.proofs.Joins.{joins_by_vrfs, told_alike}
-use Rattle.tree_laws.proofs.Joins as trees
+use Rattle.vrf_words.proofs.edge_words.calm_laws.Entries.{Entry, join_kind, kind_of}
+use Rattle.vrf_words.proofs.edge_words.calm_laws.Lists.{among_behind, among_flat_map, among_front, any_among, any_from}
+use Rattle.vrf_words.specs.edge_words.held_laws.Held.{IsJoinKey}
+use Rattle.vrf_words.proofs.edge_words.held_laws.Originated.{no_join}
+use Rattle.vrf_words.specs.tree_laws.Joins.{AreOfVrfs, join_key}
+use Rattle.vrf_words.specs.tree_laws.TreeOf.{flow_in}
+use Rattle.vrf_words.proofs.tree_laws.Joins.{joins_by_vrfs, told_alike}
+use Rattle.vrf_words.proofs.tree_laws.Joins as trees
 use Rattle.held_tables.specs.Holding.{HoldAll}
 use Rattle.held_tables.specs.Joins.{AreOthersAlike, HoldAllBut, join_to, joins_at, joins_of_changed, value_towards, with_flows}
 

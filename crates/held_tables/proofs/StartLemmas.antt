@@ -11,9 +11,9 @@ use Rattle.std.proofs.lemmas.List.Concat.{flat_map-append}
 use Rattle.mv_base.specs.Lists.{Among}
 use Rattle.mv_base.specs.declared.ids.NodeId.{NodeId}
 use Rattle.mv_base.specs.declared.rd.Rd.{Rd}
-use Rattle.bgp_attributes.specs.declared.key.Key.{Key}
-use Rattle.bgp_attributes.specs.declared.key.Key.TheVariants.{Unicast}
-use Rattle.core_walks.specs.Core.{Core}
+use Rattle.bgp_messages.specs.declared.bgp_attributes.key.Key.{Key}
+use Rattle.bgp_messages.specs.declared.bgp_attributes.key.Key.TheVariants.{Unicast}
+use Rattle.mv_base.specs.core_walks.Core.{Core}
 use Rattle.scenario_defs.specs.Rules.{Rules}
 use Rattle.scenario_defs.specs.declared.scenario.Route.{Route}
 use Rattle.table_laws.proofs.CompareLemmas.{one_key, own_key}
@@ -26,15 +26,15 @@ use Rattle.edge_defs.specs.Keys.{Table, Value, key_cmp}
 use Rattle.edge_defs.specs.Originated.{active_key, is_iface_of, notes_of, plain_value}
 use Rattle.edge_defs.specs.Place.{EdgePlace, OwnVrf, own_vrfs}
 use Rattle.edge_defs.proofs.KeyLemmas.{key_exact, key_total, note_exact, note_total}
-use Rattle.edge_home.specs.declared.own_vrf.OwnVrf as homes
-use Rattle.edge_home.specs.Home.{Home, as_own, place_of}
+use Rattle.edge_routes.specs.declared.edge_home.own_vrf.OwnVrf as homes
+use Rattle.edge_routes.specs.edge_home.Home.{Home, as_own, place_of}
 use Rattle.edge_tables.specs.Tables.{Both, EachPeer, PeerTable, Tables, fresh, with_route}
-use Rattle.calm_laws.proofs.Entries.{Entry, IsHeld, OfInclusive, OfUnicast, OfSelective, OfActive, OfJoin, is_held, is_selective}
-use Rattle.calm_laws.proofs.Lists.{among_flat_map, filter_among, flat_map_among, found_among, map_among}
-use Rattle.calm_laws.proofs.Maps.{empty_entries}
-use Rattle.edge_words.proofs.Members.{contained}
-use Rattle.held_laws.specs.Held.{Inclusive}
-use Rattle.held_laws.proofs.Originated.{is_what_is_held, unicast_from}
+use Rattle.vrf_words.proofs.edge_words.calm_laws.Entries.{Entry, IsHeld, OfInclusive, OfUnicast, OfSelective, OfActive, OfJoin, is_held, is_selective}
+use Rattle.vrf_words.proofs.edge_words.calm_laws.Lists.{among_flat_map, filter_among, flat_map_among, found_among, map_among}
+use Rattle.vrf_words.proofs.edge_words.calm_laws.Maps.{empty_entries}
+use Rattle.vrf_words.proofs.edge_words.Members.{contained}
+use Rattle.vrf_words.specs.edge_words.held_laws.Held.{Inclusive}
+use Rattle.vrf_words.proofs.edge_words.held_laws.Originated.{is_what_is_held, unicast_from}
 use Rattle.held_tables.specs.Holding.{HavePartly, HoldAll, IsToldAlike}
 use Rattle.held_tables.specs.Starting.{AreEmpty, HasFront, all_start_routes, home_place, prefix_routes, start_routes, with_routes}
 use Rattle.held_tables.proofs.HoldLemmas.{each_as, each_weaker, partly_as}

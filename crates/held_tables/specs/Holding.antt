@@ -3,15 +3,15 @@ use Rattle.std.specs.Prelude.{◌≡◌, ◌⊎◌, Some}
 use Rattle.std.specs.FinMap.{get}
 use Rattle.mv_base.specs.Lists.{Among}
 use Rattle.mv_base.specs.declared.ids.NodeId.{NodeId}
-use Rattle.bgp_attributes.specs.declared.key.Key.{Key}
+use Rattle.bgp_messages.specs.declared.bgp_attributes.key.Key.{Key}
 use Rattle.scenario_defs.specs.Rules.{Rules}
 use Rattle.edge_defs.specs.Edge.{Control}
 use Rattle.edge_defs.specs.Held.{held_for}
 use Rattle.edge_defs.specs.Keys.{Value}
 use Rattle.edge_defs.specs.Place.{EdgePlace, own_vrfs}
 use Rattle.edge_routes.specs.Local.{IsAt}
-use Rattle.edge_home.specs.declared.own_vrf.OwnVrf.{OwnVrf}
-use Rattle.edge_home.specs.Home.{as_own}
+use Rattle.edge_routes.specs.declared.edge_home.own_vrf.OwnVrf.{OwnVrf}
+use Rattle.edge_routes.specs.edge_home.Home.{as_own}
 use Rattle.edge_tables.specs.Tables.{EachPeer, PeerTable, Tables, with_route, without_route}
 
 -- The VRF is one of the edge, in a scenario that meets its rules, and says the edge's address and autonomous system.

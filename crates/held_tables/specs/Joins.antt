@@ -8,18 +8,18 @@ use Rattle.mv_base.specs.Number.{◌>>?◌, only_if}
 use Rattle.mv_base.specs.declared.ids.NodeId.{NodeId}
 use Rattle.mv_base.specs.declared.ids.VrfId.{VrfId}
 use Rattle.mv_base.specs.declared.rd.Rd.{Rd}
-use Rattle.bgp_attributes.specs.declared.key.Key.{Key}
-use Rattle.bgp_update.specs.Written.{afi_of}
-use Rattle.tree_defs.specs.declared.flow.Flow.{Flow}
-use Rattle.tree_defs.specs.Flows.{upstream_of}
+use Rattle.bgp_messages.specs.declared.bgp_attributes.key.Key.{Key}
+use Rattle.bgp_messages.specs.bgp_update.Written.{afi_of}
+use Rattle.vrf_words.specs.declared.tree_defs.flow.Flow.{Flow}
+use Rattle.vrf_words.specs.tree_defs.Flows.{upstream_of}
 use Rattle.edge_defs.specs.Edge.{Control, Import, Remote, Upstream, VrfFlow, flow_cmp}
 use Rattle.edge_defs.specs.Held.{held_for}
 use Rattle.edge_defs.specs.Keys.{Value}
 use Rattle.edge_defs.specs.Originated.{import_target}
 use Rattle.edge_defs.specs.Place.{EdgePlace, own_addr}
 use Rattle.edge_tables.specs.Tables.{PeerTable, Tables}
-use Rattle.tree_laws.specs.Joins.{is_join_to, join_key, join_value}
-use Rattle.tree_laws.specs.TreeOf.{choice_of, flow_in}
+use Rattle.vrf_words.specs.tree_laws.Joins.{is_join_to, join_key, join_value}
+use Rattle.vrf_words.specs.tree_laws.TreeOf.{choice_of, flow_in}
 
 -- ---- what flows say
 

@@ -4,14 +4,14 @@ use Rattle.std.specs.List.{flat_map}
 use Rattle.std.specs.FinMap.{empty, get}
 use Rattle.mv_base.specs.declared.ids.NodeId.{NodeId}
 use Rattle.mv_base.specs.declared.rd.Rd.{Rd}
-use Rattle.bgp_attributes.specs.declared.key.Key.{Key}
-use Rattle.bgp_attributes.specs.declared.key.Key.TheVariants.{Unicast}
-use Rattle.core_walks.specs.Core.{Core}
+use Rattle.bgp_messages.specs.declared.bgp_attributes.key.Key.{Key}
+use Rattle.bgp_messages.specs.declared.bgp_attributes.key.Key.TheVariants.{Unicast}
+use Rattle.mv_base.specs.core_walks.Core.{Core}
 use Rattle.scenario_defs.specs.declared.scenario.Route.{Route}
 use Rattle.edge_defs.specs.Keys.{Value}
 use Rattle.edge_defs.specs.Originated.{inclusive_route, unicast_routes}
 use Rattle.edge_defs.specs.Place.{EdgePlace, OwnVrf, own_vrfs}
-use Rattle.edge_home.specs.Home.{Home, place_of}
+use Rattle.edge_routes.specs.edge_home.Home.{Home, place_of}
 use Rattle.edge_tables.specs.Tables.{PeerTable, Tables, with_route}
 
 -- ---- routes

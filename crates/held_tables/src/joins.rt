@@ -2,11 +2,11 @@
 ghost use Rattle.std.specs.Prelude.{◌≡◌, ◌∷◌, ℕ, List, None, Some, OnOk, OnErr};
 ghost use Rattle.std.specs.FinMap as maps;
 ghost use Rattle.mv_base.specs.declared.ids.NodeId.{NodeId};
-ghost use Rattle.mvpn_nlri.specs.Spelling.{IsGroup};
-ghost use Rattle.mvpn_nlri.specs.declared.route.Route.TheVariants as routes;
-ghost use Rattle.bgp_attributes.specs.declared.key.Key.{Key};
-ghost use Rattle.bgp_attributes.specs.declared.key.Key.TheVariants.{Mcast};
-ghost use Rattle.bgp_update.specs.Written.{afi_of};
+ghost use Rattle.bgp_values.specs.mvpn_nlri.Spelling.{IsGroup};
+ghost use Rattle.bgp_values.specs.declared.mvpn_nlri.route.Route.TheVariants as routes;
+ghost use Rattle.bgp_messages.specs.declared.bgp_attributes.key.Key.{Key};
+ghost use Rattle.bgp_messages.specs.declared.bgp_attributes.key.Key.TheVariants.{Mcast};
+ghost use Rattle.bgp_messages.specs.bgp_update.Written.{afi_of};
 ghost use Rattle.edge_defs.specs.Edge.{Control};
 ghost use Rattle.edge_defs.specs.Held.{held_for};
 ghost use Rattle.edge_defs.specs.Place.{EdgePlace};
@@ -15,7 +15,7 @@ ghost use Rattle.edge_tables.specs.Tables.{AtPeer, with_route, without_route};
 ghost use Rattle.held_tables.specs.Joins.{HoldAllBut, value_towards};
 
 use crate::keys;
-use edge_home::OwnVrf;
+use edge_routes::edge_home::OwnVrf;
 use edge_routes::{RemoteUpstream, join_route};
 use edge_tables::EdgeTables;
 use mv_base::{Addr, NoMemory, NodeId, Rd};

@@ -1,21 +1,21 @@
 //! Keys that have spellings.
 ghost use Rattle.std.specs.Prelude.{◌≡◌};
 ghost use Rattle.mv_base.specs.declared.addr.Addr.TheVariants.{V4};
-ghost use Rattle.mvpn_nlri.specs.Spelling.{IsAnyOr, IsGroup};
-ghost use Rattle.mvpn_nlri.specs.declared.route.Afi.TheVariants.{Ipv4};
-ghost use Rattle.mvpn_nlri.specs.declared.route.Route.TheVariants as routes;
-ghost use Rattle.bgp_attributes.specs.declared.key.Key.TheVariants.{Mcast, Unicast};
-ghost use Rattle.bgp_update.specs.Written.{afi_of};
+ghost use Rattle.bgp_values.specs.mvpn_nlri.Spelling.{IsAnyOr, IsGroup};
+ghost use Rattle.bgp_values.specs.declared.mvpn_nlri.route.Afi.TheVariants.{Ipv4};
+ghost use Rattle.bgp_values.specs.declared.mvpn_nlri.route.Route.TheVariants as routes;
+ghost use Rattle.bgp_messages.specs.declared.bgp_attributes.key.Key.TheVariants.{Mcast, Unicast};
+ghost use Rattle.bgp_messages.specs.bgp_update.Written.{afi_of};
 ghost use Rattle.scenario_defs.specs.Rules.{IsSitePrefix};
 ghost use Rattle.edge_defs.specs.Originated.{active_key, afi_by, inclusive_key, selective_key};
 ghost use Rattle.edge_defs.specs.Place.{EdgePlace};
 ghost use Rattle.edge_routes.specs.Local.{IsAt};
 
-use bgp_attributes::Key;
+use bgp_messages::bgp_attributes::Key;
+use bgp_values::mvpn_nlri::Route;
+use edge_routes::route_order::TableKey;
 use edge_routes::{LocalVrf, afi_of};
 use mv_base::{Addr, Pattern, Prefix, Rd};
-use mvpn_nlri::Route;
-use route_order::TableKey;
 
 /// The key of a Source Active A-D route.
 pub(crate) fn active_key(own: &LocalVrf, source: Addr, group: Addr) -> TableKey

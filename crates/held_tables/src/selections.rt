@@ -1,14 +1,14 @@
 //! S-PMSI A-D routes (RFC 6514 section 12.1).
 ghost use Rattle.std.specs.Prelude.{◌≡◌, OnOk, OnErr};
-ghost use Rattle.mvpn_nlri.specs.Spelling.{IsAnyOr, IsGroup};
+ghost use Rattle.bgp_values.specs.mvpn_nlri.Spelling.{IsAnyOr, IsGroup};
 ghost use Rattle.edge_defs.specs.Edge.{Control, Selected};
 ghost use Rattle.edge_defs.specs.Originated.{afi_by, selective_key, tunnel_value};
 ghost use Rattle.edge_defs.specs.Place.{EdgePlace, tunnel_number};
-ghost use Rattle.held_laws.specs.Held.{with_selected, without_selected};
+ghost use Rattle.vrf_words.specs.edge_words.held_laws.Held.{with_selected, without_selected};
 ghost use Rattle.held_tables.specs.Holding.{AreToldAlike, HavePartly, HoldAll, IsOwnAt, LackPartly};
 
 use crate::keys;
-use edge_home::OwnVrf;
+use edge_routes::edge_home::OwnVrf;
 use edge_routes::{tunnel_number, tunnel_value};
 use edge_tables::EdgeTables;
 use mv_base::{NoMemory, Pattern};

@@ -1,17 +1,17 @@
 //! Source Active A-D routes (RFC 6514 section 14.1).
 ghost use Rattle.std.specs.Prelude.{◌≡◌, true, OnOk, OnErr};
 ghost use Rattle.mv_base.specs.declared.ids.IfaceId.{IfaceId};
-ghost use Rattle.mvpn_nlri.specs.Spelling.{IsGroup};
-ghost use Rattle.bgp_update.specs.Written.{afi_of};
+ghost use Rattle.bgp_values.specs.mvpn_nlri.Spelling.{IsGroup};
+ghost use Rattle.bgp_messages.specs.bgp_update.Written.{afi_of};
 ghost use Rattle.edge_defs.specs.Edge.{Control};
 ghost use Rattle.edge_defs.specs.Originated.{active_key, is_iface_of, plain_value};
 ghost use Rattle.edge_defs.specs.Place.{EdgePlace};
-ghost use Rattle.edge_home.specs.Home.{as_own};
-ghost use Rattle.held_laws.specs.Held.{IsNotedBeside, note_of, with_note, without_note};
+ghost use Rattle.edge_routes.specs.edge_home.Home.{as_own};
+ghost use Rattle.vrf_words.specs.edge_words.held_laws.Held.{IsNotedBeside, note_of, with_note, without_note};
 ghost use Rattle.held_tables.specs.Holding.{AreToldAlike, HavePartly, HoldAll, IsOwnAt, LackPartly};
 
 use crate::keys;
-use edge_home::OwnVrf;
+use edge_routes::edge_home::OwnVrf;
 use edge_routes::plain_value;
 use edge_tables::EdgeTables;
 use mv_base::{Addr, NoMemory};

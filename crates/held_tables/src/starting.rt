@@ -1,11 +1,11 @@
 //! What each peer is to have before anything happens (RFC 6514 section 9.1.1; RFC 4364 section 4.3).
 ghost use Rattle.std.specs.Prelude.{◌≡◌, map, All, OnOk, OnErr};
 ghost use Rattle.std.specs.List.{flat_map};
-ghost use Rattle.core_walks.specs.Core.{Core};
+ghost use Rattle.mv_base.specs.core_walks.Core.{Core};
 ghost use Rattle.scenario_defs.specs.Rules.{IsSitePrefix};
 ghost use Rattle.edge_defs.specs.Edge.{no_control};
 ghost use Rattle.edge_defs.specs.Originated.{unicast_routes};
-ghost use Rattle.edge_home.specs.Home.{as_own, place_of};
+ghost use Rattle.edge_routes.specs.edge_home.Home.{as_own, place_of};
 ghost use Rattle.edge_routes.specs.Local.{IsAt};
 ghost use Rattle.edge_tables.specs.Tables.{EachPeer};
 ghost use Rattle.held_tables.specs.Holding.{AreToldAlike, HoldAll};
@@ -21,12 +21,12 @@ ghost use Rattle.held_tables.specs.Starting.{
 };
 
 use crate::keys;
-use edge_home::{EdgeHome, OwnVrf};
+use edge_routes::edge_home::{EdgeHome, OwnVrf};
+use edge_routes::route_order::TableValue;
 use edge_routes::{LocalVrf, tunnel_number, tunnel_value, unicast_value};
 use edge_tables::EdgeTables;
 use mv_base::NoMemory;
 use mvpn_model::local_routes;
-use route_order::TableValue;
 use scenario_defs::Route;
 use std::alloc::Global;
 

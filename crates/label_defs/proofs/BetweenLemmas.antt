@@ -1,7 +1,7 @@
 -- Which of two nodes is named first tells nothing.
 use Rattle.std.proofs.Common.{◌≡◌, ◌==◌, ◌&&◌, ◌||◌, ◌∙◌}
 use Rattle.std.proofs.Math.Bool.{and_comm, or_comm}
-use Rattle.mv_base.specs.declared.ids.NodeId.{NodeId}
+use Rattle.mldp.specs.mv_base.declared.ids.NodeId.{NodeId}
 use Rattle.label_defs.specs.Between.{is_between, is_either}
 
 pub between_swap : (a b u n : NodeId) → is_between a b u n ≡ is_between a b n u

@@ -4,10 +4,10 @@ use Rattle.std.specs.FinMap as maps
 use Rattle.std.specs.FinMap.{FinMap}
 use Rattle.std.proofs.lemmas.Bool.{cases_eq, cond-true, cond-false, eq-eqb, ne_eqb}
 use Rattle.std.proofs.lemmas.Option.{same_Some, none-some}
-use Rattle.mv_base.specs.declared.ids.NodeId.{NodeId}
-use Rattle.mldp_fec.specs.declared.fec.Fec.{Fec}
-use Rattle.mldp_msgs.specs.declared.message.LabelMessage.{LabelMessage}
-use Rattle.mldp_msgs.specs.declared.message.LabelMessage.TheVariants as messages
+use Rattle.mldp.specs.mv_base.declared.ids.NodeId.{NodeId}
+use Rattle.mldp.specs.declared.mldp_fec.fec.Fec.{Fec}
+use Rattle.mldp.specs.declared.mldp_msgs.message.LabelMessage.{LabelMessage}
+use Rattle.mldp.specs.declared.mldp_msgs.message.LabelMessage.TheVariants as messages
 use Rattle.label_defs.specs.declared.end.End.{End}
 use Rattle.label_defs.specs.declared.label_use.LabelUse.{LabelUse}
 use Rattle.label_defs.specs.declared.put.Put.{Put}

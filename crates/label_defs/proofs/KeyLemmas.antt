@@ -7,12 +7,12 @@ use Rattle.std.specs.FinMap.{IsAntisymmetric, nat_cmp-IsAntisymmetric, slice_cmp
 use Rattle.std.proofs.lemmas.Cmp.{on_total}
 use Rattle.std.proofs.lemmas.Bool.{cases_Bool}
 use Rattle.std.proofs.lemmas.Bool.Decides.{nat_tests}
-use Rattle.mv_base.specs.declared.ids.NodeId.{NodeId}
-use Rattle.mv_base.specs.Address.{addr_front}
-use Rattle.mv_base.proofs.AddressLemmas.{addr_fronts}
-use Rattle.mldp_fec.specs.declared.fec.FecKind.{FecKind}
-use Rattle.mldp_fec.specs.declared.fec.FecKind.TheVariants.{P2mp, Up, Down}
-use Rattle.mldp_fec.specs.declared.fec.Fec.{Fec}
+use Rattle.mldp.specs.mv_base.declared.ids.NodeId.{NodeId}
+use Rattle.mldp.specs.mv_base.Address.{addr_front}
+use Rattle.mldp.proofs.mv_base.AddressLemmas.{addr_fronts}
+use Rattle.mldp.specs.declared.mldp_fec.fec.FecKind.{FecKind}
+use Rattle.mldp.specs.declared.mldp_fec.fec.FecKind.TheVariants.{P2mp, Up, Down}
+use Rattle.mldp.specs.declared.mldp_fec.fec.Fec.{Fec}
 use Rattle.label_defs.specs.declared.branch.Branch.{Branch}
 use Rattle.label_defs.specs.Keys.{kind_key, fec_key, fec_cmp, branch_key, branch_cmp, node_cmp}
 use Rattle.label_defs.specs.LabelData.{same_fec}

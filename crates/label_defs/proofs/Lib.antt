@@ -1,3 +1,4 @@
+pub use Rattle.mldp.proofs as mldp
 pub mod KeyLemmas
 pub mod MemberLemmas
 pub mod BetweenLemmas

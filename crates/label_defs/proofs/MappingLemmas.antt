@@ -6,9 +6,9 @@ use Rattle.std.proofs.lemmas.Bool.{cases_eq, eq-eqb, or_left, or_right}
 use Rattle.std.proofs.lemmas.List.{append-nil}
 use Rattle.std.proofs.lemmas.List.Folds.{list_any-append}
 use Rattle.std.proofs.lemmas.Option.{same_Some}
-use Rattle.mv_base.specs.declared.ids.NodeId.{NodeId}
-use Rattle.mldp_fec.specs.declared.fec.Fec.{Fec}
-use Rattle.mldp_msgs.specs.declared.message.LabelMessage.TheVariants as messages
+use Rattle.mldp.specs.mv_base.declared.ids.NodeId.{NodeId}
+use Rattle.mldp.specs.declared.mldp_fec.fec.Fec.{Fec}
+use Rattle.mldp.specs.declared.mldp_msgs.message.LabelMessage.TheVariants as messages
 use Rattle.label_defs.specs.declared.end.End.{End}
 use Rattle.label_defs.specs.declared.label_use.LabelUse.{LabelUse}
 use Rattle.label_defs.specs.declared.label_use.LabelUse.TheVariants as uses

@@ -4,9 +4,9 @@ use Rattle.std.proofs.lemmas.Bool.{cases_Bool, cond-true, cond-false, eq-eqb, eq
 use Rattle.std.proofs.lemmas.List.{append-nil}
 use Rattle.std.proofs.lemmas.List.Elements.{filter-append}
 use Rattle.std.proofs.lemmas.Option.{same_Some}
-use Rattle.mv_base.specs.declared.ids.NodeId.{NodeId}
-use Rattle.mldp_fec.specs.declared.fec.Fec.{Fec}
-use Rattle.mldp_msgs.specs.declared.message.LabelMessage.TheVariants as messages
+use Rattle.mldp.specs.mv_base.declared.ids.NodeId.{NodeId}
+use Rattle.mldp.specs.declared.mldp_fec.fec.Fec.{Fec}
+use Rattle.mldp.specs.declared.mldp_msgs.message.LabelMessage.TheVariants as messages
 use Rattle.label_defs.specs.declared.label_use.LabelUse.{LabelUse}
 use Rattle.label_defs.specs.declared.label_use.LabelUse.TheVariants as uses
 use Rattle.label_defs.specs.declared.put.Put.{Put}

@@ -2,8 +2,8 @@
 use Rattle.std.proofs.Common.{◌≡◌, false, ◌||◌, ◌++◌, inl, inr, List, [], ◌∷◌, Option, Some, None, refl, sym, ap, subst, ◌∙◌}
 use Rattle.std.specs.List.{list_any}
 use Rattle.std.proofs.lemmas.Option.{same_Some, none-some}
-use Rattle.mv_base.specs.Number.{◌>>?◌}
-use Rattle.mldp_fec.specs.declared.fec.Fec.{Fec}
+use Rattle.mldp.specs.mv_base.Number.{◌>>?◌}
+use Rattle.mldp.specs.declared.mldp_fec.fec.Fec.{Fec}
 use Rattle.label_defs.specs.LabelData.{Place, LabelData, same_fec}
 use Rattle.label_defs.specs.Settling.{change_of, changed, put_by, Stepped, settle_all}
 use Rattle.label_defs.specs.Settled.{Settled, AllSettled}

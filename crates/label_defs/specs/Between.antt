@@ -1,6 +1,6 @@
 -- The two nodes of a session or a link, whichever of them is named first.
 use Rattle.std.specs.Prelude.{◌==◌, ◌&&◌, ◌||◌, Bool}
-use Rattle.mv_base.specs.declared.ids.NodeId.{NodeId}
+use Rattle.mldp.specs.mv_base.declared.ids.NodeId.{NodeId}
 
 -- whether both are these two, either way round
 abbrev pub is_between : NodeId → NodeId → NodeId → NodeId → Bool

@@ -3,11 +3,11 @@ use Rattle.std.specs.Prelude.{ℕ, List, ◌∷◌, ◌++◌}
 use Rattle.std.specs.Ordering.{nat_cmp}
 use Rattle.std.specs.declared.cmp.Ordering.{Ordering}
 use Rattle.std.specs.Cmp.Lexicographic.{slice_cmp}
-use Rattle.mv_base.specs.declared.ids.NodeId.{NodeId}
-use Rattle.mv_base.specs.Address.{addr_front}
-use Rattle.mldp_fec.specs.declared.fec.FecKind.{FecKind}
-use Rattle.mldp_fec.specs.declared.fec.FecKind.TheVariants.{P2mp, Up, Down}
-use Rattle.mldp_fec.specs.declared.fec.Fec.{Fec}
+use Rattle.mldp.specs.mv_base.declared.ids.NodeId.{NodeId}
+use Rattle.mldp.specs.mv_base.Address.{addr_front}
+use Rattle.mldp.specs.declared.mldp_fec.fec.FecKind.{FecKind}
+use Rattle.mldp.specs.declared.mldp_fec.fec.FecKind.TheVariants.{P2mp, Up, Down}
+use Rattle.mldp.specs.declared.mldp_fec.fec.Fec.{Fec}
 use Rattle.label_defs.specs.declared.branch.Branch.{Branch}
 
 abbrev pub kind_key : FecKind → ℕ

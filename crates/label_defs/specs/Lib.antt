@@ -1,3 +1,4 @@
+pub use Rattle.mldp.specs as mldp
 pub mod Keys
 pub mod Members
 pub mod LabelData

@@ -5,15 +5,15 @@ use Rattle.std.specs.Prelude.{Option, None, Some, if◌then◌else◌}
 use Rattle.std.specs.FinMap as maps
 use Rattle.std.specs.FinMap.{FinMap}
 use Rattle.std.specs.List.{list_any}
-use Rattle.mv_base.specs.Address.{same_addr}
-use Rattle.mv_base.specs.Number.{◌>>?◌}
-use Rattle.mv_base.specs.declared.addr.Addr.{Addr}
-use Rattle.mv_base.specs.declared.addr.Addr.TheVariants.{V4}
-use Rattle.mv_base.specs.declared.ids.NodeId.{NodeId}
-use Rattle.core_walks.specs.Core.{Core}
-use Rattle.mldp_fec.specs.declared.fec.FecKind.{FecKind}
-use Rattle.mldp_fec.specs.declared.fec.FecKind.TheVariants.{P2mp}
-use Rattle.mldp_msgs.specs.Spelling as pdus
+use Rattle.mldp.specs.mv_base.Address.{same_addr}
+use Rattle.mldp.specs.mv_base.Number.{◌>>?◌}
+use Rattle.mldp.specs.mv_base.declared.addr.Addr.{Addr}
+use Rattle.mldp.specs.mv_base.declared.addr.Addr.TheVariants.{V4}
+use Rattle.mldp.specs.mv_base.declared.ids.NodeId.{NodeId}
+use Rattle.mldp.specs.mv_base.core_walks.Core.{Core}
+use Rattle.mldp.specs.declared.mldp_fec.fec.FecKind.{FecKind}
+use Rattle.mldp.specs.declared.mldp_fec.fec.FecKind.TheVariants.{P2mp}
+use Rattle.mldp.specs.mldp_msgs.Spelling as pdus
 use Rattle.label_defs.specs.Keys.{node_cmp}
 use Rattle.label_defs.specs.LabelData.{Place, LabelData, fresh}
 use Rattle.label_defs.specs.Settling.{Stepped}

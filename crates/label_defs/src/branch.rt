@@ -1,6 +1,6 @@
 //! Branches of trees.
-use mldp_fec::Fec;
-use mv_base::NodeId;
+use mldp::mldp_fec::Fec;
+use mldp::of_mv_base::NodeId;
 
 /// A branch of a P2MP LSP: the neighbour mapped the label to the FEC, so a copy on the tree goes to it under that label.
 #[derive(Clone, Copy, PartialEq, Eq)]

@@ -1,5 +1,5 @@
 //! What a tree of a node needs.
-use mv_base::NodeId;
+use mldp::of_mv_base::NodeId;
 
 /// What a tree of a node needs so that it is settled.
 #[derive(Clone, Copy, PartialEq, Eq)]

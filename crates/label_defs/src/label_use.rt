@@ -1,6 +1,6 @@
 //! What a label is used for.
-use mldp_fec::Fec;
-use mv_base::NodeId;
+use mldp::mldp_fec::Fec;
+use mldp::of_mv_base::NodeId;
 
 /// What a label number of a node is used for.
 #[derive(Clone, Copy, PartialEq, Eq)]

@@ -3,9 +3,9 @@ ghost use Rattle.std.specs.Prelude.{◌≡◌, ℕ, ◌+◌, ◌<◌, ◌≤◌,
 ghost use Rattle.std.specs.List.{filter};
 ghost use Rattle.std.specs.FinMap as maps;
 ghost use Rattle.std.specs.FinSet as sets;
-ghost use Rattle.mv_base.specs.declared.ids.NodeId.{NodeId};
-ghost use Rattle.mldp_fec.specs.declared.fec.Fec.{Fec};
-ghost use Rattle.mldp_msgs.specs.declared.message.LabelMessage.TheVariants as messages;
+ghost use Rattle.mldp.specs.mv_base.declared.ids.NodeId.{NodeId};
+ghost use Rattle.mldp.specs.declared.mldp_fec.fec.Fec.{Fec};
+ghost use Rattle.mldp.specs.declared.mldp_msgs.message.LabelMessage.TheVariants as messages;
 ghost use Rattle.label_defs.specs.declared.branch.Branch.{Branch};
 ghost use Rattle.label_defs.specs.declared.end.End.{End};
 ghost use Rattle.label_defs.specs.declared.label_use.LabelUse.{LabelUse};

@@ -1,6 +1,6 @@
 //! Messages that are put.
-use mldp_msgs::LabelMessage;
-use mv_base::NodeId;
+use mldp::mldp_msgs::LabelMessage;
+use mldp::of_mv_base::NodeId;
 
 /// A label message that a node puts to a neighbour.
 #[derive(Clone, Copy, PartialEq, Eq)]

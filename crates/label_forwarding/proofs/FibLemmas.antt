@@ -15,7 +15,7 @@ use Rattle.std.specs.FinSet.{FinSet}
 use Rattle.std.proofs.lemmas.List.Sums.{sum_by-cons}
 use Rattle.indexmap.specs.IndexMap.{get, IsUnique}
 use Rattle.mv_base.proofs.SortedMaps.{map_sorted}
-use Rattle.mldp_fec.specs.declared.fec.Fec.{Fec}
+use Rattle.label_defs.specs.mldp.declared.mldp_fec.fec.Fec.{Fec}
 use Rattle.label_defs.specs.Keys.{fec_cmp}
 use Rattle.label_defs.specs.declared.branch.Branch.{Branch as TreeBranch}
 use Rattle.label_defs.specs.LabelData.{same_fec}
@@ -30,7 +30,7 @@ use Rattle.label_forwarding.specs.FibData.{FibData, branch_in, with_leaf, is_on,
 use Rattle.label_forwarding.specs.Slots.{is_fec, kept, Pairs, Slots, fib_of, leaves_in, noted, mapped_of, IsFib}
 use Rattle.label_forwarding.proofs.HopLemmas.{hop_cmp_total, hop-ties}
 use Rattle.label_forwarding.proofs.SlotLemmas.{fec-ties, fec_flips, hop_of, leaf_of, has_hop, leaf_seen, branch_seen, kept_leaf, kept_hop, kept_count}
-use Rattle.mldp_fec.proofs.SameLemmas.{fec_equal, fec_itself}
+use Rattle.label_defs.proofs.mldp.mldp_fec.SameLemmas.{fec_equal, fec_itself}
 
 -- ---- order
 

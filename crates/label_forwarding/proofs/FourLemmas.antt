@@ -7,7 +7,7 @@ use Rattle.mv_base.specs.Checksum.{checksum}
 use Rattle.mv_base.specs.Octets.{IsOctets}
 use Rattle.mv_base.proofs.Fields.{wide16}
 use Rattle.label_forwarding.specs.declared.fault.PacketFault.{PacketFault}
-use Rattle.label_forwarding.specs.declared.fault.PacketReason.TheVariants as reasons
+use Rattle.label_forwarding.specs.declared.fault.PacketFault.TheVariants as reasons
 use Rattle.label_forwarding.specs.Spelling.{FourFields, AreFour, four_octets, unsummed, HeaderFits, TotalFits, SumFits, IsFourGroup, IsFourLocal, MeetsFour}
 use Rattle.label_forwarding.specs.FirstFault.{FourFault}
 use Rattle.label_forwarding.specs.FirstFault as four_faults
@@ -108,7 +108,7 @@ four_laid octets fits le version =
 
 -- ---- the tests
 
-chain : Bool → Bool → Bool → Bool → Bool → Option PacketFault
+chain : Bool → Bool → Bool → Bool → Bool → Option (ℕ × PacketFault)
 chain a b c d e = cond a (bad 0 reasons.HeaderLength) (cond b (bad 2 reasons.TotalLength) (cond c (bad 10 reasons.Checksum) (cond d (bad 16 reasons.NotMulticast) (cond e (bad 16 reasons.LinkLocal) None))))
 
 -- what the five tests tell of fields
@@ -119,7 +119,7 @@ record FourTold (a b c d e : Bool) (f : FourFields) : Type 0 where
   pub multicast : Tells d (IsFourGroup f.group) (¬ IsFourGroup f.group)
   pub global : Tells e (¬ IsFourLocal f.group) (IsFourLocal f.group)
 
-chain_settles : (a b c d e : Bool) (f : FourFields) → FourTold a b c d e f → ((chain a b c d e ≡ None) × MeetsFour f) ⊎ ((x : PacketFault) × (chain a b c d e ≡ Some x) × FourFault f x)
+chain_settles : (a b c d e : Bool) (f : FourFields) → FourTold a b c d e f → ((chain a b c d e ≡ None) × MeetsFour f) ⊎ ((x : ℕ × PacketFault) × (chain a b c d e ≡ Some x) × FourFault f x)
 unfolding chain
 chain_settles a b c d e f told =
     elim told.header [
@@ -144,7 +144,7 @@ unfolding chain
 chain_meets a b c d e f told m =
     rw (holds told.header (λ n. n m.header), holds told.total (λ n. n m.total), holds (told.sum m.header) (λ n. n m.sum), holds told.multicast (λ n. n m.multicast), holds told.global m.global) refl
 
-chain_fails : (a b c d e : Bool) (f : FourFields) (x : PacketFault) → FourTold a b c d e f → FourFault f x → chain a b c d e ≡ Some x
+chain_fails : (a b c d e : Bool) (f : FourFields) (x : ℕ × PacketFault) → FourTold a b c d e f → FourFault f x → chain a b c d e ≡ Some x
 unfolding chain
 chain_fails a b c d e f x told (four_faults.header_length n is) = rw (fails told.header n, is) refl
 chain_fails a b c d e f x told (four_faults.total_length h n is) = rw (holds told.header (λ k. k h), fails told.total n, is) refl
@@ -197,7 +197,7 @@ told_of octets f read =
 
 -- ---- the first fault
 
-pub four_settles : (octets : List ℕ) (f : FourFields) → FourRead octets f → ((four_fault octets ≡ None) × MeetsFour f) ⊎ ((x : PacketFault) × (four_fault octets ≡ Some x) × FourFault f x)
+pub four_settles : (octets : List ℕ) (f : FourFields) → FourRead octets f → ((four_fault octets ≡ None) × MeetsFour f) ⊎ ((x : ℕ × PacketFault) × (four_fault octets ≡ Some x) × FourFault f x)
 four_settles octets f read =
     elim (chain_settles _ _ _ _ _ f (told_of octets f read)) [
       | inl fine ↦ inl (is_chain octets ∙ fine.0, fine.1)
@@ -207,5 +207,5 @@ four_settles octets f read =
 pub four_meets : (octets : List ℕ) (f : FourFields) → FourRead octets f → MeetsFour f → four_fault octets ≡ None
 four_meets octets f read m = is_chain octets ∙ chain_meets _ _ _ _ _ f (told_of octets f read) m
 
-pub four_fails : (octets : List ℕ) (f : FourFields) (x : PacketFault) → FourRead octets f → FourFault f x → four_fault octets ≡ Some x
+pub four_fails : (octets : List ℕ) (f : FourFields) (x : ℕ × PacketFault) → FourRead octets f → FourFault f x → four_fault octets ≡ Some x
 four_fails octets f x read fault = is_chain octets ∙ chain_fails _ _ _ _ _ f x (told_of octets f read) fault

@@ -14,8 +14,8 @@ use Rattle.std.proofs.lemmas.Bool.{cases_Bool, or_cases, or_left, or_right, ne_e
 use Rattle.std.proofs.lemmas.Bool.Decides.{eqb_tells}
 use Rattle.indexmap.specs.IndexMap.{get}
 use Rattle.mv_base.proofs.SortedMaps.{find-lookup, map_sorted}
-use Rattle.mldp_fec.specs.declared.fec.Fec.{Fec}
-use Rattle.mldp_fec.proofs.SameLemmas.{fec_equal}
+use Rattle.label_defs.specs.mldp.declared.mldp_fec.fec.Fec.{Fec}
+use Rattle.label_defs.proofs.mldp.mldp_fec.SameLemmas.{fec_equal}
 use Rattle.label_defs.specs.LabelData.{same_fec}
 use Rattle.label_defs.proofs.KeyLemmas.{same_fec_equal, same_fec_itself}
 use Rattle.label_forwarding.specs.declared.branch.Branch.{Branch}

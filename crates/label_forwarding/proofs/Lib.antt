@@ -1,3 +1,4 @@
+pub use Rattle.label_defs.proofs as label_defs
 pub mod OctetLemmas
 pub mod TestLemmas
 pub mod FourLemmas

@@ -7,7 +7,7 @@ use Rattle.std.specs.Option.{option_map_or}
 use Rattle.std.proofs.lemmas.List.Sums.{sum_by-cons, sum_by-append, sum_by-swap_remove, count_by-le-length}
 use Rattle.std.proofs.lemmas.Bool.{lt-ltb}
 use Rattle.indexmap.specs.IndexMap.{swap_remove_entry}
-use Rattle.mldp_fec.specs.declared.fec.Fec.{Fec}
+use Rattle.label_defs.specs.mldp.declared.mldp_fec.fec.Fec.{Fec}
 use Rattle.label_forwarding.specs.declared.branch.Branch.{Branch}
 use Rattle.label_forwarding.specs.Slots.{is_fec, noted}
 

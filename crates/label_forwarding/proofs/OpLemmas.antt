@@ -7,7 +7,7 @@ use Rattle.std.specs.Option.{unwrap_or}
 use Rattle.std.specs.FinMap as maps
 use Rattle.std.specs.FinSet as sets
 use Rattle.indexmap.specs.IndexMap.{get, IsUnique}
-use Rattle.mldp_fec.specs.declared.fec.Fec.{Fec}
+use Rattle.label_defs.specs.mldp.declared.mldp_fec.fec.Fec.{Fec}
 use Rattle.label_forwarding.specs.declared.branch.Branch.{Branch}
 use Rattle.label_forwarding.specs.declared.slots.Slot.{Slot}
 use Rattle.label_forwarding.specs.Hops.{hop_cmp, Hops, is_hop}
@@ -17,7 +17,7 @@ use Rattle.label_defs.proofs.KeyLemmas.{branch_cmp_total, branch_cmp_exact}
 use Rattle.label_defs.proofs.SetLemmas.{removed_again}
 use Rattle.label_forwarding.proofs.HopLemmas.{hop_cmp_exact, hop-ties}
 use Rattle.label_forwarding.proofs.SlotLemmas.{leaf_of, has_hop, branch_seen, had_leaf, had_hop, had_count}
-use Rattle.mldp_fec.proofs.SameLemmas.{fec_itself}
+use Rattle.label_defs.proofs.mldp.mldp_fec.SameLemmas.{fec_itself}
 use Rattle.label_forwarding.proofs.FibLemmas.{Changed, changed_by, leaves_stay, leaves_change}
 use Rattle.label_forwarding.proofs.StepLemmas.{branches_stay, branches_add, branches_cut, pairs_put, pairs_cut, fib_kept, same_counts, more_counts, less_counts, roomier}
 

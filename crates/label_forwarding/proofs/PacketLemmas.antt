@@ -8,7 +8,7 @@ use Rattle.mv_base.proofs.Fields.{ok_is}
 use Rattle.mv_base.specs.declared.addr.Addr.{Addr}
 use Rattle.mv_base.specs.declared.addr.Addr.TheVariants.{V4, V6}
 use Rattle.label_forwarding.specs.declared.fault.PacketFault.{PacketFault}
-use Rattle.label_forwarding.specs.declared.fault.PacketReason.TheVariants as reasons
+use Rattle.label_forwarding.specs.declared.fault.PacketFault.TheVariants as reasons
 use Rattle.label_forwarding.specs.Spelling.{Packet, FourFields, AreFour, four_octets, MeetsFour, SixFields, AreSix, six_octets, MeetsSix, IsPacket}
 use Rattle.label_forwarding.specs.Spelling as packets
 use Rattle.label_forwarding.specs.FirstFault.{FourFault, SixFault, FirstFault}
@@ -19,7 +19,7 @@ use Rattle.label_forwarding.proofs.FourLemmas.{FourRead, four_read, four_fields,
 use Rattle.label_forwarding.proofs.SixLemmas.{SixRead, six_read, six_fields, six_laid, six_settles, six_meets, six_fails}
 
 -- an answer that was read of these octets
-abbrev pub Answers : List ℕ → Result Packet PacketFault → Type 0
+abbrev pub Answers : List ℕ → Result Packet (ℕ × PacketFault) → Type 0
 Answers octets (Ok packet) = IsPacket packet.source packet.group octets × (packet.octets ≡ octets)
 Answers octets (Err found) = FirstFault octets found
 
@@ -33,8 +33,8 @@ four_answers octets fits le version =
     let read : FourRead octets f = subst (λ (xs : List ℕ). FourRead xs f) (sym laid.1) (four_read f laid.0) in
     let packet : Packet = record { source = V4 (octets_in 4 12 octets); group = V4 (octets_in 4 16 octets); octets = octets } in
     elim (four_settles octets f read) [
-      | inl fine ↦ subst (λ (o : Option PacketFault). Answers octets (unless o packet)) (sym fine.0) (packets.four f laid.0 fine.1 laid.1 refl refl, refl)
-      | inr found ↦ subst (λ (o : Option PacketFault). Answers octets (unless o packet)) (sym found.1) (first_faults.in_four f laid.0 laid.1 found.2)
+      | inl fine ↦ subst (λ (o : Option (ℕ × PacketFault)). Answers octets (unless o packet)) (sym fine.0) (packets.four f laid.0 fine.1 laid.1 refl refl, refl)
+      | inr found ↦ subst (λ (o : Option (ℕ × PacketFault)). Answers octets (unless o packet)) (sym found.1) (first_faults.in_four f laid.0 laid.1 found.2)
     ]
 
 -- an octet whose high half is that of version 6
@@ -49,7 +49,7 @@ six_answers : (octets : List ℕ) → IsOctets octets → 20 ≤ length octets �
 unfolding six_of
 six_answers octets fits le version =
     let packet : Packet = record { source = V6 (octets_in 16 8 octets); group = V6 (octets_in 16 24 octets); octets = octets } in
-    let whole : Bool → Result Packet PacketFault = λ b. cond b (Err (fault (length octets) reasons.Short)) (unless (six_fault octets) packet) in
+    let whole : Bool → Result Packet (ℕ × PacketFault) = λ b. cond b (Err (fault (length octets) reasons.Short)) (unless (six_fault octets) packet) in
     elim (cases_lt (length octets) 40) [
       | inl lt ↦
           let half = low_half octets fits (omega arith) version in
@@ -60,13 +60,13 @@ six_answers octets fits le version =
           let read : SixRead octets f = subst (λ (xs : List ℕ). SixRead xs f) (sym laid.1) (six_read f laid.0) in
           subst (λ (b : Bool). Answers octets (whole b)) (sym (le-ltb (length octets) 40 ge))
           (elim (six_settles octets f read) [
-            | inl fine ↦ subst (λ (o : Option PacketFault). Answers octets (unless o packet)) (sym fine.0) (packets.six f laid.0 fine.1 laid.1 refl refl, refl)
-            | inr found ↦ subst (λ (o : Option PacketFault). Answers octets (unless o packet)) (sym found.1) (first_faults.in_six f laid.0 laid.1 found.2)
+            | inl fine ↦ subst (λ (o : Option (ℕ × PacketFault)). Answers octets (unless o packet)) (sym fine.0) (packets.six f laid.0 fine.1 laid.1 refl refl, refl)
+            | inr found ↦ subst (λ (o : Option (ℕ × PacketFault)). Answers octets (unless o packet)) (sym found.1) (first_faults.in_six f laid.0 laid.1 found.2)
           ])
     ]
 
 -- the choice by length and version
-choice : Bool → Bool → Bool → List ℕ → Result Packet PacketFault
+choice : Bool → Bool → Bool → List ℕ → Result Packet (ℕ × PacketFault)
 choice short is_four is_six octets = cond short (Err (fault (length octets) reasons.Short)) (cond is_four (four_of octets) (cond is_six (six_of octets) (Err (fault 0 reasons.Version))))
 
 is_choice : (octets : List ℕ) → packet_of octets ≡ choice (ltb (length octets) 20) (eqb (get_or octets 0 0 / 16) 4) (eqb (get_or octets 0 0 / 16) 6) octets
@@ -102,8 +102,8 @@ reads_six octets le version =
 reads_none : (octets : List ℕ) → 20 ≤ length octets → get_or octets 0 0 / 16 ≢ 4 → get_or octets 0 0 / 16 ≢ 6 → packet_of octets ≡ Err (fault 0 reasons.Version)
 reads_none octets le four six = is_choice octets ∙ chosen_none octets _ _ _ (le-ltb (length octets) 20 le) (ne_eqb _ 4 four) (ne_eqb _ 6 six)
 
-answers_as : (octets : List ℕ) (r s : Result Packet PacketFault) → r ≡ s → Answers octets s → Answers octets r
-answers_as octets r s e h = subst (λ (x : Result Packet PacketFault). Answers octets x) (sym e) h
+answers_as : (octets : List ℕ) (r s : Result Packet (ℕ × PacketFault)) → r ≡ s → Answers octets s → Answers octets r
+answers_as octets r s e h = subst (λ (x : Result Packet (ℕ × PacketFault)). Answers octets x) (sym e) h
 
 -- What reading gives is spelled, or the first fault.
 pub packet_answers : (octets : List ℕ) → IsOctets octets → Answers octets (packet_of octets)
@@ -120,22 +120,22 @@ packet_answers octets fits =
       ]
     ]
 
-answer_as : (octets : List ℕ) (r : Result Packet PacketFault) → Answers octets r
+answer_as : (octets : List ℕ) (r : Result Packet (ℕ × PacketFault)) → Answers octets r
     → IfOk r (λ packet. IsPacket packet.source packet.group octets × (packet.octets ≡ octets)) × IfErr r (λ found. FirstFault octets found)
 answer_as octets (Ok packet) h = (h, tt)
 answer_as octets (Err found) h = (tt, h)
 
-pub answer_is : (r : Result Packet PacketFault) (octets : List ℕ) → IsOctets octets → r ≡ packet_of octets
+pub answer_is : (r : Result Packet (ℕ × PacketFault)) (octets : List ℕ) → IsOctets octets → r ≡ packet_of octets
     → IfOk r (λ packet. IsPacket packet.source packet.group octets × (packet.octets ≡ octets)) × IfErr r (λ found. FirstFault octets found)
 answer_is r octets fits e = answer_as octets r (answers_as octets r (packet_of octets) e (packet_answers octets fits))
 
 -- ---- the other way round
 
-made4 : (octets : List ℕ) (o : Option PacketFault) → four_fault octets ≡ o → four_of octets ≡ unless o (record { source = V4 (octets_in 4 12 octets); group = V4 (octets_in 4 16 octets); octets = octets })
+made4 : (octets : List ℕ) (o : Option (ℕ × PacketFault)) → four_fault octets ≡ o → four_of octets ≡ unless o (record { source = V4 (octets_in 4 12 octets); group = V4 (octets_in 4 16 octets); octets = octets })
 unfolding four_of
 made4 octets o e = rw e refl
 
-made6 : (octets : List ℕ) (o : Option PacketFault) → 40 ≤ length octets → six_fault octets ≡ o → six_of octets ≡ unless o (record { source = V6 (octets_in 16 8 octets); group = V6 (octets_in 16 24 octets); octets = octets })
+made6 : (octets : List ℕ) (o : Option (ℕ × PacketFault)) → 40 ≤ length octets → six_fault octets ≡ o → six_of octets ≡ unless o (record { source = V6 (octets_in 16 8 octets); group = V6 (octets_in 16 24 octets); octets = octets })
 unfolding six_of
 made6 octets o le e = rw (le-ltb (length octets) 40 le, e) refl
 
@@ -159,10 +159,10 @@ packet_again source group octets (packets.six f are m e from to) =
     reads_six octets (omega (arith, read.len)) read.version ∙ (made6 octets None (omega (arith, read.len)) (six_meets octets f read m)
     ∙ (λ i. Ok (record { source = (ap (λ (xs : List ℕ). V6 xs) read.source ∙ sym from) i; group = (ap (λ (xs : List ℕ). V6 xs) read.group ∙ sym to) i; octets = octets })))
 
-abbrev bad_answer : PacketFault → Result Packet PacketFault
+abbrev bad_answer : ℕ × PacketFault → Result Packet (ℕ × PacketFault)
 bad_answer x = Err x
 
-pub fails_packet : (octets : List ℕ) (x : PacketFault) → FirstFault octets x → packet_of octets ≡ Err x
+pub fails_packet : (octets : List ℕ) (x : ℕ × PacketFault) → FirstFault octets x → packet_of octets ≡ Err x
 fails_packet octets x (first_faults.short lt is) = reads_short octets lt ∙ ap bad_answer (sym is)
 fails_packet octets x (first_faults.version first rest e le four six is) =
     let octet : get_or octets 0 0 ≡ first = ap (λ (xs : List ℕ). get_or xs 0 0) e in
@@ -183,5 +183,5 @@ pub one_flow : (source group other to : Addr) (octets : List ℕ) → IsPacket s
 one_flow source group other to octets own others =
     let a : Packet = record { source = source; group = group; octets = octets } in
     let b : Packet = record { source = other; group = to; octets = octets } in
-    let same : a ≡ b = ok_is {E = PacketFault} a b (sym (packet_again source group octets own) ∙ packet_again other to octets others) in
+    let same : a ≡ b = ok_is {E = ℕ × PacketFault} a b (sym (packet_again source group octets own) ∙ packet_again other to octets others) in
     (ap (λ (p : Packet). p.source) same, ap (λ (p : Packet). p.group) same)

@@ -5,7 +5,7 @@ use Rattle.std.proofs.lemmas.List.{length-append}
 use Rattle.mv_base.specs.Octets.{IsOctets}
 use Rattle.mv_base.proofs.Fields.{wide16}
 use Rattle.label_forwarding.specs.declared.fault.PacketFault.{PacketFault}
-use Rattle.label_forwarding.specs.declared.fault.PacketReason.TheVariants as reasons
+use Rattle.label_forwarding.specs.declared.fault.PacketFault.TheVariants as reasons
 use Rattle.label_forwarding.specs.Spelling.{SixFields, AreSix, six_octets, LenFits, IsSixGroup, IsSixLocal, MeetsSix}
 use Rattle.label_forwarding.specs.FirstFault.{SixFault}
 use Rattle.label_forwarding.specs.FirstFault as six_faults
@@ -77,7 +77,7 @@ six_laid octets fits le version =
 
 -- ---- the tests
 
-chain : Bool → Bool → Bool → Option PacketFault
+chain : Bool → Bool → Bool → Option (ℕ × PacketFault)
 chain a b c = cond a (bad 4 reasons.TotalLength) (cond b (bad 24 reasons.NotMulticast) (cond c (bad 24 reasons.LinkLocal) None))
 
 -- what the three tests tell of fields
@@ -86,7 +86,7 @@ record SixTold (a b c : Bool) (f : SixFields) : Type 0 where
   pub multicast : Tells b (IsSixGroup f.group) (¬ IsSixGroup f.group)
   pub global : Tells c (¬ IsSixLocal f.group) (IsSixLocal f.group)
 
-chain_settles : (a b c : Bool) (f : SixFields) → SixTold a b c f → ((chain a b c ≡ None) × MeetsSix f) ⊎ ((x : PacketFault) × (chain a b c ≡ Some x) × SixFault f x)
+chain_settles : (a b c : Bool) (f : SixFields) → SixTold a b c f → ((chain a b c ≡ None) × MeetsSix f) ⊎ ((x : ℕ × PacketFault) × (chain a b c ≡ Some x) × SixFault f x)
 unfolding chain
 chain_settles a b c f told =
     elim told.len [
@@ -104,7 +104,7 @@ chain_meets : (a b c : Bool) (f : SixFields) → SixTold a b c f → MeetsSix f 
 unfolding chain
 chain_meets a b c f told m = rw (holds told.len (λ n. n m.len), holds told.multicast (λ n. n m.multicast), holds told.global m.global) refl
 
-chain_fails : (a b c : Bool) (f : SixFields) (x : PacketFault) → SixTold a b c f → SixFault f x → chain a b c ≡ Some x
+chain_fails : (a b c : Bool) (f : SixFields) (x : ℕ × PacketFault) → SixTold a b c f → SixFault f x → chain a b c ≡ Some x
 unfolding chain
 chain_fails a b c f x told (six_faults.total_length n is) = rw (fails told.len n, is) refl
 chain_fails a b c f x told (six_faults.not_multicast t n is) = rw (holds told.len (λ k. k t), fails told.multicast n, is) refl
@@ -134,7 +134,7 @@ told_of octets f read =
 
 -- ---- the first fault
 
-pub six_settles : (octets : List ℕ) (f : SixFields) → SixRead octets f → ((six_fault octets ≡ None) × MeetsSix f) ⊎ ((x : PacketFault) × (six_fault octets ≡ Some x) × SixFault f x)
+pub six_settles : (octets : List ℕ) (f : SixFields) → SixRead octets f → ((six_fault octets ≡ None) × MeetsSix f) ⊎ ((x : ℕ × PacketFault) × (six_fault octets ≡ Some x) × SixFault f x)
 six_settles octets f read =
     elim (chain_settles _ _ _ f (told_of octets f read)) [
       | inl fine ↦ inl (is_chain octets ∙ fine.0, fine.1)
@@ -144,5 +144,5 @@ six_settles octets f read =
 pub six_meets : (octets : List ℕ) (f : SixFields) → SixRead octets f → MeetsSix f → six_fault octets ≡ None
 six_meets octets f read m = is_chain octets ∙ chain_meets _ _ _ f (told_of octets f read) m
 
-pub six_fails : (octets : List ℕ) (f : SixFields) (x : PacketFault) → SixRead octets f → SixFault f x → six_fault octets ≡ Some x
+pub six_fails : (octets : List ℕ) (f : SixFields) (x : ℕ × PacketFault) → SixRead octets f → SixFault f x → six_fault octets ≡ Some x
 six_fails octets f x read fault = is_chain octets ∙ chain_fails _ _ _ f x (told_of octets f read) fault

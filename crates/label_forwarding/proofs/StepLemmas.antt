@@ -8,7 +8,7 @@ use Rattle.std.specs.FinMap as maps
 use Rattle.std.specs.FinSet as sets
 use Rattle.std.specs.FinSet.{FinSet}
 use Rattle.indexmap.specs.IndexMap.{get, IsUnique}
-use Rattle.mldp_fec.specs.declared.fec.Fec.{Fec}
+use Rattle.label_defs.specs.mldp.declared.mldp_fec.fec.Fec.{Fec}
 use Rattle.label_defs.specs.declared.branch.Branch.{Branch as TreeBranch}
 use Rattle.label_defs.specs.Keys.{branch_cmp}
 use Rattle.label_defs.proofs.KeyLemmas.{branch_cmp_total, branch_cmp_exact}
@@ -19,7 +19,7 @@ use Rattle.label_forwarding.specs.FibData.{branch_in}
 use Rattle.label_forwarding.specs.Slots.{is_fec, is_idle, kept, Pairs, Slots, fib_of, leaves_in, branches_in, noted, mapped_of, IsFib}
 use Rattle.label_forwarding.proofs.HopLemmas.{hop_cmp_total, hop_cmp_exact, hop-ties}
 use Rattle.label_forwarding.proofs.SlotLemmas.{fec_flips, has_hop, hop_of, branch_seen, branch-ties}
-use Rattle.mldp_fec.proofs.SameLemmas.{fec_equal}
+use Rattle.label_defs.proofs.mldp.mldp_fec.SameLemmas.{fec_equal}
 use Rattle.label_forwarding.proofs.FibLemmas.{Changed, hop_then, count_then, find-lookup}
 
 -- ---- the branches

@@ -9,8 +9,8 @@ use Rattle.std.specs.FinMap.{FinMap}
 use Rattle.std.specs.FinSet as sets
 use Rattle.std.specs.FinSet.{FinSet}
 use Rattle.mv_base.specs.declared.ids.NodeId.{NodeId}
-use Rattle.mldp_fec.specs.declared.fec.Fec.{Fec}
-use Rattle.mldp_fec.specs.contracts.fec.Fec as fecs
+use Rattle.label_defs.specs.mldp.declared.mldp_fec.fec.Fec.{Fec}
+use Rattle.label_defs.specs.mldp.contracts.mldp_fec.fec.Fec as fecs
 use Rattle.label_defs.specs.declared.branch.Branch.{Branch as TreeBranch}
 use Rattle.label_defs.specs.contracts.branch.Branch as tree_branches
 use Rattle.label_defs.specs.Keys.{fec_cmp, branch_cmp}

@@ -1,17 +1,16 @@
 -- The first fault of octets: what stands before its place is well, and this fails for that reason.
 use Rattle.std.specs.Prelude.{◌≡◌, ◌≢◌, ℕ, ◌+◌, ◌/◌, ◌<◌, ◌≤◌, ◌^◌, List, ◌∷◌, length}
 use Rattle.label_forwarding.specs.declared.fault.PacketFault.{PacketFault}
-use Rattle.label_forwarding.specs.declared.fault.PacketReason.{PacketReason}
-use Rattle.label_forwarding.specs.declared.fault.PacketReason.TheVariants as reasons
+use Rattle.label_forwarding.specs.declared.fault.PacketFault.TheVariants as reasons
 use Rattle.label_forwarding.specs.Spelling.{FourFields, AreFour, four_octets, HeaderFits, TotalFits, SumFits, IsFourGroup, IsFourLocal}
 use Rattle.label_forwarding.specs.Spelling.{SixFields, AreSix, six_octets, LenFits, IsSixGroup, IsSixLocal}
 
 -- the fault is this one
-abbrev pub Is : PacketFault → ℕ → PacketReason → Type 0
-Is fault place reason = fault ≡ record { place = place; reason = reason }
+abbrev pub Is : ℕ × PacketFault → ℕ → PacketFault → Type 0
+Is fault place reason = fault ≡ (place, reason)
 
 -- a field of an IPv4 packet fails
-pub data FourFault (f : FourFields) (fault : PacketFault) : Type 0 where
+pub data FourFault (f : FourFields) (fault : ℕ × PacketFault) : Type 0 where
   header_length : ¬ HeaderFits f → Is fault 0 reasons.HeaderLength → FourFault f fault
   total_length : HeaderFits f → ¬ TotalFits f → Is fault 2 reasons.TotalLength → FourFault f fault
   sum : HeaderFits f → TotalFits f → ¬ SumFits f → Is fault 10 reasons.Checksum → FourFault f fault
@@ -21,13 +20,13 @@ pub data FourFault (f : FourFields) (fault : PacketFault) : Type 0 where
       → FourFault f fault
 
 -- a field of an IPv6 packet fails
-pub data SixFault (f : SixFields) (fault : PacketFault) : Type 0 where
+pub data SixFault (f : SixFields) (fault : ℕ × PacketFault) : Type 0 where
   total_length : ¬ LenFits f → Is fault 4 reasons.TotalLength → SixFault f fault
   not_multicast : LenFits f → ¬ IsSixGroup f.group → Is fault 24 reasons.NotMulticast → SixFault f fault
   link_local : LenFits f → IsSixGroup f.group → IsSixLocal f.group → Is fault 24 reasons.LinkLocal → SixFault f fault
 
 -- the first fault of all the octets
-pub data FirstFault (octets : List ℕ) (fault : PacketFault) : Type 0 where
+pub data FirstFault (octets : List ℕ) (fault : ℕ × PacketFault) : Type 0 where
   short : length octets < 20 → Is fault (length octets) reasons.Short → FirstFault octets fault
   version : (first : ℕ) (rest : List ℕ) → octets ≡ first ∷ rest → 20 ≤ length octets → first / 16 ≢ 4 → first / 16 ≢ 6
       → Is fault 0 reasons.Version → FirstFault octets fault

@@ -1,3 +1,4 @@
+pub use Rattle.label_defs.specs as label_defs
 pub mod Spelling
 pub mod FirstFault
 pub mod Reading

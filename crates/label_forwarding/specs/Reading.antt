@@ -5,15 +5,14 @@ use Rattle.std.specs.Int.{w16, from_be_bytes}
 use Rattle.mv_base.specs.Checksum.{checksum}
 use Rattle.mv_base.specs.declared.addr.Addr.TheVariants.{V4, V6}
 use Rattle.label_forwarding.specs.declared.fault.PacketFault.{PacketFault}
-use Rattle.label_forwarding.specs.declared.fault.PacketReason.{PacketReason}
-use Rattle.label_forwarding.specs.declared.fault.PacketReason.TheVariants as reasons
+use Rattle.label_forwarding.specs.declared.fault.PacketFault.TheVariants as reasons
 use Rattle.label_forwarding.specs.Spelling.{Packet}
 
 -- a fault at that place
-abbrev pub fault : ℕ → PacketReason → PacketFault
-fault place reason = record { place = place; reason = reason }
+abbrev pub fault : ℕ → PacketFault → ℕ × PacketFault
+fault place reason = (place, reason)
 
-abbrev pub bad : ℕ → PacketReason → Option PacketFault
+abbrev pub bad : ℕ → PacketFault → Option (ℕ × PacketFault)
 bad place reason = Some (fault place reason)
 
 -- the number of the two octets at that place
@@ -33,7 +32,7 @@ abbrev pub unsummed : ℕ → List ℕ → List ℕ
 unsummed len octets = take 10 octets ++ (0 ∷ 0 ∷ drop 12 (take len octets))
 
 -- the first fault of an IPv4 packet
-unfoldable pub four_fault : List ℕ → Option PacketFault
+unfoldable pub four_fault : List ℕ → Option (ℕ × PacketFault)
 four_fault octets =
     if nat_lt (header_len octets) 20 || nat_lt (length octets) (header_len octets) then bad 0 reasons.HeaderLength else
     if not (number_at 2 octets == length octets) then bad 2 reasons.TotalLength else
@@ -43,28 +42,28 @@ four_fault octets =
     None
 
 -- the first fault of an IPv6 packet that has its whole header
-unfoldable pub six_fault : List ℕ → Option PacketFault
+unfoldable pub six_fault : List ℕ → Option (ℕ × PacketFault)
 six_fault octets =
     if not (number_at 4 octets + 40 == length octets) then bad 4 reasons.TotalLength else
     if not (slice_index octets 24 == 255) then bad 24 reasons.NotMulticast else
     if nat_lt (slice_index octets 25 % 16) 3 then bad 24 reasons.LinkLocal else None
 
 -- a packet, where it has no fault
-abbrev pub unless : Option PacketFault → Packet → Result Packet PacketFault
+abbrev pub unless : Option (ℕ × PacketFault) → Packet → Result Packet (ℕ × PacketFault)
 unless None packet = Ok packet
 unless (Some found) packet = Err found
 
-unfoldable pub four_of : List ℕ → Result Packet PacketFault
+unfoldable pub four_of : List ℕ → Result Packet (ℕ × PacketFault)
 four_of octets =
     unless (four_fault octets) (record { source = V4 (octets_in 4 12 octets); group = V4 (octets_in 4 16 octets); octets = octets })
 
-unfoldable pub six_of : List ℕ → Result Packet PacketFault
+unfoldable pub six_of : List ℕ → Result Packet (ℕ × PacketFault)
 six_of octets =
     if nat_lt (length octets) 40 then Err (fault (length octets) reasons.Short) else
     unless (six_fault octets) (record { source = V6 (octets_in 16 8 octets); group = V6 (octets_in 16 24 octets); octets = octets })
 
 -- the packet that the octets are, or their first fault
-unfoldable pub packet_of : List ℕ → Result Packet PacketFault
+unfoldable pub packet_of : List ℕ → Result Packet (ℕ × PacketFault)
 packet_of octets =
     if nat_lt (length octets) 20 then Err (fault (length octets) reasons.Short) else
     if slice_index octets 0 / 16 == 4 then four_of octets else

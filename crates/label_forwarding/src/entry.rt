@@ -4,7 +4,7 @@ ghost use Rattle.std.specs.FinMap as maps;
 
 use crate::branch::Branch;
 use crate::branches::Branches;
-use mldp_fec::Fec;
+use label_defs::of_mldp::mldp_fec::Fec;
 
 /// What becomes of copies on a tree: whether the node is a leaf of it, and its branches.
 #[derive(Drop)]

@@ -2,7 +2,7 @@
 
 /// What is wrong with a packet.
 #[derive(Clone, Copy, Debug, PartialEq, Eq)]
-pub enum PacketReason {
+pub enum PacketFault {
     /// There are fewer octets than the fixed header has.
     Short,
     /// The version is neither 4 nor 6.
@@ -17,11 +17,4 @@ pub enum PacketReason {
     NotMulticast,
     /// The group does not leave its link (RFC 5771 section 4, RFC 4291 section 2.7).
     LinkLocal,
-}
-
-/// The first fault of the octets, and its place, counted from 0.
-#[derive(Clone, Copy, Debug, PartialEq, Eq)]
-pub struct PacketFault {
-    pub place: u32,
-    pub reason: PacketReason,
 }

@@ -3,7 +3,7 @@ ghost use Rattle.std.specs.Prelude.{◌≡◌, None, Some, OnOk, OnErr, IfOk, If
 ghost use Rattle.std.specs.List.{list_any};
 ghost use Rattle.std.specs.FinMap as maps;
 ghost use Rattle.std.specs.FinSet as sets;
-ghost use Rattle.mldp_fec.specs.declared.fec.Fec.{Fec};
+ghost use Rattle.label_defs.specs.mldp.declared.mldp_fec.fec.Fec.{Fec};
 ghost use Rattle.label_defs.specs.LabelData.{same_fec};
 ghost use Rattle.label_forwarding.specs.FibData.{FibData, IsEntry, AreHops, nothing, with_leaf, is_known, is_on, branch_in, hop};
 
@@ -12,7 +12,7 @@ use crate::entry::Entry;
 use crate::pairs::{Pairs, forget, note};
 use crate::slots::{Slots, fecs_of, give_back, take};
 use indexmap::IndexMap;
-use mldp_fec::Fec;
+use label_defs::of_mldp::mldp_fec::Fec;
 use mv_base::{NoMemory, NodeId};
 use std::alloc::Global;
 use std::marker::Model;

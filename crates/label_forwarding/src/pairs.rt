@@ -1,14 +1,14 @@
 //! What is noted of labels.
 ghost use Rattle.std.specs.Prelude.{◌≡◌, ◌+◌, ◌<◌, ◌^◌, ℕ, None, Some, IfSome, IfNone, if◌then◌else◌};
 ghost use Rattle.indexmap.specs.IndexMap.{get, spare, IsUnique};
-ghost use Rattle.mldp_fec.specs.declared.fec.Fec.{Fec};
+ghost use Rattle.label_defs.specs.mldp.declared.mldp_fec.fec.Fec.{Fec};
 ghost use Rattle.label_forwarding.specs.declared.branch.Branch.{Branch};
 ghost use Rattle.label_forwarding.specs.Hops.{is_hop};
 ghost use Rattle.label_forwarding.specs.Slots.{is_fec, noted};
 
 use crate::branch::Branch;
 use indexmap::IndexMap;
-use mldp_fec::Fec;
+use label_defs::of_mldp::mldp_fec::Fec;
 
 /// The FEC of the copies under a label, by neighbour and label.
 pub(crate) type Pairs = IndexMap<Branch, Fec>;

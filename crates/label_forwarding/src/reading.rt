@@ -8,7 +8,7 @@ ghost use Rattle.label_forwarding.specs.Reading.{octets_in, number_at, header_le
 ghost use Rattle.label_forwarding.specs.Reading.{four_fault, six_fault, four_of, six_of, packet_of};
 
 use crate::datagram::Datagram;
-use crate::fault::{PacketFault, PacketReason};
+use crate::fault::PacketFault;
 use mv_base::{Addr, ones_sum};
 
 /// The octets of an IPv4 header without options.
@@ -16,12 +16,6 @@ const FOUR_HEADER: usize = 20;
 
 /// The octets of an IPv6 header.
 const SIX_HEADER: usize = 40;
-
-fn fault(place: u32, reason: PacketReason) -> PacketFault
-    ensures { result ≡ record { place = place; reason = reason } }
-{
-    PacketFault { place, reason }
-}
 
 /// `N` octets at a place.
 fn array_at<const N: usize>(bytes: &[u8], place: usize) -> [u8; N]
@@ -58,48 +52,48 @@ fn header_sum(bytes: &[u8], len: usize) -> usize
 }
 
 #[tactic(auto, unfolding(crate::specs::Reading::four_fault))]
-fn four_fault(bytes: &[u8]) -> Option<PacketFault>
+fn four_fault(bytes: &[u8]) -> Option<(u32, PacketFault)>
     requires { FOUR_HEADER ≤ length bytes.now }
     ensures { result ≡ four_fault bytes.now }
 {
     let len = usize::from(bytes[0] % 16) * 4;
     if len < FOUR_HEADER || bytes.len() < len {
-        return Some(fault(0, PacketReason::HeaderLength));
+        return Some((0, PacketFault::HeaderLength));
     }
     if number_at(bytes, 2) != bytes.len() {
-        return Some(fault(2, PacketReason::TotalLength));
+        return Some((2, PacketFault::TotalLength));
     }
     if number_at(bytes, 10) != header_sum(bytes, len) {
-        return Some(fault(10, PacketReason::Checksum));
+        return Some((10, PacketFault::Checksum));
     }
     if bytes[16] < 224 || bytes[16] > 239 {
-        return Some(fault(16, PacketReason::NotMulticast));
+        return Some((16, PacketFault::NotMulticast));
     }
     if bytes[16] == 224 && bytes[17] == 0 && bytes[18] == 0 {
-        return Some(fault(16, PacketReason::LinkLocal));
+        return Some((16, PacketFault::LinkLocal));
     }
     None
 }
 
 #[tactic(auto, unfolding(crate::specs::Reading::six_fault))]
-fn six_fault(bytes: &[u8]) -> Option<PacketFault>
+fn six_fault(bytes: &[u8]) -> Option<(u32, PacketFault)>
     requires { SIX_HEADER ≤ length bytes.now }
     ensures { result ≡ six_fault bytes.now }
 {
     if number_at(bytes, 4) + SIX_HEADER != bytes.len() {
-        return Some(fault(4, PacketReason::TotalLength));
+        return Some((4, PacketFault::TotalLength));
     }
     if bytes[24] != 0xff {
-        return Some(fault(24, PacketReason::NotMulticast));
+        return Some((24, PacketFault::NotMulticast));
     }
     if bytes[25] % 16 < 3 {
-        return Some(fault(24, PacketReason::LinkLocal));
+        return Some((24, PacketFault::LinkLocal));
     }
     None
 }
 
 #[tactic(auto, unfolding(crate::specs::Reading::four_of))]
-fn read_four(bytes: &[u8]) -> Result<Datagram<'_>, PacketFault>
+fn read_four(bytes: &[u8]) -> Result<Datagram<'_>, (u32, PacketFault)>
     requires { FOUR_HEADER ≤ length bytes.now }
     ensures { result ≡ four_of bytes.now }
 {
@@ -114,11 +108,11 @@ fn read_four(bytes: &[u8]) -> Result<Datagram<'_>, PacketFault>
 }
 
 #[tactic(auto, unfolding(crate::specs::Reading::six_of))]
-fn read_six(bytes: &[u8]) -> Result<Datagram<'_>, PacketFault>
+fn read_six(bytes: &[u8]) -> Result<Datagram<'_>, (u32, PacketFault)>
     ensures { result ≡ six_of bytes.now }
 {
     if bytes.len() < SIX_HEADER {
-        return Err(fault(bytes.len() as u32, PacketReason::Short));
+        return Err((bytes.len() as u32, PacketFault::Short));
     }
     match six_fault(bytes) {
         Some(fault) => Err(fault),
@@ -131,22 +125,22 @@ fn read_six(bytes: &[u8]) -> Result<Datagram<'_>, PacketFault>
 }
 
 #[tactic(auto, unfolding(crate::specs::Reading::packet_of))]
-fn read(bytes: &[u8]) -> Result<Datagram<'_>, PacketFault>
+fn read(bytes: &[u8]) -> Result<Datagram<'_>, (u32, PacketFault)>
     ensures { result ≡ packet_of bytes.now }
 {
     if bytes.len() < FOUR_HEADER {
-        return Err(fault(bytes.len() as u32, PacketReason::Short));
+        return Err((bytes.len() as u32, PacketFault::Short));
     }
     match bytes[0] / 16 {
         4 => read_four(bytes),
         6 => read_six(bytes),
-        _ => Err(fault(0, PacketReason::Version)),
+        _ => Err((0, PacketFault::Version)),
     }
 }
 
 /// The packet that all the octets are, of IPv4 (RFC 791 section 3.1) or of IPv6 (RFC 8200 section 3), to a multicast group that
-/// is not link-local; or their first fault.
-pub fn read_packet(bytes: &[u8]) -> Result<Datagram<'_>, PacketFault>
+/// is not link-local; or the place of their first fault, counted from 0, and the fault.
+pub fn read_packet(bytes: &[u8]) -> Result<Datagram<'_>, (u32, PacketFault)>
     // It is what reading gives.
     ensures exact { result ≡ packet_of bytes.now }
     // What is read is spelled, and its octets are these.
@@ -157,7 +151,7 @@ pub fn read_packet(bytes: &[u8]) -> Result<Datagram<'_>, PacketFault>
     // A fault is the first one.
     ensures first { IfErr result (λ fault. FirstFault bytes.now fault) }
     // The first fault is answered.
-    ensures only_first { (fault : PacketFault) → FirstFault bytes.now fault → result ≡ Err fault }
+    ensures only_first { (fault : ℕ × PacketFault) → FirstFault bytes.now fault → result ≡ Err fault }
 {
     read(bytes)
 }

@@ -3,13 +3,13 @@ ghost use Rattle.std.specs.Prelude.{◌≡◌, ◌<◌, ◌==◌, ◌||◌, true
 ghost use Rattle.std.specs.FinMap as maps;
 ghost use Rattle.std.specs.Option.{unwrap_or};
 ghost use Rattle.indexmap.specs.IndexMap.{get, keys, spare, IsUnique};
-ghost use Rattle.mldp_fec.specs.declared.fec.Fec.{Fec};
+ghost use Rattle.label_defs.specs.mldp.declared.mldp_fec.fec.Fec.{Fec};
 ghost use Rattle.label_forwarding.specs.Slots.{is_fec, fresh, is_idle, kept};
 
 use crate::branches::Branches;
 use crate::entry::Entry;
 use indexmap::IndexMap;
-use mldp_fec::Fec;
+use label_defs::of_mldp::mldp_fec::Fec;
 use mv_base::NoMemory;
 use std::alloc::Global;
 

@@ -2,7 +2,7 @@
 use Rattle.std.proofs.Common.{◌≡◌, ℕ, ◌+◌, ◌≤◌, Bool, true, false, inl, inr, refl, filter, Option, Some, None, is_some}
 use Rattle.std.proofs.lemmas.Bool.{cases_Bool}
 use Rattle.mv_base.specs.declared.ids.NodeId.{NodeId}
-use Rattle.mldp_fec.specs.declared.fec.Fec.{Fec}
+use Rattle.mldp.specs.declared.mldp_fec.fec.Fec.{Fec}
 use Rattle.label_defs.specs.declared.end.End.{End}
 use Rattle.label_defs.specs.LabelData.{fresh, use_of}
 use Rattle.label_defs.proofs.StepLemmas.{fresh_settled}

@@ -2,7 +2,7 @@
 use Rattle.std.proofs.Common.{◌≡◌, ◌≢◌, ℕ, ◌+◌, ◌≤◌, true, false, inl, inr, refl, sym, ap, subst, ◌∙◌, filter, List, [], is_some}
 use Rattle.std.specs.List.{AllByRecursion}
 use Rattle.mv_base.specs.declared.ids.NodeId.{NodeId}
-use Rattle.mldp_msgs.specs.declared.message.LabelMessage.{LabelMessage}
+use Rattle.mldp.specs.declared.mldp_msgs.message.LabelMessage.{LabelMessage}
 use Rattle.label_defs.specs.LabelData.{LabelData, use_of}
 use Rattle.label_defs.proofs.KeyLemmas.{node_cases}
 use Rattle.label_laws.specs.Network.{LabelNetwork, at_node}

@@ -3,9 +3,9 @@ use Rattle.std.specs.Prelude.{◌≡◌, ◌≢◌, ◌<◌, ℕ, zero, suc, ◌
 use Rattle.std.specs.List.{list_any}
 use Rattle.mv_base.specs.Number.{◌>>?◌}
 use Rattle.mv_base.specs.declared.ids.NodeId.{NodeId}
-use Rattle.mldp_fec.specs.declared.fec.Fec.{Fec}
-use Rattle.mldp_msgs.specs.declared.message.LabelMessage.{LabelMessage}
-use Rattle.mldp_msgs.specs.declared.message.LabelMessage.TheVariants as messages
+use Rattle.mldp.specs.declared.mldp_fec.fec.Fec.{Fec}
+use Rattle.mldp.specs.declared.mldp_msgs.message.LabelMessage.{LabelMessage}
+use Rattle.mldp.specs.declared.mldp_msgs.message.LabelMessage.TheVariants as messages
 use Rattle.label_laws.specs.Network.{LabelNetwork}
 use Rattle.label_laws.specs.Acts.{Deliver, act}
 

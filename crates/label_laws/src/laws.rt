@@ -1,7 +1,7 @@
 //! Laws of a network of label nodes.
 ghost use Rattle.std.specs.Prelude.{◌≡◌, ◌≢◌, ◌<◌, ◌≤◌, ℕ, ◌+◌, Bool, true, false, List, [], slice_get, Option, None, Some};
 ghost use Rattle.mv_base.specs.declared.ids.NodeId.{NodeId};
-ghost use Rattle.mldp_fec.specs.declared.fec.Fec.{Fec};
+ghost use Rattle.mldp.specs.declared.mldp_fec.fec.Fec.{Fec};
 ghost use Rattle.label_defs.specs.declared.label_use.LabelUse.TheVariants as uses;
 ghost use Rattle.label_defs.specs.LabelData.{use_of, has_tree};
 ghost use Rattle.label_laws.specs.Network.{PacketCopy, LabelNetwork, at_start};

@@ -9,7 +9,7 @@ use Rattle.std.specs.FinSet as sets
 use Rattle.std.specs.FinSet.{FinSet}
 use Rattle.std.proofs.lemmas.Bool.{or_left}
 use Rattle.mv_base.specs.declared.ids.NodeId.{NodeId}
-use Rattle.mldp_fec.specs.declared.fec.Fec.{Fec}
+use Rattle.mldp.specs.declared.mldp_fec.fec.Fec.{Fec}
 use Rattle.label_defs.specs.declared.branch.Branch.{Branch as TreeBranch}
 use Rattle.label_defs.specs.declared.label_use.LabelUse.{LabelUse}
 use Rattle.label_defs.specs.declared.label_use.LabelUse.TheVariants as uses
@@ -25,7 +25,7 @@ use Rattle.label_forwarding.specs.Slots.{is_fec}
 use Rattle.label_forwarding.specs.FibData.{FibData, AreHops, branch_in, hop, is_known}
 use Rattle.label_forwarding.proofs.HopLemmas.{hop_cmp_total, hop_cmp_exact, hop-ties}
 use Rattle.label_forwarding.proofs.SlotLemmas.{hop_of, branch-ties, fec-ties}
-use Rattle.label_uses.specs.Uses.{use_in, is_toward}
+use Rattle.label_trees.specs.label_uses.Uses.{use_in, is_toward}
 use Rattle.label_trees.specs.Trees.{fec_under, AreMapped}
 use Rattle.label_trees.specs.Loss.{branches_to, branches_without, is_lost, notes_without}
 use Rattle.label_trees.proofs.TreeLemmas.{any_flips}

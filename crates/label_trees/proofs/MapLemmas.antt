@@ -5,7 +5,7 @@ use Rattle.std.specs.FinMap as maps
 use Rattle.std.specs.FinMap.{FinMap}
 use Rattle.std.proofs.lemmas.Bool.{cases_eq}
 use Rattle.mv_base.specs.declared.ids.NodeId.{NodeId}
-use Rattle.mldp_fec.specs.declared.fec.Fec.{Fec}
+use Rattle.mldp.specs.declared.mldp_fec.fec.Fec.{Fec}
 use Rattle.label_defs.specs.declared.label_use.LabelUse.{LabelUse}
 use Rattle.label_defs.specs.declared.label_use.LabelUse.TheVariants as uses
 use Rattle.label_defs.specs.LabelData.{LabelData, fresh, same_fec}
@@ -17,7 +17,7 @@ use Rattle.label_forwarding.specs.declared.branch.Branch.{Branch}
 use Rattle.label_forwarding.specs.Hops.{hop_cmp}
 use Rattle.label_forwarding.specs.FibData.{FibData, hop}
 use Rattle.label_forwarding.proofs.HopLemmas.{hop_cmp_total, hop_cmp_exact}
-use Rattle.label_uses.specs.Uses.{Uses, use_in, set_use, free_in, with_mapped, with_released}
+use Rattle.label_trees.specs.label_uses.Uses.{Uses, use_in, set_use, free_in, with_mapped, with_released}
 use Rattle.label_trees.specs.Trees.{fec_under, AreMapped, AreMappedBut}
 
 -- a node of these labels

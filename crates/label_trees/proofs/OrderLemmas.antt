@@ -22,8 +22,8 @@ use Rattle.mv_base.specs.declared.addr.Addr.{Addr}
 use Rattle.mv_base.specs.declared.addr.Addr.TheVariants.{V4, V6}
 use Rattle.mv_base.specs.Address.{addr_front}
 use Rattle.mv_base.proofs.SortedMaps.{entries_of}
-use Rattle.mldp_fec.specs.declared.fec.Fec.{Fec}
-use Rattle.mldp_fec.proofs.SameLemmas.{fec_equal}
+use Rattle.mldp.specs.declared.mldp_fec.fec.Fec.{Fec}
+use Rattle.mldp.proofs.mldp_fec.SameLemmas.{fec_equal}
 use Rattle.label_defs.specs.Keys.{kind_key, fec_cmp}
 use Rattle.label_defs.specs.Members.{in_order}
 use Rattle.label_defs.proofs.KeyLemmas.{fec_cmp_total, fec_cmp_exact}

@@ -9,7 +9,7 @@ use Rattle.std.proofs.lemmas.Bool.{or_cases, or_right}
 use Rattle.std.proofs.lemmas.List.Folds.{list_any-append}
 use Rattle.std.proofs.lemmas.Option.{same_Some, none-some}
 use Rattle.mv_base.specs.declared.ids.NodeId.{NodeId}
-use Rattle.mldp_fec.specs.declared.fec.Fec.{Fec}
+use Rattle.mldp.specs.declared.mldp_fec.fec.Fec.{Fec}
 use Rattle.label_defs.specs.declared.branch.Branch.{Branch as TreeBranch}
 use Rattle.label_defs.specs.declared.label_use.LabelUse.{LabelUse}
 use Rattle.label_defs.specs.declared.label_use.LabelUse.TheVariants as uses
@@ -23,7 +23,7 @@ use Rattle.label_forwarding.specs.Hops.{hop_cmp}
 use Rattle.label_forwarding.specs.FibData.{FibData, hop, is_known, is_on}
 use Rattle.label_forwarding.proofs.HopLemmas.{hop_cmp_total}
 use Rattle.label_forwarding.proofs.KnownLemmas.{passing_entry, entry_passes}
-use Rattle.label_uses.specs.Uses.{Uses, use_in}
+use Rattle.label_trees.specs.label_uses.Uses.{Uses, use_in}
 use Rattle.label_trees.specs.Trees.{trees_in, fec_under, AreMapped}
 use Rattle.label_trees.proofs.MapLemmas.{mapped_under}
 

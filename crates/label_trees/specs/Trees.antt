@@ -6,8 +6,8 @@ use Rattle.std.specs.FinMap.{FinMap}
 use Rattle.std.specs.FinSet as sets
 use Rattle.std.specs.FinSet.{FinSet}
 use Rattle.mv_base.specs.declared.ids.NodeId.{NodeId}
-use Rattle.mldp_fec.specs.declared.fec.Fec.{Fec}
-use Rattle.mldp_fec.specs.contracts.fec.Fec as fecs
+use Rattle.mldp.specs.declared.mldp_fec.fec.Fec.{Fec}
+use Rattle.mldp.specs.contracts.mldp_fec.fec.Fec as fecs
 use Rattle.label_defs.specs.declared.label_use.LabelUse.{LabelUse}
 use Rattle.label_defs.specs.declared.label_use.LabelUse.TheVariants as uses
 use Rattle.label_defs.specs.contracts.branch.Branch as tree_branches
@@ -15,7 +15,7 @@ use Rattle.label_defs.specs.Keys.{fec_cmp, branch_cmp}
 use Rattle.label_defs.specs.LabelData.{trees}
 use Rattle.label_forwarding.specs.Hops.{hop_cmp}
 use Rattle.label_forwarding.specs.FibData.{FibData, hop}
-use Rattle.label_uses.specs.Uses.{Uses, uses_code, unused, use_in}
+use Rattle.label_trees.specs.label_uses.Uses.{Uses, uses_code, unused, use_in}
 
 -- What the labels are used for and which trees wait, the trees of which the node is a leaf, and the branches.
 pub record Trees : Type 0 where

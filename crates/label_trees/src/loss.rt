@@ -9,7 +9,7 @@ ghost use Rattle.label_trees.specs.Loss.{branches_to, branches_without, is_lost,
 
 use label_defs::Branch as TreeBranch;
 use label_forwarding::{Branch, Fib};
-use mldp_fec::Fec;
+use mldp::mldp_fec::Fec;
 use mv_base::{NoMemory, NodeId};
 use std::alloc::Global;
 

@@ -3,12 +3,12 @@ ghost use Rattle.std.specs.Prelude.{◌≡◌, Some, OnOk};
 ghost use Rattle.std.specs.FinMap as maps;
 ghost use Rattle.label_defs.specs.declared.label_use.LabelUse.TheVariants as usages;
 ghost use Rattle.label_forwarding.specs.FibData.{hop};
-ghost use Rattle.label_uses.specs.Uses.{use_in};
+ghost use Rattle.label_trees.specs.label_uses.Uses.{use_in};
 ghost use Rattle.label_trees.specs.Trees.{AreMapped, AreMappedBut};
 
+use crate::label_uses::LabelUses;
 use label_forwarding::Fib;
-use label_uses::LabelUses;
-use mldp_fec::Fec;
+use mldp::mldp_fec::Fec;
 use mv_base::{NoMemory, NodeId};
 
 /// Notes the label that was mapped. Where there is no memory for that, the label is mapped no longer.

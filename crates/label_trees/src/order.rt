@@ -7,7 +7,7 @@ ghost use Rattle.mv_base.specs.Address.{addr_front};
 ghost use Rattle.label_defs.specs.Keys.{kind_key, fec_cmp};
 ghost use Rattle.label_defs.specs.Members.{in_order};
 
-use mldp_fec::{Fec, FecKind};
+use mldp::mldp_fec::{Fec, FecKind};
 use mv_base::{Addr, NoMemory};
 use std::cmp::Ordering;
 

@@ -9,15 +9,15 @@ ghost use Rattle.label_defs.specs.Members.{in_order};
 ghost use Rattle.label_defs.specs.Settling.{upstream_of};
 ghost use Rattle.label_defs.specs.Steps.{branch_to, woken};
 ghost use Rattle.label_forwarding.specs.FibData.{with_leaf, is_on};
-ghost use Rattle.label_uses.specs.Uses.{use_in, set_use, free_in, mapped_in, with_mapped, with_released, without, AreBindings};
+ghost use Rattle.label_trees.specs.label_uses.Uses.{use_in, set_use, free_in, mapped_in, with_mapped, with_released, without, AreBindings};
 ghost use Rattle.label_trees.specs.Trees.{Trees, untouched, trees_in, fib_with, IsFibOf};
 
+use crate::label_uses::LabelUses;
 use crate::loss::{branches_toward, unbranch_all, unmap_all};
 use crate::mapped::note;
 use crate::order::in_order;
 use label_forwarding::{Branch, Fib};
-use label_uses::LabelUses;
-use mldp_fec::Fec;
+use mldp::mldp_fec::Fec;
 use mv_base::{NoMemory, NodeId};
 use std::alloc::Global;
 use std::marker::Model;

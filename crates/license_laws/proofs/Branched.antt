@@ -2,26 +2,26 @@
 use Rattle.std.proofs.Common.{◌≡◌, ◌≢◌, ℕ, Bool, true, false, map, List, [], ◌∷◌, ◌++◌, refl, sym, ap, subst, ◌∙◌}
 use Rattle.std.specs.FinSet as sets
 use Rattle.mv_base.specs.declared.ids.NodeId.{NodeId}
-use Rattle.framing.specs.Cut.{Front}
-use Rattle.framing.specs.Cut.Front.{more, whole, bad}
-use Rattle.framing.specs.Cut.Yields.{sound as AllWhole}
-use Rattle.framing.proofs.Feedings.{no_fault}
-use Rattle.framing.specs.Units.{Spelled, octets_of, messages_of, AreUnits}
-use Rattle.mldp_fec.specs.declared.fec.Fec.{Fec}
-use Rattle.mldp_msgs.proofs.Pdus.{pdu_format}
-use Rattle.mldp_msgs.specs.FirstFault.{PduFault}
-use Rattle.mldp_msgs.specs.Labels.{IsMapped, HasLabel}
-use Rattle.mldp_msgs.specs.Reading.{pdu_front}
-use Rattle.mldp_msgs.specs.Spelling.{SpellsPdu}
-use Rattle.mldp_msgs.specs.declared.fault.LdpFault.{LdpFault}
-use Rattle.mldp_msgs.specs.declared.message.LabelMessage.{LabelMessage}
-use Rattle.mldp_msgs.specs.declared.message.LabelMessage.TheVariants as messages
+use Rattle.mv_base.specs.framing.Cut.{Front}
+use Rattle.mv_base.specs.framing.Cut.Front.{more, whole, bad}
+use Rattle.mv_base.specs.framing.Cut.Yields.{sound as AllWhole}
+use Rattle.mv_base.proofs.framing.Feedings.{no_fault}
+use Rattle.mv_base.specs.framing.Units.{Spelled, octets_of, messages_of, AreUnits}
+use Rattle.mldp.specs.declared.mldp_fec.fec.Fec.{Fec}
+use Rattle.mldp.proofs.mldp_msgs.Pdus.{pdu_format}
+use Rattle.mldp.specs.mldp_msgs.FirstFault.{PduFault}
+use Rattle.mldp.specs.mldp_msgs.Labels.{IsMapped, HasLabel}
+use Rattle.mldp.specs.mldp_msgs.Reading.{pdu_front}
+use Rattle.mldp.specs.mldp_msgs.Spelling.{SpellsPdu}
+use Rattle.mldp.specs.declared.mldp_msgs.fault.LdpFault.{LdpFault}
+use Rattle.mldp.specs.declared.mldp_msgs.message.LabelMessage.{LabelMessage}
+use Rattle.mldp.specs.declared.mldp_msgs.message.LabelMessage.TheVariants as messages
 use Rattle.scenario_defs.specs.declared.event.Kind.{Kind}
 use Rattle.scenario_defs.specs.declared.event.Kind.TheVariants as kinds
 use Rattle.scenario_defs.specs.declared.report.ReportLine.TheVariants as lines
 use Rattle.scenario_defs.specs.declared.scenario.Scenario.{Scenario}
 use Rattle.label_defs.specs.declared.branch.Branch.{Branch}
-use Rattle.session_defs.specs.Message.{SessionMessage, Label, LabelFault, as_front, Spells}
+use Rattle.network_defs.specs.session_defs.Message.{SessionMessage, Label, LabelFault, as_front, Spells}
 use Rattle.network_defs.specs.Counts.{direction, is_up as is_end}
 use Rattle.network_defs.specs.LabelRule.{part_at}
 use Rattle.network_defs.specs.Local.{is_up_in, taken_since, MayHop}

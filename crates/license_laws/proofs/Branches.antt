@@ -9,10 +9,10 @@ use Rattle.std.proofs.lemmas.List.Elements.{Contains-push_cases}
 use Rattle.std.proofs.lemmas.Option.{same_Some}
 use Rattle.std.specs.Cmp.{Equal-is}
 use Rattle.mv_base.specs.declared.ids.NodeId.{NodeId}
-use Rattle.mldp_fec.specs.declared.fec.Fec.{Fec}
-use Rattle.mldp_msgs.specs.Labels.{IsMapped}
-use Rattle.mldp_msgs.specs.declared.message.LabelMessage.{LabelMessage}
-use Rattle.mldp_msgs.specs.declared.message.LabelMessage.TheVariants as messages
+use Rattle.mldp.specs.declared.mldp_fec.fec.Fec.{Fec}
+use Rattle.mldp.specs.mldp_msgs.Labels.{IsMapped}
+use Rattle.mldp.specs.declared.mldp_msgs.message.LabelMessage.{LabelMessage}
+use Rattle.mldp.specs.declared.mldp_msgs.message.LabelMessage.TheVariants as messages
 use Rattle.scenario_defs.specs.declared.event.Kind.TheVariants as kinds
 use Rattle.label_defs.specs.Keys.{branch_cmp, fec_cmp}
 use Rattle.label_defs.specs.LabelData.{Place, LabelData, use_of}
@@ -27,14 +27,14 @@ use Rattle.label_defs.proofs.KeyLemmas.{branch_cmp_total, branch_cmp_exact, node
 use Rattle.label_defs.proofs.SetLemmas.{inserted_other, removed_here, retained}
 use Rattle.label_defs.proofs.SettleLemmas.{bind_some}
 use Rattle.label_defs.proofs.WithdrawLemmas.{same_branches}
-use Rattle.session_defs.specs.Message.{SessionMessage, Bgp, Label}
-use Rattle.session_defs.specs.System.{Stepped}
+use Rattle.network_defs.specs.session_defs.Message.{SessionMessage, Bgp, Label}
+use Rattle.network_defs.specs.session_defs.System.{Stepped}
 use Rattle.edge_defs.specs.Place.{EdgePlace, addr_of, label_place}
 use Rattle.edge_defs.specs.Steps as steps
-use Rattle.edge_defs.specs.Steps.{EdgeStepped, LabelStep, own_label_call, one_call, changed_leaves, label_row, part_after, control_step, edge_step}
+use Rattle.edge_defs.specs.Steps.{EdgeStepped, LabelStep, own_label_call, one_call, changed_leaves, label_row, part_after, raised_after, control_step, edge_step}
 use Rattle.edge_defs.specs.Tunnels.{leaves}
 use Rattle.network_defs.specs.Nodes.{NodeState, Edge, CoreNode, Nodes, with_node, place_of, part_of, label_place_of}
-use Rattle.node_defs.specs.Puts.{bgp_puts, label_puts}
+use Rattle.network_defs.specs.node_defs.Puts.{bgp_puts, label_puts}
 use Rattle.network_defs.specs.System.{node_called, core_called, call_of, unchanged}
 use Rattle.network_laws.proofs.Lists.{each_map, each_of}
 use Rattle.rule_laws.specs.Labels.{labels_in}
@@ -153,14 +153,14 @@ node_own nodes n from Q fewer (Edge edge) call new at e q =
       state = with_node nodes n (Edge made.edge);
       puts = bgp_puts place edge.control made.edge.control ++ flat_map (label_puts n (addr_of nodes.scenario n) (label_place_of nodes n) nodes.clock) made.row;
     } in
-    let behind_row : List LabelStep → EdgeStepped = λ row. record { edge = record { control = control; part = part_after edge.part row }; row = row } in
+    let behind_row : List LabelStep → EdgeStepped = λ row. record { edge = record { control = control; part = part_after edge.part row; raised = raised_after nodes.clock edge.raised call }; row = row } in
     let wants : List labels.Call = changed_leaves (leaves place edge.control) (leaves place control) in
     let x = bind_some (edge_step place nodes.clock edge call) (λ m. Some (made m)) new e in
     let y = bind_some (label_row place nodes.clock edge.part (one_call (own_label_call call) ++ wants)) (λ row. Some (behind_row row)) x.0 x.1 in
     let same : made (behind_row y.0) ≡ new = ap made (same_Some (behind_row y.0) x.0 y.2) ∙ same_Some (made x.0) new x.2 in
     let there : Q (part_after edge.part y.0) = rows_own place nodes.clock from Q fewer (own_label_call call) wants (changed_leaf (leaves place edge.control) (leaves place control)) edge.part y.0 y.1 q in
     subst (λ (s : Stepped Nodes). Q (part_of (s.state.node n))) same
-    (subst (λ (t : Bool). Q (part_of (cond t (Edge (record { control = control; part = part_after edge.part y.0 })) (nodes.node n)))) (sym (node_itself n n refl)) there)
+    (subst (λ (t : Bool). Q (part_of (cond t (Edge (record { control = control; part = part_after edge.part y.0; raised = raised_after nodes.clock edge.raised call })) (nodes.node n)))) (sym (node_itself n n refl)) there)
 node_own nodes n from Q fewer (CoreNode part) call new at e q = by (own_label_call call) e q
   where
     by : (o : Option labels.Call) → core_called nodes n part o ≡ Some new → Own (label_place_of nodes n) nodes.clock part o Q → Q (part_of (new.state.node n))

@@ -12,10 +12,10 @@ use Rattle.mvpn_model.specs.declared.readiness.UpEnd.{UpEnd}
 use Rattle.network_defs.specs.Costs.{Cores}
 use Rattle.edge_defs.specs.Steps as steps
 use Rattle.mvpn_model.specs.Unready.{SessionsStand}
-use Rattle.ready_laws.proofs.ActsStand as stand
-use Rattle.ready_laws.proofs.ActsStand.{WorldStands, act_stand, act_gives}
-use Rattle.ready_laws.proofs.Ends.{end_run, up_in, up_end}
-use Rattle.ready_laws.proofs.Nodes.{call_stand, fresh_end}
+use Rattle.network_laws.proofs.ready_laws.ActsStand as stand
+use Rattle.network_laws.proofs.ready_laws.ActsStand.{WorldStands, act_stand, act_gives}
+use Rattle.network_laws.proofs.ready_laws.Ends.{end_run, up_in, up_end}
+use Rattle.network_laws.proofs.ready_laws.Nodes.{call_stand, fresh_end}
 use Rattle.scenario_defs.specs.Kinds.{same_kind}
 use Rattle.network_defs.specs.Acts.{Act, Tick, Timers, Move, Lose, Notice, RaiseFirst, RaiseSecond, Restart, At, Enter, Land, Drop, Tell, SetCost, Reroute, Acted, act}
 use Rattle.network_defs.specs.Counts.{direction}

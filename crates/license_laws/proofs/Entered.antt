@@ -15,13 +15,13 @@ use Rattle.mv_base.specs.declared.addr.Addr.{Addr}
 use Rattle.mv_base.specs.declared.ids.IfaceId.{IfaceId}
 use Rattle.mv_base.specs.declared.ids.NodeId.{NodeId}
 use Rattle.mv_base.specs.declared.ids.VrfId.{VrfId}
-use Rattle.mldp_fec.specs.declared.fec.Fec.{Fec}
-use Rattle.mvpn_nlri.specs.declared.route.Afi.{Afi}
-use Rattle.mvpn_nlri.specs.declared.route.Route.TheVariants as routes
-use Rattle.route_targets.specs.declared.communities.ExtComm.{ExtComm}
-use Rattle.bgp_attributes.specs.declared.key.Key.{Key}
-use Rattle.bgp_attributes.specs.declared.key.Key.TheVariants.{Mcast, Unicast}
-use Rattle.bgp_update.specs.Table.{HasRoute}
+use Rattle.mldp.specs.declared.mldp_fec.fec.Fec.{Fec}
+use Rattle.bgp_values.specs.declared.mvpn_nlri.route.Afi.{Afi}
+use Rattle.bgp_values.specs.declared.mvpn_nlri.route.Route.TheVariants as routes
+use Rattle.mv_base.specs.declared.route_targets.communities.ExtComm.{ExtComm}
+use Rattle.bgp_messages.specs.declared.bgp_attributes.key.Key.{Key}
+use Rattle.bgp_messages.specs.declared.bgp_attributes.key.Key.TheVariants.{Mcast, Unicast}
+use Rattle.bgp_messages.specs.bgp_update.Table.{HasRoute}
 use Rattle.scenario_defs.specs.declared.event.Kind.TheVariants as kinds
 use Rattle.scenario_defs.specs.declared.report.ReportLine.{ReportLine}
 use Rattle.scenario_defs.specs.declared.report.ReportLine.TheVariants as lines
@@ -40,9 +40,9 @@ use Rattle.edge_defs.specs.Place.{EdgePlace, OwnVrf, addr_of, lsp, tunnel_number
 use Rattle.edge_defs.specs.Tunnels.{number_by, selections_of, transmit_tunnel, is_joined_by, is_joined_in}
 use Rattle.edge_defs.specs.Upstream.{upstream_for}
 use Rattle.edge_defs.proofs.KeyLemmas.{key_total}
-use Rattle.calm_laws.proofs.Lists.{any_among, found_among}
-use Rattle.calm_laws.proofs.Maps.{entry_get}
-use Rattle.calm_laws.proofs.Tables.{peer_table}
+use Rattle.rule_laws.proofs.edge_words.calm_laws.Lists.{any_among, found_among}
+use Rattle.rule_laws.proofs.edge_words.calm_laws.Maps.{entry_get}
+use Rattle.rule_laws.proofs.edge_words.calm_laws.Tables.{peer_table}
 use Rattle.network_defs.specs.Acts.{Act, Enter, RaiseFirst, RaiseSecond, Tick, Timers, Move, Lose, Notice, Restart, At, Land, Drop, Tell, SetCost, Reroute, Acted, hop_line, datagram_at, enters_at, entering, act}
 use Rattle.network_defs.specs.Local.{MayHop, MayEnter, EntersBy, taken_since}
 use Rattle.network_defs.specs.Nodes.{NodeState, Edge, CoreNode, place_of, part_of}

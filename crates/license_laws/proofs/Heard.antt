@@ -7,19 +7,19 @@ use Rattle.std.proofs.lemmas.List.{append_assoc, take-append-drop}
 use Rattle.mv_base.specs.Number.{◌>>?◌}
 use Rattle.mv_base.specs.Octets.{IsOctets}
 use Rattle.mv_base.specs.declared.ids.NodeId.{NodeId}
-use Rattle.framing.specs.Cut.Front.{more}
-use Rattle.framing.specs.Feed.{fed}
-use Rattle.framing.specs.Units.{Spelled, octets_of, messages_of, AreUnits, NoUnit}
-use Rattle.framing.proofs.Cuts.{none_whole, IsOctets-before, IsOctets-behind}
+use Rattle.mv_base.specs.framing.Cut.Front.{more}
+use Rattle.mv_base.specs.framing.Feed.{fed}
+use Rattle.mv_base.specs.framing.Units.{Spelled, octets_of, messages_of, AreUnits, NoUnit}
+use Rattle.mv_base.proofs.framing.Cuts.{none_whole, IsOctets-before, IsOctets-behind}
 use Rattle.scenario_defs.specs.declared.event.Kind.{Kind}
-use Rattle.session_defs.specs.Message.{SessionMessage, same_direction, front_of, Spells}
-use Rattle.session_defs.specs.Octets.{Stream, OctetNetwork, OctetAct, all_taken, moved, octet_run}
-use Rattle.session_defs.specs.Refined.{Carried}
-use Rattle.session_defs.specs.System.{Behind, with_earlier}
-use Rattle.session_defs.specs.declared.direction.Direction.{Direction}
-use Rattle.session_defs.proofs.Fronts.{stream_of}
-use Rattle.session_defs.proofs.Lines.{are_both, are_octets, own_direction}
-use Rattle.session_defs.proofs.Moves.{came_of}
+use Rattle.network_defs.specs.session_defs.Message.{SessionMessage, same_direction, front_of, Spells}
+use Rattle.network_defs.specs.session_defs.Octets.{Stream, OctetNetwork, OctetAct, all_taken, moved, octet_run}
+use Rattle.network_defs.specs.session_defs.Refined.{Carried}
+use Rattle.network_defs.specs.session_defs.System.{Behind, with_earlier}
+use Rattle.network_defs.specs.declared.session_defs.direction.Direction.{Direction}
+use Rattle.network_defs.proofs.session_defs.Fronts.{stream_of}
+use Rattle.network_defs.proofs.session_defs.Lines.{are_both, are_octets, own_direction}
+use Rattle.network_defs.proofs.session_defs.Moves.{came_of}
 use Rattle.network_defs.specs.Counts.{direction}
 use Rattle.network_defs.specs.Local.{is_up_after, is_up_in, taken_since}
 use Rattle.network_defs.specs.Nodes.{NodeState, Nodes}

@@ -7,7 +7,7 @@ use Rattle.std.proofs.lemmas.Grind.{flat_map-append}
 use Rattle.std.proofs.lemmas.List.{append-nil}
 use Rattle.mv_base.specs.Number.{◌>>?◌}
 use Rattle.mv_base.specs.declared.ids.NodeId.{NodeId}
-use Rattle.framing.specs.Feed.{unfed}
+use Rattle.mv_base.specs.framing.Feed.{unfed}
 use Rattle.scenario_defs.specs.declared.event.Kind.{Kind}
 use Rattle.scenario_defs.specs.declared.event.Kind.TheVariants as kinds
 use Rattle.scenario_defs.specs.declared.report.ReportLine.{ReportLine}
@@ -15,13 +15,13 @@ use Rattle.scenario_defs.specs.declared.report.ReportLine.TheVariants as lines
 use Rattle.scenario_defs.specs.declared.scenario.Scenario.{Scenario}
 use Rattle.label_defs.proofs.KeyLemmas.{node_equal, node_cases, node_itself}
 use Rattle.scenario_defs.specs.Kinds.{same_kind}
-use Rattle.session_defs.specs.Message.{SessionMessage, same_direction}
-use Rattle.session_defs.specs.Octets as octets
-use Rattle.session_defs.specs.Octets.{OctetNetwork, OctetAct, moved, octet_run, with_step}
-use Rattle.session_defs.specs.Refined.{Carried, IsLine}
-use Rattle.session_defs.specs.System.{Stepped, Behind, with_earlier}
-use Rattle.session_defs.specs.declared.direction.Direction.{Direction}
-use Rattle.session_defs.proofs.Lines.{direction_is}
+use Rattle.network_defs.specs.session_defs.Message.{SessionMessage, same_direction}
+use Rattle.network_defs.specs.session_defs.Octets as octets
+use Rattle.network_defs.specs.session_defs.Octets.{OctetNetwork, OctetAct, moved, octet_run, with_step}
+use Rattle.network_defs.specs.session_defs.Refined.{Carried, IsLine}
+use Rattle.network_defs.specs.session_defs.System.{Stepped, Behind, with_earlier}
+use Rattle.network_defs.specs.declared.session_defs.direction.Direction.{Direction}
+use Rattle.network_defs.proofs.session_defs.Lines.{direction_is}
 use Rattle.edge_defs.specs.Steps as steps
 use Rattle.network_defs.specs.Acts.{Act, Tick, Timers, Move, Lose, Notice, RaiseFirst, RaiseSecond, Restart, At, Enter, Land, Drop, Tell, SetCost, Reroute, Acted, with_network, at_node, put_lines, with_aged, aged, is_of_session, is_from_peer, is_at, leads_to, act}
 use Rattle.network_defs.specs.Counts.{direction, directions}

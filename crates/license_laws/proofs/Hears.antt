@@ -5,9 +5,9 @@ use Rattle.std.specs.List.{AllByRecursion}
 use Rattle.std.proofs.lemmas.List.{append-nil, append_assoc}
 use Rattle.mv_base.specs.Number.{◌>>?◌}
 use Rattle.mv_base.specs.declared.ids.NodeId.{NodeId}
-use Rattle.framing.specs.Cut.{Cut}
-use Rattle.framing.specs.Feed.{fed, fed_by, fed_unless, unfed}
-use Rattle.framing.specs.Units.{Spelled, messages_of, AreUnits}
+use Rattle.mv_base.specs.framing.Cut.{Cut}
+use Rattle.mv_base.specs.framing.Feed.{fed, fed_by, fed_unless, unfed}
+use Rattle.mv_base.specs.framing.Units.{Spelled, messages_of, AreUnits}
 use Rattle.scenario_defs.specs.declared.event.Kind.{Kind}
 use Rattle.scenario_defs.specs.declared.event.Kind.TheVariants as kinds
 use Rattle.scenario_defs.specs.declared.scenario.Scenario.{Scenario}
@@ -15,21 +15,21 @@ use Rattle.label_defs.proofs.KeyLemmas.{node_itself, node_apart, node_cases}
 use Rattle.label_defs.specs.Settling as settling
 use Rattle.label_defs.specs.Steps as labels
 use Rattle.label_defs.specs.Steps.{label_step}
-use Rattle.session_defs.specs.Message.{SessionMessage, Bgp, Label, SessionFault, same_direction, front_of, Spells}
-use Rattle.session_defs.specs.Octets.{Stream, OctetNetwork, OctetAct, Move, Call, Lose, Forget, Join, with_step, all_taken, octet_act, octet_run}
-use Rattle.session_defs.specs.Refined.{Carried}
-use Rattle.session_defs.specs.System.{Stepped, Behind, with_earlier}
-use Rattle.session_defs.specs.declared.direction.Direction.{Direction}
-use Rattle.session_defs.proofs.Came.{Came, came_cut}
-use Rattle.session_defs.proofs.Fronts.{stream_of}
-use Rattle.session_defs.proofs.Lines.{own_direction}
+use Rattle.network_defs.specs.session_defs.Message.{SessionMessage, Bgp, Label, SessionFault, same_direction, front_of, Spells}
+use Rattle.network_defs.specs.session_defs.Octets.{Stream, OctetNetwork, OctetAct, Move, Call, Lose, Forget, Join, with_step, all_taken, octet_act, octet_run}
+use Rattle.network_defs.specs.session_defs.Refined.{Carried}
+use Rattle.network_defs.specs.session_defs.System.{Stepped, Behind, with_earlier}
+use Rattle.network_defs.specs.declared.session_defs.direction.Direction.{Direction}
+use Rattle.network_defs.proofs.session_defs.Came.{Came, came_cut}
+use Rattle.network_defs.proofs.session_defs.Fronts.{stream_of}
+use Rattle.network_defs.proofs.session_defs.Lines.{own_direction}
 use Rattle.edge_defs.specs.Place.{addr_of}
 use Rattle.edge_defs.specs.Steps as steps
 use Rattle.edge_defs.specs.Steps.{EdgeStepped, edge_step, own_label_call}
 use Rattle.network_defs.specs.Counts.{direction}
 use Rattle.network_laws.proofs.Lists.{each_append}
 use Rattle.network_defs.specs.Nodes.{NodeState, Edge, CoreNode, Nodes, with_node, fresh_node, following, place_of, label_place_of}
-use Rattle.node_defs.specs.Puts.{bgp_puts, label_puts}
+use Rattle.network_defs.specs.node_defs.Puts.{bgp_puts, label_puts}
 use Rattle.network_defs.specs.System.{NodeCall, Own, Elapse, Reset, Price, Follow, node_called, core_called, call_of, system}
 
 -- ---- calls

@@ -7,7 +7,7 @@ use Rattle.std.proofs.lemmas.List.{append_assoc}
 use Rattle.mv_base.specs.declared.ids.IfaceId.{IfaceId}
 use Rattle.mv_base.specs.declared.ids.NodeId.{NodeId}
 use Rattle.mv_base.specs.declared.ids.VrfId.{VrfId}
-use Rattle.mldp_fec.specs.declared.fec.Fec.{Fec}
+use Rattle.mldp.specs.declared.mldp_fec.fec.Fec.{Fec}
 use Rattle.scenario_defs.specs.declared.report.ReportLine.{ReportLine}
 use Rattle.scenario_defs.specs.declared.report.ReportLine.TheVariants as lines
 use Rattle.scenario_defs.specs.declared.scenario.Scenario.{Scenario}
@@ -16,8 +16,8 @@ use Rattle.label_defs.specs.LabelData.{LabelData, same_fec, use_of, branches_of}
 use Rattle.label_defs.specs.declared.branch.Branch.{Branch}
 use Rattle.label_defs.proofs.KeyLemmas.{branch_cmp_total}
 use Rattle.label_defs.proofs.MemberLemmas.{each_in_order}
-use Rattle.session_defs.specs.Octets as octets
-use Rattle.session_defs.specs.System.{Put}
+use Rattle.network_defs.specs.session_defs.Octets as octets
+use Rattle.network_defs.specs.session_defs.System.{Put}
 use Rattle.edge_defs.specs.Datagrams.{Fate, discarded, tree_of, outs_of, is_from_site, is_outside, entering_fate}
 use Rattle.edge_defs.specs.Flows.{asking_ifaces}
 use Rattle.label_defs.specs.Members.{in_order}

@@ -13,14 +13,14 @@ use Rattle.mv_base.specs.Number.{◌>>?◌, only_if}
 use Rattle.mv_base.specs.declared.addr.Addr.{Addr}
 use Rattle.mv_base.specs.declared.ids.IfaceId.{IfaceId}
 use Rattle.mv_base.specs.declared.ids.NodeId.{NodeId}
-use Rattle.mldp_fec.specs.declared.fec.Fec.{Fec}
-use Rattle.mvpn_nlri.specs.declared.route.Afi.{Afi}
-use Rattle.mvpn_nlri.specs.declared.route.Afi.TheVariants.{Ipv4, Ipv6}
-use Rattle.mvpn_nlri.specs.declared.route.Route.TheVariants as routes
-use Rattle.bgp_attributes.specs.declared.key.Key.{Key}
-use Rattle.bgp_attributes.specs.declared.key.Key.TheVariants.{Mcast, Unicast}
+use Rattle.mldp.specs.declared.mldp_fec.fec.Fec.{Fec}
+use Rattle.bgp_values.specs.declared.mvpn_nlri.route.Afi.{Afi}
+use Rattle.bgp_values.specs.declared.mvpn_nlri.route.Afi.TheVariants.{Ipv4, Ipv6}
+use Rattle.bgp_values.specs.declared.mvpn_nlri.route.Route.TheVariants as routes
+use Rattle.bgp_messages.specs.declared.bgp_attributes.key.Key.{Key}
+use Rattle.bgp_messages.specs.declared.bgp_attributes.key.Key.TheVariants.{Mcast, Unicast}
 use Rattle.mv_base.specs.declared.pattern.Pattern.{Pattern}
-use Rattle.route_targets.specs.declared.communities.ExtComm.{ExtComm}
+use Rattle.mv_base.specs.declared.route_targets.communities.ExtComm.{ExtComm}
 use Rattle.scenario_defs.specs.declared.report.ReportLine.{ReportLine}
 use Rattle.scenario_defs.specs.declared.report.ReportLine.TheVariants as lines
 use Rattle.scenario_defs.specs.declared.scenario.Scenario.{Scenario}
@@ -38,10 +38,10 @@ use Rattle.edge_defs.specs.Keys.{Value}
 use Rattle.edge_defs.specs.Place.{EdgePlace, OwnVrf, addr_of, own_vrfs}
 use Rattle.edge_defs.specs.Upstream.{upstream_for}
 use Rattle.edge_defs.proofs.KeyLemmas.{key_total}
-use Rattle.calm_laws.proofs.Lists.{any_among}
-use Rattle.calm_laws.proofs.Maps.{entry_get}
-use Rattle.calm_laws.proofs.Tables.{peer_table}
-use Rattle.calm_laws.proofs.Vrfs.{own_at, own_edge}
+use Rattle.rule_laws.proofs.edge_words.calm_laws.Lists.{any_among}
+use Rattle.rule_laws.proofs.edge_words.calm_laws.Maps.{entry_get}
+use Rattle.rule_laws.proofs.edge_words.calm_laws.Tables.{peer_table}
+use Rattle.rule_laws.proofs.edge_words.calm_laws.Vrfs.{own_at, own_edge}
 use Rattle.network_defs.specs.Acts.{Act, Tick, Timers, Move, Lose, Notice, RaiseFirst, RaiseSecond, Restart, At, Enter, Land, Drop, Tell, SetCost, Reroute, Acted, hop_line, datagram_at, fate_at, with_ttl, landed, without_copy, landing, act}
 use Rattle.network_defs.specs.LabelRule.{part_at}
 use Rattle.network_defs.specs.Local.{goes_on, is_up_in, put_since, MayHop, HopsOf, MayDeliver, OutsOf, MayLand}
@@ -52,8 +52,8 @@ use Rattle.network_defs.specs.World.{World, Datagram, LinkCopy, scenario_of, clo
 use Rattle.network_laws.proofs.Lists.{each_append, each_flat, each_map, each_of, each_weaker}
 use Rattle.rule_laws.proofs.Acts.{InStep}
 use Rattle.rule_laws.proofs.Admits.{all_of_among, IsIfaceOf, asking_are}
-use Rattle.framing.specs.Units.{octets_of}
-use Rattle.mldp_msgs.specs.Labels.{HasLabel}
+use Rattle.mv_base.specs.framing.Units.{octets_of}
+use Rattle.mldp.specs.mldp_msgs.Labels.{HasLabel}
 use Rattle.scenario_defs.specs.declared.event.Kind.TheVariants as kinds
 use Rattle.label_defs.specs.declared.end.End.{End}
 use Rattle.label_defs.specs.declared.label_use.LabelUse.TheVariants as uses

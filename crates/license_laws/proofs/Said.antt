@@ -6,8 +6,8 @@ use Rattle.std.proofs.lemmas.Bool.{and_parts}
 use Rattle.std.proofs.lemmas.Grind.{flat_map-append}
 use Rattle.std.proofs.lemmas.List.{append-nil, append_assoc}
 use Rattle.mv_base.specs.declared.ids.NodeId.{NodeId}
-use Rattle.framing.specs.Units.{Spelled, octets_of, messages_of, AreUnits}
-use Rattle.mldp_msgs.specs.declared.message.LabelMessage.{LabelMessage}
+use Rattle.mv_base.specs.framing.Units.{Spelled, octets_of, messages_of, AreUnits}
+use Rattle.mldp.specs.declared.mldp_msgs.message.LabelMessage.{LabelMessage}
 use Rattle.scenario_defs.specs.declared.event.Kind.{Kind}
 use Rattle.scenario_defs.specs.declared.event.Kind.TheVariants as kinds
 use Rattle.scenario_defs.specs.declared.report.ReportLine.{ReportLine}
@@ -17,11 +17,11 @@ use Rattle.label_defs.specs.declared.end.End.{End}
 use Rattle.label_laws.specs.Rule.{is_held, end_of}
 use Rattle.mvpn_model.specs.declared.session.Session.{Session}
 use Rattle.scenario_defs.specs.Kinds.{same_kind}
-use Rattle.session_defs.specs.Message.{SessionMessage, Spells}
-use Rattle.session_defs.specs.Octets as octets
-use Rattle.session_defs.specs.Octets.{OctetNetwork, octet_run}
-use Rattle.session_defs.specs.System.{Put, Behind, octets_over}
-use Rattle.session_defs.proofs.Lines.{are_spelled, are_both, sent_over}
+use Rattle.network_defs.specs.session_defs.Message.{SessionMessage, Spells}
+use Rattle.network_defs.specs.session_defs.Octets as octets
+use Rattle.network_defs.specs.session_defs.Octets.{OctetNetwork, octet_run}
+use Rattle.network_defs.specs.session_defs.System.{Put, Behind, octets_over}
+use Rattle.network_defs.proofs.session_defs.Lines.{are_spelled, are_both, sent_over}
 use Rattle.edge_defs.specs.Steps as steps
 use Rattle.network_defs.specs.Acts.{Act, Tick, Timers, Move, Lose, Notice, RaiseFirst, RaiseSecond, Restart, At, Enter, Land, Drop, Tell, SetCost, Reroute, Acted, with_network, at_node, put_lines, with_aged, aged, is_of_session, is_from_peer, is_at, leads_to, act}
 use Rattle.label_defs.specs.Between.{is_between}

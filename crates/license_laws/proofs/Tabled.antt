@@ -4,20 +4,20 @@ use Rattle.std.specs.FinMap as maps
 use Rattle.std.proofs.lemmas.Grind.{flat_map-append}
 use Rattle.std.proofs.lemmas.Option.{none-some}
 use Rattle.mv_base.specs.declared.ids.NodeId.{NodeId}
-use Rattle.framing.specs.Units.{Spelled, octets_of, messages_of, AreUnits}
-use Rattle.bgp_attributes.specs.declared.key.Key.{Key}
-use Rattle.bgp_attributes.specs.declared.update.Advert.{Advert}
-use Rattle.bgp_attributes.specs.declared.update.Change.{Change}
-use Rattle.bgp_attributes.specs.declared.update.Change.TheVariants as updates
-use Rattle.bgp_attributes.specs.declared.update.Message.{Message}
-use Rattle.bgp_update.specs.Spelling.{SpellsMessage}
-use Rattle.bgp_update.specs.Table.{changes_of, AnnouncesLast, HasRoute}
+use Rattle.mv_base.specs.framing.Units.{Spelled, octets_of, messages_of, AreUnits}
+use Rattle.bgp_messages.specs.declared.bgp_attributes.key.Key.{Key}
+use Rattle.bgp_messages.specs.declared.bgp_attributes.update.Advert.{Advert}
+use Rattle.bgp_messages.specs.declared.bgp_attributes.update.Change.{Change}
+use Rattle.bgp_messages.specs.declared.bgp_attributes.update.Change.TheVariants as updates
+use Rattle.bgp_messages.specs.declared.bgp_attributes.update.Message.{Message}
+use Rattle.bgp_messages.specs.bgp_update.Spelling.{SpellsMessage}
+use Rattle.bgp_messages.specs.bgp_update.Table.{changes_of, AnnouncesLast, HasRoute}
 use Rattle.scenario_defs.specs.declared.event.Kind.TheVariants as kinds
 use Rattle.scenario_defs.specs.declared.scenario.Scenario.{Scenario}
-use Rattle.session_defs.specs.Message.{SessionMessage, Bgp, Spells}
+use Rattle.network_defs.specs.session_defs.Message.{SessionMessage, Bgp, Spells}
 use Rattle.edge_defs.specs.Edge.{TakenRoute, Taken}
 use Rattle.edge_defs.specs.Keys.{Value, key_cmp}
-use Rattle.edge_laws.proofs.Taken.{table_in}
+use Rattle.rule_laws.proofs.edge_words.edge_laws.Taken.{table_in}
 use Rattle.network_defs.specs.Counts.{direction, is_up as is_end}
 use Rattle.network_defs.specs.Local.{is_up_in, taken_since}
 use Rattle.network_defs.specs.Refusals.{control_of}

@@ -7,12 +7,12 @@ use Rattle.std.specs.Ordering.{eq_by_cmp}
 use Rattle.std.proofs.lemmas.List.{append-nil, append_assoc}
 use Rattle.std.proofs.lemmas.Option.{same_Some, none-some}
 use Rattle.mv_base.specs.declared.ids.NodeId.{NodeId}
-use Rattle.bgp_attributes.specs.declared.key.Key.{Key}
-use Rattle.bgp_attributes.specs.declared.update.Advert.{Advert}
-use Rattle.bgp_attributes.specs.declared.update.Change.{Change}
-use Rattle.bgp_attributes.specs.declared.update.Change.TheVariants as updates
-use Rattle.bgp_attributes.specs.declared.update.Message.{Message}
-use Rattle.bgp_update.specs.Table.{key_of, changes_of, AnnouncesLast}
+use Rattle.bgp_messages.specs.declared.bgp_attributes.key.Key.{Key}
+use Rattle.bgp_messages.specs.declared.bgp_attributes.update.Advert.{Advert}
+use Rattle.bgp_messages.specs.declared.bgp_attributes.update.Change.{Change}
+use Rattle.bgp_messages.specs.declared.bgp_attributes.update.Change.TheVariants as updates
+use Rattle.bgp_messages.specs.declared.bgp_attributes.update.Message.{Message}
+use Rattle.bgp_messages.specs.bgp_update.Table.{key_of, changes_of, AnnouncesLast}
 use Rattle.scenario_defs.specs.declared.event.Kind.TheVariants as kinds
 use Rattle.label_defs.specs.Keys.{node_cmp}
 use Rattle.label_defs.specs.Settling as settling
@@ -20,19 +20,19 @@ use Rattle.label_defs.specs.Steps as labels
 use Rattle.label_defs.specs.Steps.{label_step}
 use Rattle.label_defs.proofs.KeyLemmas.{node_cmp_total, node_cmp_exact, node_cases, node_itself, ties}
 use Rattle.label_defs.proofs.SettleLemmas.{bind_some}
-use Rattle.session_defs.specs.Message.{SessionMessage, Bgp, Label}
-use Rattle.session_defs.specs.System.{Stepped}
+use Rattle.network_defs.specs.session_defs.Message.{SessionMessage, Bgp, Label}
+use Rattle.network_defs.specs.session_defs.System.{Stepped}
 use Rattle.table_laws.proofs.CompareLemmas.{one_key}
 use Rattle.edge_defs.proofs.KeyLemmas.{key_total, key_exact, value_exact}
 use Rattle.edge_defs.specs.Edge.{TakenRoute, Taken, Control, no_control}
 use Rattle.edge_defs.specs.Keys.{Value, key_cmp, same_value}
 use Rattle.edge_defs.specs.Place.{EdgePlace, addr_of}
 use Rattle.edge_defs.specs.Steps as steps
-use Rattle.edge_defs.specs.Steps.{EdgeStepped, LabelStep, learned, taken_change, with_update, effect, is_vrf_step, refreshed, control_step, own_label_call, one_call, changed_leaves, label_row, part_after, edge_step}
+use Rattle.edge_defs.specs.Steps.{EdgeStepped, LabelStep, learned, taken_change, with_update, effect, is_vrf_step, refreshed, control_step, own_label_call, one_call, changed_leaves, label_row, part_after, raised_after, edge_step}
 use Rattle.edge_defs.specs.Tunnels.{leaves}
-use Rattle.edge_laws.proofs.Taken.{run_at, get-peers_run, table_in, run_taken}
+use Rattle.rule_laws.proofs.edge_words.edge_laws.Taken.{run_at, get-peers_run, table_in, run_taken}
 use Rattle.network_defs.specs.Nodes.{NodeState, Edge, CoreNode, Nodes, with_node, place_of, label_place_of}
-use Rattle.node_defs.specs.Puts.{bgp_puts, label_puts}
+use Rattle.network_defs.specs.node_defs.Puts.{bgp_puts, label_puts}
 use Rattle.network_defs.specs.Refusals.{control_of}
 use Rattle.network_defs.specs.System.{node_called, core_called, call_of, unchanged}
 use Rattle.network_laws.proofs.Lists.{each_append}
@@ -202,12 +202,12 @@ node_control nodes n from changes (Edge edge) call new at e h =
       state = with_node nodes n (Edge made.edge);
       puts = bgp_puts place edge.control made.edge.control ++ flat_map (label_puts n (addr_of nodes.scenario n) (label_place_of nodes n) nodes.clock) made.row;
     } in
-    let behind_row : List LabelStep → EdgeStepped = λ row. record { edge = record { control = control; part = part_after edge.part row }; row = row } in
+    let behind_row : List LabelStep → EdgeStepped = λ row. record { edge = record { control = control; part = part_after edge.part row; raised = raised_after nodes.clock edge.raised call }; row = row } in
     let x = bind_some (edge_step place nodes.clock edge call) (λ m. Some (made m)) new e in
     let y = bind_some (label_row place nodes.clock edge.part (one_call (own_label_call call) ++ changed_leaves (leaves place edge.control) (leaves place control))) (λ row. Some (behind_row row)) x.0 x.1 in
     let same : made (behind_row y.0) ≡ new = ap made (same_Some (behind_row y.0) x.0 y.2) ∙ same_Some (made x.0) new x.2 in
     subst (λ (s : Stepped Nodes). PeerHas from changes (control_of (s.state.node n)).peers) same
-    (subst (λ (t : Bool). PeerHas from changes (control_of (cond t (Edge (record { control = control; part = part_after edge.part y.0 })) (nodes.node n))).peers) (sym (node_itself n n refl))
+    (subst (λ (t : Bool). PeerHas from changes (control_of (cond t (Edge (record { control = control; part = part_after edge.part y.0; raised = raised_after nodes.clock edge.raised call })) (nodes.node n))).peers) (sym (node_itself n n refl))
     (flows_apart place nodes.clock from changes (effect place nodes.clock edge.control call) (is_vrf_step call) (h edge refl)))
 node_control nodes n from changes (CoreNode part) call new at e h = by (own_label_call call) e
   where

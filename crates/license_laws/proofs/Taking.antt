@@ -15,9 +15,9 @@ use Rattle.label_defs.specs.Settling as labels
 use Rattle.label_defs.specs.Steps as label_calls
 use Rattle.label_defs.specs.Steps.{label_step}
 use Rattle.scenario_defs.specs.Kinds.{same_kind}
-use Rattle.session_defs.specs.Octets as octets
-use Rattle.session_defs.specs.Octets.{OctetNetwork, octet_run, with_step}
-use Rattle.session_defs.specs.System.{Stepped, Behind, with_earlier}
+use Rattle.network_defs.specs.session_defs.Octets as octets
+use Rattle.network_defs.specs.session_defs.Octets.{OctetNetwork, octet_run, with_step}
+use Rattle.network_defs.specs.session_defs.System.{Stepped, Behind, with_earlier}
 use Rattle.edge_defs.specs.Place.{addr_of}
 use Rattle.network_defs.specs.Costs.{Cores}
 use Rattle.edge_defs.specs.Steps as steps
@@ -27,7 +27,7 @@ use Rattle.label_defs.specs.Between.{is_between}
 use Rattle.network_defs.specs.Counts.{direction, directions}
 use Rattle.network_defs.specs.Local.{put_since, taken_since, TakesWhatWasPut}
 use Rattle.network_defs.specs.Nodes.{NodeState, Edge, CoreNode, Nodes, with_node, place_of, label_place_of}
-use Rattle.node_defs.specs.Puts.{bgp_puts, label_puts}
+use Rattle.network_defs.specs.node_defs.Puts.{bgp_puts, label_puts}
 use Rattle.network_defs.specs.Run.{Traced, Runs}
 use Rattle.network_defs.specs.System.{Own, node_called, core_called, system}
 use Rattle.network_defs.specs.World.{World, start, scenario_of}

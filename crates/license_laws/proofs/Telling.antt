@@ -6,24 +6,24 @@ use Rattle.std.proofs.lemmas.List.{append-nil, append_assoc}
 use Rattle.std.proofs.lemmas.Option.{same_Some}
 use Rattle.mv_base.specs.Number.{◌>>?◌}
 use Rattle.mv_base.specs.declared.ids.NodeId.{NodeId}
-use Rattle.core_walks.specs.Costs.{with_cost}
+use Rattle.mv_base.specs.core_walks.Costs.{with_cost}
 use Rattle.edge_defs.specs.Steps as steps
-use Rattle.framing.specs.Feed.{fed}
-use Rattle.framing.specs.Units.{messages_of, AreUnits}
-use Rattle.mldp_msgs.specs.declared.message.LabelMessage.{LabelMessage}
+use Rattle.mv_base.specs.framing.Feed.{fed}
+use Rattle.mv_base.specs.framing.Units.{messages_of, AreUnits}
+use Rattle.mldp.specs.declared.mldp_msgs.message.LabelMessage.{LabelMessage}
 use Rattle.scenario_defs.specs.declared.scenario.Scenario.{Scenario}
 use Rattle.label_defs.specs.LabelData.{fresh}
 use Rattle.label_defs.specs.declared.label_use.LabelUse.TheVariants as uses
 use Rattle.label_defs.proofs.KeyLemmas.{node_cases, node_itself, node_apart}
 use Rattle.label_defs.proofs.StepLemmas.{all_free}
 use Rattle.label_defs.proofs.UseLemmas.{used_some}
-use Rattle.session_defs.specs.Message.{SessionMessage, IsPut, front_of, same_direction}
-use Rattle.session_defs.specs.Octets.{OctetNetwork, OctetAct, Move, Call, Lose, Forget, Join, with_step, all_taken, moved, octet_act, octet_run}
-use Rattle.session_defs.specs.Refined.{Keeps, IsCarried, IsLine}
-use Rattle.session_defs.specs.System.{Put, Stepped, Behind, with_earlier}
-use Rattle.session_defs.specs.declared.direction.Direction.{Direction}
-use Rattle.session_defs.proofs.Lines.{are_before}
-use Rattle.session_defs.proofs.Moves.{came_of}
+use Rattle.network_defs.specs.session_defs.Message.{SessionMessage, IsPut, front_of, same_direction}
+use Rattle.network_defs.specs.session_defs.Octets.{OctetNetwork, OctetAct, Move, Call, Lose, Forget, Join, with_step, all_taken, moved, octet_act, octet_run}
+use Rattle.network_defs.specs.session_defs.Refined.{Keeps, IsCarried, IsLine}
+use Rattle.network_defs.specs.session_defs.System.{Put, Stepped, Behind, with_earlier}
+use Rattle.network_defs.specs.declared.session_defs.direction.Direction.{Direction}
+use Rattle.network_defs.proofs.session_defs.Lines.{are_before}
+use Rattle.network_defs.proofs.session_defs.Moves.{came_of}
 use Rattle.network_defs.specs.Nodes.{following, Nodes, with_node, fresh_node, part_of}
 use Rattle.network_defs.specs.System.{NodeCall, Own, Elapse, Reset, Price, Follow, call_of, unchanged, system}
 use Rattle.network_laws.specs.Honest.{IsSoundNodeCall}

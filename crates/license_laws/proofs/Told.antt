@@ -8,10 +8,10 @@ use Rattle.std.proofs.lemmas.List.{append-nil, append_assoc}
 use Rattle.std.proofs.lemmas.Option.{same_Some}
 use Rattle.mv_base.specs.declared.addr.Addr.{Addr}
 use Rattle.mv_base.specs.declared.ids.NodeId.{NodeId}
-use Rattle.mldp_fec.specs.declared.fec.Fec.{Fec}
-use Rattle.mldp_msgs.specs.Labels.{IsMapped}
-use Rattle.mldp_msgs.specs.declared.message.LabelMessage.{LabelMessage}
-use Rattle.mldp_msgs.specs.declared.message.LabelMessage.TheVariants as messages
+use Rattle.mldp.specs.declared.mldp_fec.fec.Fec.{Fec}
+use Rattle.mldp.specs.mldp_msgs.Labels.{IsMapped}
+use Rattle.mldp.specs.declared.mldp_msgs.message.LabelMessage.{LabelMessage}
+use Rattle.mldp.specs.declared.mldp_msgs.message.LabelMessage.TheVariants as messages
 use Rattle.scenario_defs.specs.declared.event.Kind.TheVariants as kinds
 use Rattle.label_defs.specs.Keys.{node_cmp}
 use Rattle.label_defs.specs.LabelData.{Place, LabelData, use_of, is_up, is_ready}
@@ -27,11 +27,11 @@ use Rattle.label_defs.proofs.TurnLemmas.{Turn, Quiet, Takes, Gives}
 use Rattle.label_defs.proofs.UseLemmas.{used, set_here, set_there}
 use Rattle.label_defs.proofs.WithdrawLemmas.{mapped_before}
 use Rattle.label_laws.specs.Network.{messages_to}
-use Rattle.session_defs.specs.Message.{Label}
-use Rattle.session_defs.specs.System.{messages_over}
+use Rattle.network_defs.specs.session_defs.Message.{Label}
+use Rattle.network_defs.specs.session_defs.System.{messages_over}
 use Rattle.table_laws.proofs.CompareLemmas.{one_key}
 use Rattle.network_defs.specs.Counts.{direction}
-use Rattle.node_defs.specs.Puts.{label_put, label_puts}
+use Rattle.network_defs.specs.node_defs.Puts.{label_put, label_puts}
 use Rattle.rule_laws.specs.Labels.{labels_in}
 use Rattle.label_defs.proofs.IdLemmas.{counted_up}
 use Rattle.rule_laws.proofs.Puts.{over_ldp, to_both, has_end, counted_puts, here}

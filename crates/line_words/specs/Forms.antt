@@ -15,8 +15,8 @@ use Rattle.mv_base.specs.declared.rd.Rule.TheVariants.{Highest, Nearest, Hash}
 use Rattle.mv_base.specs.Number.{number_of, cut_of, only_if, ◌>>?◌}
 use Rattle.mv_base.specs.Dotted.{dotted_of}
 use Rattle.mv_base.specs.AddrText.{addr_of}
-use Rattle.route_targets.specs.declared.communities.Target.{Target}
-use Rattle.route_targets.specs.Targets.{same_target}
+use Rattle.mv_base.specs.declared.route_targets.communities.Target.{Target}
+use Rattle.mv_base.specs.route_targets.Targets.{same_target}
 use Rattle.scenario_defs.specs.Prefixes.{same_prefix}
 use Rattle.line_words.specs.declared.fault.Reason.{Reason}
 use Rattle.line_words.specs.declared.fault.Reason.TheVariants as reasons

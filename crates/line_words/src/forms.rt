@@ -14,8 +14,8 @@ ghost use Rattle.line_words.specs.Forms.{prefix_if, prefix_of, payload_at};
 use crate::fault::fault_at;
 use crate::{ReadFault, Reason, Row, TextFault, Word};
 use hex::FromHexError;
+use mv_base::route_targets::{ExtComm, Target};
 use mv_base::{Addr, Bytes, Prefix, Rd, Rule, cut_at, read_number};
-use route_targets::{ExtComm, Target};
 use scenario_defs::NAME_LIMIT;
 use std::alloc::Global;
 

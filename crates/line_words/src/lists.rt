@@ -1,7 +1,7 @@
 //! Words that write a list with commas.
 ghost use Rattle.std.specs.Prelude.{◌≡◌, ◌==◌, ◌∷◌, ℕ, Bool, List, Option, IfOk};
 ghost use Rattle.std.specs.List.{list_any, slice_split};
-ghost use Rattle.route_targets.specs.Targets.{same_target};
+ghost use Rattle.mv_base.specs.route_targets.Targets.{same_target};
 ghost use Rattle.scenario_defs.specs.Prefixes.{same_prefix};
 ghost use Rattle.line_words.specs.Answers.{Gives};
 ghost use Rattle.line_words.specs.Words.{placed_word};
@@ -11,8 +11,8 @@ ghost use Rattle.line_words.specs.Parts.{parts_behind};
 use crate::fault::fault_at;
 use crate::forms::{or_fault, prefix_of, target_of};
 use crate::{ReadFault, Reason, Row, Word};
+use mv_base::route_targets::{Target, Targets};
 use mv_base::{NoMemory, Prefix, Seq, cut_at};
-use route_targets::{Target, Targets};
 use scenario_defs::{Prefixes, same_prefix};
 use std::alloc::Global;
 

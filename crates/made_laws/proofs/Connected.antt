@@ -2,7 +2,7 @@
 use Rattle.std.proofs.Common.{◌≡◌, ◌⊎◌, ℕ, zero, suc, ◌+◌, ◌-◌, ◌%◌, ◌<◌, ◌≤◌, ◌==◌, ◌&&◌, Bool, true, List, [], refl, subst, arith, inl, inr}
 use Rattle.std.proofs.lemmas.Bool.{and_from, or_left, or_right, eq-eqb, cases_lt}
 use Rattle.mv_base.specs.declared.core_link.Link.{Link}
-use Rattle.core_walks.specs.Reached.{joins_to, reached_within, all_below, is_connected}
+use Rattle.mv_base.specs.core_walks.Reached.{joins_to, reached_within, all_below, is_connected}
 use Rattle.made_laws.specs.MadeScript.{ring_link, spur_link}
 use Rattle.made_laws.proofs.ListLemmas.{behind, any_some, any_kept}
 use Rattle.made_laws.proofs.Drafts.{made_links}

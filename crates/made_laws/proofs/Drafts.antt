@@ -11,8 +11,8 @@ use Rattle.scenario_defs.specs.declared.scenario.Site.{Site}
 use Rattle.scenario_defs.specs.declared.scenario.Iface.{Iface}
 use Rattle.scenario_defs.specs.declared.scenario.Thing.{Thing}
 use Rattle.scenario_defs.specs.declared.scenario.Thing.TheVariants as things
-use Rattle.scenario_draft.specs.Drafted.{Drafted}
-use Rattle.scenario_draft.specs.Settings.{none_given}
+use Rattle.scenario_lines.specs.scenario_draft.Drafted.{Drafted}
+use Rattle.scenario_lines.specs.scenario_draft.Settings.{none_given}
 use Rattle.made_laws.specs.MadeScript.{edge_id, core_id, edge_node, core_node, ring_link, spur_link, name_at, vrf_id, site_id, iface_id, vrf, site, iface}
 use Rattle.made_laws.proofs.ListLemmas.{behind, rows, lookup_none, lookup_more, lookup_last, lookup_one, lookup_behind, lookup_kept, lookup_found}
 use Rattle.made_laws.proofs.NumeralLemmas.{same_name, other_number, other_pair}

@@ -8,9 +8,9 @@ use Rattle.scenario_defs.specs.declared.event.Event.TheVariants as events
 use Rattle.scenario_defs.specs.declared.event.JoinEntry.TheVariants.{Source}
 use Rattle.scenario_defs.specs.declared.event.Timed.{Timed}
 use Rattle.line_words.specs.declared.words.Row.{Row}
-use Rattle.scenario_draft.specs.declared.line.Line.TheVariants as says
-use Rattle.scenario_draft.specs.Drafted.{Drafted}
-use Rattle.scenario_draft.specs.Naming.{vrf_at, site_at, iface_at}
+use Rattle.scenario_lines.specs.declared.scenario_draft.line.Line.TheVariants as says
+use Rattle.scenario_lines.specs.scenario_draft.Drafted.{Drafted}
+use Rattle.scenario_lines.specs.scenario_draft.Naming.{vrf_at, site_at, iface_at}
 use Rattle.line_words.specs.Forms.{payload_at}
 use Rattle.scenario_text.specs.Grammar.{row_of, words_line}
 use Rattle.generator.specs.Made as made

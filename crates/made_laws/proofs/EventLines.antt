@@ -17,14 +17,14 @@ use Rattle.scenario_defs.specs.declared.event.JoinEntry.TheVariants.{Source}
 use Rattle.line_words.specs.declared.words.Row.{Row}
 use Rattle.line_words.specs.Words.{Placed}
 use Rattle.line_words.specs.Forms.{is_unicast, is_group, source_at, group_at, number_to, payload_at, same_family}
-use Rattle.scenario_draft.specs.declared.line.Line.TheVariants as says
-use Rattle.scenario_draft.specs.Drafted.{Drafted}
-use Rattle.scenario_draft.specs.Naming.{vrf_at, site_at, iface_at, is_of_iface}
-use Rattle.event_lines.specs.EventGrammar.{event_line, event_word, event_words, bare_line}
-use Rattle.event_lines.specs.ClockGrammar.{tick_line, tick_words}
-use Rattle.event_lines.specs.JoinGrammar.{entry_line, iface_entry, three_words, entry_at, source_entry}
-use Rattle.event_lines.specs.SelectGrammar.{select_line, select_words, pattern_at, any_source_at, any_group_at}
-use Rattle.event_lines.specs.PayloadGrammar.{send_line, send_words, send_head}
+use Rattle.scenario_lines.specs.declared.scenario_draft.line.Line.TheVariants as says
+use Rattle.scenario_lines.specs.scenario_draft.Drafted.{Drafted}
+use Rattle.scenario_lines.specs.scenario_draft.Naming.{vrf_at, site_at, iface_at, is_of_iface}
+use Rattle.scenario_text.specs.event_lines.EventGrammar.{event_line, event_word, event_words, bare_line}
+use Rattle.scenario_text.specs.event_lines.ClockGrammar.{tick_line, tick_words}
+use Rattle.scenario_text.specs.event_lines.JoinGrammar.{entry_line, iface_entry, three_words, entry_at, source_entry}
+use Rattle.scenario_text.specs.event_lines.SelectGrammar.{select_line, select_words, pattern_at, any_source_at, any_group_at}
+use Rattle.scenario_text.specs.event_lines.PayloadGrammar.{send_line, send_words, send_head}
 use Rattle.scenario_text.specs.Grammar.{words_line}
 use Rattle.made_laws.proofs.LineLemmas.{at, in_events, addr_word}
 

@@ -13,7 +13,7 @@ use Rattle.scenario_defs.specs.Vpn.{is_of_site, is_of_vrf, is_attached_at}
 use Rattle.scenario_defs.specs.declared.scenario.Iface.{Iface}
 use Rattle.scenario_defs.specs.declared.scenario.Route.{Route}
 use Rattle.scenario_defs.specs.declared.scenario.Site.{Site}
-use Rattle.calm_laws.proofs.Lists.{any_among, among_either, among_front, among_behind}
+use Rattle.growth_laws.proofs.edge_words.calm_laws.Lists.{any_among, among_either, among_front, among_behind}
 use Rattle.growth_laws.specs.Scripts.{HasOneHome}
 use Rattle.made_laws.specs.MadeScript.{each, all, ipv4, vrf, site, iface, made_scenario}
 

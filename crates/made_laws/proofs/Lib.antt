@@ -11,3 +11,5 @@ pub mod VpnBlocks
 pub mod Connected
 pub mod EventBlocks
 pub mod Whole
+pub mod ScriptRulesLemmas
+pub mod OctetLemmas

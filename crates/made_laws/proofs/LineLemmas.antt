@@ -16,9 +16,9 @@ use Rattle.mv_base.specs.declared.rd.Rule.{Rule}
 use Rattle.mv_base.specs.declared.rd.Rule.TheVariants.{Highest}
 use Rattle.mv_base.specs.AddrText.{addr_of}
 use Rattle.mv_base.specs.Number.{is_number}
-use Rattle.core_walks.specs.Reached.{is_connected}
-use Rattle.route_targets.specs.declared.communities.Target.{Target}
-use Rattle.route_targets.specs.Targets.{same_target}
+use Rattle.mv_base.specs.core_walks.Reached.{is_connected}
+use Rattle.mv_base.specs.declared.route_targets.communities.Target.{Target}
+use Rattle.mv_base.specs.route_targets.Targets.{same_target}
 use Rattle.scenario_defs.specs.declared.scenario.Node.{Node}
 use Rattle.scenario_defs.specs.declared.scenario.Vrf.{Vrf}
 use Rattle.scenario_defs.specs.declared.scenario.Site.{Site}
@@ -29,16 +29,16 @@ use Rattle.scenario_defs.specs.Prefixes.{same_prefix}
 use Rattle.line_words.specs.declared.words.Row.{Row}
 use Rattle.line_words.specs.Words.{Placed}
 use Rattle.line_words.specs.Forms.{ipv4_of, ipv4_at, is_unicast, addr_at, number_to, vrf_number_of, rd_of, targets_at, target_of, list_of, prefix_of, prefixes_at, rule_at}
-use Rattle.scenario_draft.specs.declared.line.Line.{Line}
-use Rattle.scenario_draft.specs.declared.line.Line.TheVariants as says
-use Rattle.scenario_draft.specs.Drafted.{Drafted}
-use Rattle.scenario_draft.specs.Adding.{IsFree}
-use Rattle.scenario_draft.specs.Naming.{node_named, edge_named, vrf_named, site_named, iface_named, new_name, node_at, edge_at, vrf_at, site_at, iface_at, is_at, node_addr_at, has_number, vrf_number_at, has_rd, rd_at, joins, other_end_at}
+use Rattle.scenario_lines.specs.declared.scenario_draft.line.Line.{Line}
+use Rattle.scenario_lines.specs.declared.scenario_draft.line.Line.TheVariants as says
+use Rattle.scenario_lines.specs.scenario_draft.Drafted.{Drafted}
+use Rattle.scenario_lines.specs.scenario_draft.Adding.{IsFree}
+use Rattle.scenario_lines.specs.scenario_draft.Naming.{node_named, edge_named, vrf_named, site_named, iface_named, new_name, node_at, edge_at, vrf_at, site_at, iface_at, is_at, node_addr_at, has_number, vrf_number_at, has_rd, rd_at, joins, other_end_at}
 use Rattle.scenario_lines.specs.NodeGrammar.{node_words, node_counted, is_full, node_line, link_between, link_words, link_counted, link_line}
 use Rattle.scenario_lines.specs.VrfGrammar.{vrf_head, vrf_tail, overlaps, is_vpn_at, vrf_rules, vrf_words, vrf_counted, vrf_line}
 use Rattle.scenario_lines.specs.SiteGrammar.{site_words, site_counted, site_line, is_mixed, is_taken, iface_rules, iface_parts, iface_words, iface_counted, iface_line}
 use Rattle.scenario_lines.specs.ScenarioGrammar.{scenario_word, scenario_words, scenario_line, events_line}
-use Rattle.event_lines.specs.EventGrammar.{event_line}
+use Rattle.scenario_text.specs.event_lines.EventGrammar.{event_line}
 use Rattle.scenario_text.specs.Grammar.{words_line}
 
 -- the word at that column

@@ -8,9 +8,9 @@ use Rattle.std.proofs.lemmas.List.Sums.{count_by-le-length}
 use Rattle.mv_base.specs.declared.addr.Addr.TheVariants.{V4}
 use Rattle.scenario_defs.specs.declared.scenario.Node.{Node}
 use Rattle.line_words.specs.declared.words.Row.{Row}
-use Rattle.scenario_draft.specs.declared.line.Line.TheVariants as says
-use Rattle.scenario_draft.specs.Drafted.{Drafted}
-use Rattle.scenario_draft.specs.Naming.{node_at, is_at, joins}
+use Rattle.scenario_lines.specs.declared.scenario_draft.line.Line.TheVariants as says
+use Rattle.scenario_lines.specs.scenario_draft.Drafted.{Drafted}
+use Rattle.scenario_lines.specs.scenario_draft.Naming.{node_at, is_at, joins}
 use Rattle.generator.specs.Made as made
 use Rattle.made_laws.specs.MadeScript.{ipv4, edge_id, core_id, edge_node, core_node, ring_link, spur_link}
 use Rattle.made_laws.proofs.RowLemmas.{is_word_octet, IsWord, row_text, Reads, reads_none, reads_then, reads_row}

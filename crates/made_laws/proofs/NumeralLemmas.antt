@@ -22,7 +22,7 @@ use Rattle.mv_base.proofs.CutLemmas.{cut_digits, same_parts}
 use Rattle.mv_base.proofs.DottedLemmas.{dotted_only}
 use Rattle.scenario_defs.specs.Names.{is_letter, is_name, is_name_octet}
 use Rattle.scenario_defs.specs.Prefixes.{same_prefix}
-use Rattle.route_targets.specs.Targets.{same_target}
+use Rattle.mv_base.specs.route_targets.Targets.{same_target}
 use Rattle.line_words.specs.Forms.{vrf_number_of, rd_of, numbered_of, addressed_of, target_of, list_of, prefix_of, is_prefix}
 use Rattle.made_laws.specs.MadeScript.{name_at, ipv4}
 use Rattle.made_laws.proofs.RowLemmas.{is_word_octet, IsWord, all_append, none_of}

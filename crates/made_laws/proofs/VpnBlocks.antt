@@ -11,9 +11,9 @@ use Rattle.scenario_defs.specs.declared.scenario.Thing.{Thing}
 use Rattle.scenario_defs.specs.declared.scenario.Thing.TheVariants as things
 use Rattle.scenario_defs.specs.Prefixes.{prefixes_of, share_prefix}
 use Rattle.line_words.specs.declared.words.Row.{Row}
-use Rattle.scenario_draft.specs.declared.line.Line.TheVariants as says
-use Rattle.scenario_draft.specs.Drafted.{Drafted}
-use Rattle.scenario_draft.specs.Naming.{edge_at, has_number, has_rd}
+use Rattle.scenario_lines.specs.declared.scenario_draft.line.Line.TheVariants as says
+use Rattle.scenario_lines.specs.scenario_draft.Drafted.{Drafted}
+use Rattle.scenario_lines.specs.scenario_draft.Naming.{edge_at, has_number, has_rd}
 use Rattle.scenario_lines.specs.VrfGrammar.{overlaps, is_vpn_at}
 use Rattle.scenario_lines.specs.SiteGrammar.{is_mixed, is_taken}
 use Rattle.generator.specs.Made as made

@@ -3,8 +3,8 @@ use Rattle.std.proofs.Common.{◌≡◌, ◌<◌, ℕ, ◌↔◌, List, Option, 
 use Rattle.std.proofs.lemmas.Bool.{cases_eq}
 use Rattle.mv_base.specs.declared.ids.NodeId.{NodeId}
 use Rattle.mv_base.specs.declared.core_link.Link.{Link}
-use Rattle.core_walks.specs.Core.{Core, IsCoreOf}
-use Rattle.core_walks.specs.Walks.{IsToward}
+use Rattle.mv_base.specs.core_walks.Core.{Core, IsCoreOf}
+use Rattle.mv_base.specs.core_walks.Walks.{IsToward}
 
 one_toward : (links : List Link) (from to a b : ℕ) → IsToward links from to a → IsToward links from to b → a ≡ b
 one_toward links from to a b h k = (let below = h.lowest b k.first in let above = k.lowest a h.first in omega (arith, below, above))

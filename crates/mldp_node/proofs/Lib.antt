@@ -1,3 +1,4 @@
+pub use Rattle.label_trees.proofs as label_trees
 pub mod PartLemmas
 pub mod CoreLemmas
 pub mod SpelledLemmas

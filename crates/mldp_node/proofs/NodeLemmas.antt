@@ -1,27 +1,29 @@
 -- What the calls of a node answer.
 use Rattle.std.proofs.Common.{◌≡◌, ℕ, ◌≤◌, true, false, cond, replicate, Option, Some, None, is_some, Result, Ok, Err, refl, sym, ap, subst, ◌∙◌}
 use Rattle.std.specs.FinMap as maps
+use Rattle.std.specs.FinMap.{FinMap}
 use Rattle.std.specs.FinSet as sets
 use Rattle.std.proofs.lemmas.Option.{none-some}
 use Rattle.std.proofs.lemmas.List.{length-replicate}
 use Rattle.mv_base.specs.declared.ids.NodeId.{NodeId}
-use Rattle.core_walks.specs.Topology.{Topology}
-use Rattle.mldp_fec.specs.declared.fec.Fec.{Fec}
+use Rattle.mv_base.specs.core_walks.Core.{Core}
+use Rattle.mv_base.specs.core_walks.Topology.{Topology}
+use Rattle.mldp.specs.declared.mldp_fec.fec.Fec.{Fec}
 use Rattle.label_defs.specs.declared.label_use.LabelUse.TheVariants as uses
 use Rattle.label_defs.specs.Keys.{fec_cmp, branch_cmp, node_cmp}
 use Rattle.label_defs.specs.LabelData.{fresh}
 use Rattle.label_defs.specs.Node.{NodePlace, raises_of, addr_in, place_in, prepared, behind}
 use Rattle.label_defs.specs.Settling.{Stepped}
-use Rattle.label_defs.specs.Steps.{Call}
+use Rattle.label_defs.specs.Steps.{Call, Taken, Want, Unwant, Raised, Noticed, Timers, Rerouted}
 use Rattle.label_defs.proofs.KeyLemmas.{fec_cmp_total, fec_cmp_exact}
 use Rattle.label_defs.proofs.UseLemmas.{used_some}
 use Rattle.label_defs.proofs.StepLemmas.{all_free}
 use Rattle.label_trees.specs.Trees.{Trees, untouched}
-use Rattle.label_ends.specs.Ends.{Ends, all_down}
+use Rattle.mldp_node.specs.label_ends.Ends.{Ends, all_down}
 use Rattle.mldp_node.specs.declared.fault.NodeFault.{NodeFault}
 use Rattle.mldp_node.specs.declared.fault.NodeFault.TheVariants as faults
-use Rattle.mldp_node.specs.Parts.{awaited, part_of, node_of, AreTied, WaitOnTrees, Made, LacksLabels}
-use Rattle.mldp_node.specs.NodeData.{NodeData, seen, cause, Answers}
+use Rattle.mldp_node.specs.Parts.{awaited, part_of, node_of, AreTied, WaitOnTrees, WaitTowardRoots, WaitedTowardRoots, Made, LacksLabels}
+use Rattle.mldp_node.specs.NodeData.{NodeData, IsWaitingTowardRoots, seen, cause, Answers}
 use Rattle.mldp_node.proofs.PartLemmas.{awaited_is}
 
 fault_is : (a b : NodeFault) → ◌≡◌ {A = Result (Unit {0}) NodeFault} (Err a) (Err b) → a ≡ b
@@ -57,6 +59,27 @@ answers_err core now call place trees ends new_trees new_ends old spent fault no
       lacks = λ e n own core_is. ap (λ (o : Option Stepped). (behind (addr_in place) (place_in place own) now (prepared call (node_of trees ends)) call o).spent) (lacks e own core_is);
       faults = λ other e. ap (λ (f : NodeFault). Some (cause f)) (fault_is fault other e);
     }))
+
+-- ---- where trees wait
+
+-- trees that wait towards their roots do so before each call
+pub waited_one : (call : Call) (place : NodePlace) (own : Core) (waiting : FinMap fec_cmp NodeId) → WaitTowardRoots place own waiting → WaitedTowardRoots call place own waiting
+waited_one (Taken from message) place own waiting h = h
+waited_one (Want fec) place own waiting h = h
+waited_one (Unwant fec) place own waiting h = h
+waited_one (Raised peer) place own waiting h = h
+waited_one (Noticed peer) place own waiting h = h
+waited_one Timers place own waiting h = h
+waited_one Rerouted place own waiting h = tt
+
+-- a node that stands where another does, and of which the same trees wait
+pub waits_as : (old new : NodeData) → new.place ≡ old.place → new.awaited ≡ old.awaited → (own : Core) → IsWaitingTowardRoots own old → IsWaitingTowardRoots own new
+waits_as old new place waiting own h =
+    subst (λ (p : NodePlace). WaitTowardRoots p own new.awaited) (sym place) (subst (λ (m : FinMap fec_cmp NodeId). WaitTowardRoots old.place own m) (sym waiting) h)
+
+-- where none waits, each does so towards its root
+pub none_astray : (node : NodeData) → node.awaited ≡ maps.empty → (own : Core) → IsWaitingTowardRoots own node
+none_astray node none own fec upstream at = absurd (none-some upstream (sym (ap (λ (m : FinMap fec_cmp NodeId). maps.get m fec) none ∙ maps.get-empty fec_cmp fec) ∙ at))
 
 -- ---- a fresh node
 

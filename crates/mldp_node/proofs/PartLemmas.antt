@@ -7,7 +7,7 @@ use Rattle.std.proofs.lemmas.List.{append-nil}
 use Rattle.std.specs.Ordering.{eq_by_cmp}
 use Rattle.mv_base.specs.declared.ids.NodeId.{NodeId}
 use Rattle.mv_base.specs.Number.{◌>>?◌}
-use Rattle.mldp_fec.specs.declared.fec.Fec.{Fec}
+use Rattle.mldp.specs.declared.mldp_fec.fec.Fec.{Fec}
 use Rattle.label_defs.specs.declared.put.Put.{Put}
 use Rattle.label_defs.specs.Keys.{fec_cmp, node_cmp}
 use Rattle.label_defs.proofs.KeyLemmas.{fec_cmp_total, fec_cmp_exact}
@@ -17,9 +17,9 @@ use Rattle.label_defs.specs.declared.change.Change.{Change}
 use Rattle.label_defs.specs.declared.change.Change.TheVariants as changes
 use Rattle.label_defs.specs.declared.end.End.{End}
 use Rattle.label_defs.specs.declared.label_use.LabelUse.TheVariants as uses
-use Rattle.mldp_msgs.specs.declared.message.LabelMessage.TheVariants as messages
-use Rattle.label_forwarding.specs.FibData.{is_on}
-use Rattle.label_uses.specs.Uses.{with_mapped, set_use, use_in, free_in, mapped_in}
+use Rattle.mldp.specs.declared.mldp_msgs.message.LabelMessage.TheVariants as messages
+use Rattle.label_trees.specs.label_forwarding.FibData.{is_on}
+use Rattle.label_trees.specs.label_uses.Uses.{with_mapped, set_use, use_in, free_in, mapped_in}
 use Rattle.label_trees.specs.Trees.{Trees, fib_with}
 use Rattle.mldp_node.specs.Parts.{awaited, part_of, behind_change, waiting_by, change_toward, Turned, SettledSo}
 

@@ -5,17 +5,17 @@ use Rattle.std.proofs.lemmas.List.{take_more, drop_more, take-append-drop}
 use Rattle.std.specs.FinMap.{FinMap}
 use Rattle.mv_base.specs.Number.{◌>>?◌}
 use Rattle.mv_base.specs.declared.ids.NodeId.{NodeId}
-use Rattle.core_walks.specs.Core.{Core, IsCoreOf}
-use Rattle.core_walks.specs.Topology.{Topology}
-use Rattle.mldp_fec.specs.declared.fec.Fec.{Fec}
-use Rattle.tunnel_bindings.specs.declared.binding.Incarnation.{Incarnation}
+use Rattle.mv_base.specs.core_walks.Core.{Core, IsCoreOf}
+use Rattle.mv_base.specs.core_walks.Topology.{Topology}
+use Rattle.mldp.specs.declared.mldp_fec.fec.Fec.{Fec}
+use Rattle.label_trees.specs.tunnel_bindings.declared.binding.Incarnation.{Incarnation}
 use Rattle.label_defs.specs.declared.end.End.{End}
 use Rattle.label_defs.specs.declared.put.Put.{Put}
 use Rattle.label_defs.specs.Keys.{node_cmp}
 use Rattle.label_defs.specs.LabelData.{Place, LabelData}
 use Rattle.label_defs.specs.Node.{NodePlace, place_in, raises_of}
 use Rattle.label_defs.specs.Settling.{Stepped, settle_all, changed, change_of, put_by}
-use Rattle.label_ends.specs.Ends.{Ends}
+use Rattle.mldp_node.specs.label_ends.Ends.{Ends}
 use Rattle.label_trees.specs.Trees.{Trees}
 use Rattle.mldp_node.specs.Parts.{is_on_tree, stepped_of, settled_toward, AreSessions, AreTied, IsPut, SettledSo, LacksOne, AllSettledSo, LacksAny}
 use Rattle.mldp_node.proofs.SpelledLemmas.{settled_spelled}

@@ -11,11 +11,11 @@ use Rattle.std.proofs.lemmas.List.{length-map, append_assoc, drop_more}
 use Rattle.mv_base.specs.Address.{same_addr}
 use Rattle.mv_base.specs.declared.addr.Addr.{Addr}
 use Rattle.mv_base.specs.declared.ids.NodeId.{NodeId}
-use Rattle.core_walks.specs.Core.{Core}
-use Rattle.core_walks.specs.Topology.{Topology}
-use Rattle.mldp_fec.specs.declared.fec.Fec.{Fec}
-use Rattle.mldp_msgs.specs.Spelling.{IsElement}
-use Rattle.mldp_msgs.specs.declared.message.LabelMessage.TheVariants as messages
+use Rattle.mv_base.specs.core_walks.Core.{Core}
+use Rattle.mv_base.specs.core_walks.Topology.{Topology}
+use Rattle.mldp.specs.declared.mldp_fec.fec.Fec.{Fec}
+use Rattle.mldp.specs.mldp_msgs.Spelling.{IsElement}
+use Rattle.mldp.specs.declared.mldp_msgs.message.LabelMessage.TheVariants as messages
 use Rattle.label_defs.specs.declared.branch.Branch.{Branch}
 use Rattle.label_defs.specs.declared.end.End.{End}
 use Rattle.label_defs.specs.declared.label_use.LabelUse.{LabelUse}
@@ -36,9 +36,9 @@ use Rattle.std.specs.Cmp.{Equal-is}
 use Rattle.label_defs.proofs.KeyLemmas.{fec_cmp_total, fec_cmp_exact, branch_cmp_total, branch_cmp_exact, node_cmp_total, node_cmp_exact, same_fec_equal, same_fec_from, fec_cases, node_cases}
 use Rattle.label_defs.proofs.TreeLemmas.{not_both}
 use Rattle.label_defs.proofs.SetLemmas.{any_as, inserted_other, removed_other, cut_here, cut_other, get-changed, retained}
-use Rattle.label_uses.specs.Uses.{with_released, without, use_in, set_use}
+use Rattle.label_trees.specs.label_uses.Uses.{with_released, without, use_in, set_use}
 use Rattle.label_trees.specs.Trees.{Trees, trees_in}
-use Rattle.label_ends.specs.Ends.{Ends, with_puts, told_over, with_raise, without_end}
+use Rattle.mldp_node.specs.label_ends.Ends.{Ends, with_puts, told_over, with_raise, without_end}
 use Rattle.mldp_node.specs.Parts.{awaited, part_of, is_on_tree, stepped_of, node_of, AreSessions, AreSpelled, AreTied, WaitOnTrees, WaitTowardRoots, WaitedTowardRoots, Finished, Made}
 use Rattle.mldp_node.proofs.SpelledLemmas.{with_use_spelled}
 use Rattle.mldp_node.proofs.WaitLemmas.{mapped_was}

@@ -7,12 +7,12 @@ use Rattle.std.specs.FinSet as sets
 use Rattle.std.specs.FinSet.{FinSet}
 use Rattle.mv_base.specs.declared.ids.NodeId.{NodeId}
 use Rattle.mv_base.specs.contracts.ids.NodeId as nodes
-use Rattle.core_walks.specs.Core.{Core, IsCoreOf}
-use Rattle.core_walks.specs.Topology.{Topology}
-use Rattle.mldp_fec.specs.declared.fec.Fec.{Fec}
-use Rattle.mldp_fec.specs.contracts.fec.Fec as fecs
-use Rattle.mldp_msgs.specs.Spelling.{IsElement}
-use Rattle.tunnel_bindings.specs.Bindings.{Named}
+use Rattle.mv_base.specs.core_walks.Core.{Core, IsCoreOf}
+use Rattle.mv_base.specs.core_walks.Topology.{Topology}
+use Rattle.mldp.specs.declared.mldp_fec.fec.Fec.{Fec}
+use Rattle.mldp.specs.contracts.mldp_fec.fec.Fec as fecs
+use Rattle.mldp.specs.mldp_msgs.Spelling.{IsElement}
+use Rattle.label_trees.specs.tunnel_bindings.Bindings.{Named}
 use Rattle.label_defs.specs.contracts.branch.Branch as branches
 use Rattle.label_defs.specs.declared.end.End.{End}
 use Rattle.label_defs.specs.contracts.end.End as ends
@@ -22,10 +22,10 @@ use Rattle.label_defs.specs.Keys.{fec_cmp, branch_cmp, node_cmp}
 use Rattle.label_defs.specs.LabelData.{LabelData, use_of}
 use Rattle.label_defs.specs.Node.{Spent, LacksLabel, LacksMemory, LabelNode, NodePlace, is_p2mp, node_at, called}
 use Rattle.label_defs.specs.Steps.{Call}
-use Rattle.label_forwarding.specs.FibData.{FibData, hop}
-use Rattle.label_uses.specs.Uses.{Uses, AreBindings}
+use Rattle.label_trees.specs.label_forwarding.FibData.{FibData, hop}
+use Rattle.label_trees.specs.label_uses.Uses.{Uses, AreBindings}
 use Rattle.label_trees.specs.Trees.{Trees, fec_under}
-use Rattle.label_ends.specs.Ends.{Ends}
+use Rattle.mldp_node.specs.label_ends.Ends.{Ends}
 use Rattle.mldp_node.specs.declared.fault.NodeFault.{NodeFault}
 use Rattle.mldp_node.specs.declared.fault.NodeFault.TheVariants as faults
 use Rattle.mldp_node.specs.Parts.{part_of, AreSessions, AreTied, WaitOnTrees, WaitTowardRoots, WaitedTowardRoots}
@@ -93,6 +93,21 @@ pub record IsNode (place : NodePlace) (trees : Trees) (ends : Ends) : Type 0 whe
   pub tied : AreTied trees ends
   pub on : WaitOnTrees trees
   pub life : trees.uses.life ≡ place.life
+
+-- ---- where its trees wait
+
+-- each tree that waits for a label does so towards the neighbour towards its root, by this core
+abbrev pub IsWaitingTowardRoots : Core → NodeData → Type 0
+IsWaitingTowardRoots own node = WaitTowardRoots node.place own node.awaited
+
+-- whichever way the core is told
+abbrev pub WaitsTowardRootsOf : Topology → NodeData → Type 0
+WaitsTowardRootsOf core node = (own : Core) → IsCoreOf core.nodes core.links own → IsWaitingTowardRoots own node
+
+-- where they did so before, they do so still
+abbrev pub KeepsWaitingTowardRoots : Topology → NodeData → NodeData → Type 0
+KeepsWaitingTowardRoots core old new =
+    (own : Core) → IsCoreOf core.nodes core.links own → IsWaitingTowardRoots own old → IsWaitingTowardRoots own new
 
 -- ---- calls
 

@@ -8,13 +8,13 @@ use Rattle.std.specs.FinSet.{FinSet}
 use Rattle.std.specs.List.{list_any}
 use Rattle.mv_base.specs.Number.{◌>>?◌}
 use Rattle.mv_base.specs.declared.ids.NodeId.{NodeId}
-use Rattle.core_walks.specs.Core.{Core, IsCoreOf}
-use Rattle.core_walks.specs.Topology.{Topology}
-use Rattle.mldp_fec.specs.declared.fec.Fec.{Fec}
-use Rattle.mldp_msgs.specs.declared.message.LabelMessage.{LabelMessage}
-use Rattle.mldp_msgs.specs.declared.message.LabelMessage.TheVariants as messages
-use Rattle.mldp_msgs.specs.Spelling.{IsElement, IsWritable}
-use Rattle.tunnel_bindings.specs.declared.binding.Incarnation.{Incarnation}
+use Rattle.mv_base.specs.core_walks.Core.{Core, IsCoreOf}
+use Rattle.mv_base.specs.core_walks.Topology.{Topology}
+use Rattle.mldp.specs.declared.mldp_fec.fec.Fec.{Fec}
+use Rattle.mldp.specs.declared.mldp_msgs.message.LabelMessage.{LabelMessage}
+use Rattle.mldp.specs.declared.mldp_msgs.message.LabelMessage.TheVariants as messages
+use Rattle.mldp.specs.mldp_msgs.Spelling.{IsElement, IsWritable}
+use Rattle.label_trees.specs.tunnel_bindings.declared.binding.Incarnation.{Incarnation}
 use Rattle.label_defs.specs.declared.branch.Branch.{Branch}
 use Rattle.label_defs.specs.declared.change.Change.{Change}
 use Rattle.label_defs.specs.declared.change.Change.TheVariants as changes
@@ -27,7 +27,7 @@ use Rattle.label_defs.specs.Settled.{Maps}
 use Rattle.label_defs.specs.Settling.{Stepped, settle_all, change_by, changed, put_by, holder_of, is_ready_to}
 use Rattle.label_defs.specs.Steps.{Call, Rerouted, label_step}
 use Rattle.label_trees.specs.Trees.{Trees}
-use Rattle.label_ends.specs.Ends.{Ends, with_puts}
+use Rattle.mldp_node.specs.label_ends.Ends.{Ends, with_puts}
 
 -- the trees that wait
 abbrev pub awaited : FinMap fec_cmp NodeId → FinSet fec_cmp

@@ -5,7 +5,7 @@ use Rattle.mv_base.specs.declared.addr.Addr.{Addr}
 use Rattle.mv_base.specs.contracts.addr.Addr as addresses
 use Rattle.mv_base.specs.declared.ids.NodeId.{NodeId}
 use Rattle.mv_base.specs.contracts.ids.NodeId as nodes
-use Rattle.mldp_msgs.specs.Spelling.{IsRouter}
+use Rattle.mldp.specs.mldp_msgs.Spelling.{IsRouter}
 use Rattle.label_defs.specs.Node.{NodePlace, addr_in}
 
 abbrev pub place_code : Coded NodePlace

@@ -1,7 +1,7 @@
 //! The label part of a node.
 ghost use Rattle.std.specs.Prelude.{◌≡◌, ◌<◌, ◌≤◌, ◌^◌, not, false, length, is_some, None, Some, IfOk};
 ghost use Rattle.std.specs.FinMap as maps;
-ghost use Rattle.core_walks.specs.Core.{Core as Walks};
+ghost use Rattle.mv_base.specs.core_walks.Core.{Core as Walks};
 ghost use Rattle.label_defs.specs.LabelData.{due};
 ghost use Rattle.label_defs.specs.Node.{fresh_node, place_in, handed, handed_out};
 ghost use Rattle.label_defs.specs.Steps.{Taken, Want, Unwant, Raised, Noticed, Timers, Rerouted};
@@ -10,18 +10,18 @@ ghost use Rattle.mldp_node.specs.Parts.{IsSpelled};
 ghost use Rattle.mldp_node.specs.Standing.{IsPlace};
 
 use crate::fault::NodeFault;
+use crate::label_ends::Ends;
 use crate::standing::Standing;
 use crate::steps;
 use core_paths::Core;
-use label_ends::Ends;
-use label_forwarding::Fib;
 use label_trees::LabelTrees;
-use mldp_fec::Fec;
-use mldp_msgs::LabelMessage;
+use label_trees::of_label_forwarding::Fib;
+use label_trees::of_tunnel_bindings::Bindings;
+use mldp::mldp_fec::Fec;
+use mldp::mldp_msgs::LabelMessage;
 use mv_base::{Addr, Bytes, NoMemory, NodeId, Seq};
 use std::alloc::Global;
 use std::marker::Model;
-use tunnel_bindings::Bindings;
 
 /// The addresses of nodes by number.
 pub type Addrs = Seq<Addr>;
@@ -82,15 +82,15 @@ impl LdpNode {
     }
 
     /// The node becomes a leaf of the tree.
-    pub fn want(&mut self, fec: &Fec, now: u64, core: &Core) -> Result<(), NodeFault>
+    pub fn want(&mut self, fec: Fec, now: u64, core: &Core) -> Result<(), NodeFault>
         requires nodes { core.now.nodes ≡ length self.old.place.addrs }
-        requires tree { MayWant self.old.place fec.now }
-        ensures { Answers core.now now (Want fec.now) self.old self.new result }
+        requires tree { MayWant self.old.place fec }
+        ensures { Answers core.now now (Want fec) self.old self.new result }
     {
         if let Some(fault) = self.spent {
             return Err(fault);
         }
-        match steps::want(&self.place, core, &mut self.trees, &mut self.ends, fec) {
+        match steps::want(&self.place, core, &mut self.trees, &mut self.ends, &fec) {
             Ok(()) => Ok(()),
             Err(fault) => {
                 self.spent = Some(fault);
@@ -100,14 +100,14 @@ impl LdpNode {
     }
 
     /// The node stops being a leaf of the tree.
-    pub fn unwant(&mut self, fec: &Fec, now: u64, core: &Core) -> Result<(), NodeFault>
+    pub fn unwant(&mut self, fec: Fec, now: u64, core: &Core) -> Result<(), NodeFault>
         requires nodes { core.now.nodes ≡ length self.old.place.addrs }
-        ensures { Answers core.now now (Unwant fec.now) self.old self.new result }
+        ensures { Answers core.now now (Unwant fec) self.old self.new result }
     {
         if let Some(fault) = self.spent {
             return Err(fault);
         }
-        match steps::unwant(&self.place, core, &mut self.trees, &mut self.ends, fec) {
+        match steps::unwant(&self.place, core, &mut self.trees, &mut self.ends, &fec) {
             Ok(()) => Ok(()),
             Err(fault) => {
                 self.spent = Some(fault);
@@ -120,14 +120,14 @@ impl LdpNode {
     pub fn take(
         &mut self,
         from: NodeId,
-        message: &LabelMessage,
+        message: LabelMessage,
         now: u64,
         core: &Core,
     ) -> Result<(), NodeFault>
         requires nodes { core.now.nodes ≡ length self.old.place.addrs }
         requires now { now < 2 ^ 63 }
-        requires spelled { IsSpelled message.now }
-        ensures { Answers core.now now (Taken from message.now) self.old self.new result }
+        requires spelled { IsSpelled message }
+        ensures { Answers core.now now (Taken from message) self.old self.new result }
     {
         if let Some(fault) = self.spent {
             return Err(fault);
@@ -138,7 +138,7 @@ impl LdpNode {
             &mut self.trees,
             &mut self.ends,
             from,
-            message,
+            &message,
             now,
         ) {
             Ok(()) => Ok(()),
@@ -152,7 +152,7 @@ impl LdpNode {
     /// The end of the session with the neighbour comes up.
     pub fn raised(&mut self, peer: NodeId, now: u64, core: &Core) -> Result<(), NodeFault>
         requires nodes { core.now.nodes ≡ length self.old.place.addrs }
-        requires down { maps.get self.old.node.part.ends peer ≡ None }
+        requires down { self.old.node.spent ≡ None → maps.get self.old.node.part.ends peer ≡ None }
         ensures { Answers core.now now (Raised peer) self.old self.new result }
     {
         if let Some(fault) = self.spent {

@@ -7,17 +7,17 @@ ghost use Rattle.label_defs.specs.declared.end.End.{End};
 ghost use Rattle.label_defs.specs.Keys.{node_cmp};
 ghost use Rattle.label_defs.specs.declared.change.Change.TheVariants as changes;
 ghost use Rattle.label_defs.specs.Settling.{upstream_of, same_neighbour, change_by, withdrawn};
-ghost use Rattle.label_uses.specs.Uses.{use_in, free_in, mapped_in};
+ghost use Rattle.label_trees.specs.label_uses.Uses.{use_in, free_in, mapped_in};
 ghost use Rattle.mldp_node.specs.Parts.{held_at, AllSettledSo, AreTied, IsPut, LacksAny, LacksOne, SettledSo, Turned};
 
 use crate::fault::NodeFault;
+use crate::label_ends::Ends;
 use crate::standing::Standing;
 use core_paths::Core;
 use label_defs::Put;
-use label_ends::Ends;
 use label_trees::LabelTrees;
-use mldp_fec::Fec;
-use mldp_msgs::LabelMessage;
+use mldp::mldp_fec::Fec;
+use mldp::mldp_msgs::LabelMessage;
 use mv_base::{NoMemory, NodeId};
 
 /// Whether the session with the neighbour is up, and its hold was run.

@@ -2,13 +2,13 @@
 ghost use Rattle.std.specs.Prelude.{◌≡◌, ◌<◌, ◌≤◌, ◌&&◌, length, position, IfSome};
 ghost use Rattle.std.specs.List.{list_any};
 ghost use Rattle.mv_base.specs.Address.{same_addr};
-ghost use Rattle.core_walks.specs.Core.{Core as Walks, IsCoreOf};
-ghost use Rattle.mldp_msgs.specs.Spelling.{IsRouter};
+ghost use Rattle.mv_base.specs.core_walks.Core.{Core as Walks, IsCoreOf};
+ghost use Rattle.mldp.specs.mldp_msgs.Spelling.{IsRouter};
 ghost use Rattle.label_defs.specs.Node.{NodePlace, is_p2mp, node_at, addr_in, place_in};
 ghost use Rattle.mldp_node.specs.Standing.{IsPlace};
 
 use core_paths::Core;
-use mldp_fec::{Fec, FecKind};
+use mldp::mldp_fec::{Fec, FecKind};
 use mv_base::{Addr, NodeId, Seq};
 use std::alloc::Global;
 use std::marker::Model;

@@ -2,24 +2,24 @@
 ghost use Rattle.std.specs.Prelude.{◌≡◌, ◌<◌, ◌^◌, ◌∷◌, [], ℕ, length, None, All, IfOk, OnOk};
 ghost use Rattle.std.specs.FinMap as maps;
 ghost use Rattle.mv_base.specs.declared.ids.NodeId.{NodeId};
-ghost use Rattle.mldp_msgs.specs.Spelling.{IsElement, IsLabel};
-ghost use Rattle.mldp_msgs.specs.declared.message.LabelMessage.TheVariants as messages;
+ghost use Rattle.mldp.specs.mldp_msgs.Spelling.{IsElement, IsLabel};
+ghost use Rattle.mldp.specs.declared.mldp_msgs.message.LabelMessage.TheVariants as messages;
 ghost use Rattle.label_defs.specs.Steps.{Taken, Want, Unwant, Raised, Noticed, Timers, Rerouted, twice};
 ghost use Rattle.mldp_node.specs.Parts.{AreTied, Finished, IsPut, IsSpelled, LacksAny, LacksLabels, Made};
 
 use crate::fault::NodeFault;
+use crate::label_ends::Ends;
 use crate::settling::{put, settle_all};
 use crate::standing::Standing;
 use crate::telling::tell_all;
 use core_paths::Core;
 use label_defs::Put;
-use label_ends::Ends;
 use label_trees::LabelTrees;
-use mldp_fec::Fec;
-use mldp_msgs::LabelMessage;
+use label_trees::of_tunnel_bindings::Incarnation;
+use mldp::mldp_fec::Fec;
+use mldp::mldp_msgs::LabelMessage;
 use mv_base::{NoMemory, NodeId};
 use std::alloc::Global;
-use tunnel_bindings::Incarnation;
 
 /// The trees settle one after another, and all that was put is told.
 fn finish(

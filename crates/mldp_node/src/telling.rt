@@ -1,11 +1,11 @@
 //! Messages that are told.
 ghost use Rattle.std.specs.Prelude.{◌≡◌, All, OnOk};
-ghost use Rattle.mldp_msgs.specs.Spelling.{IsRouter};
-ghost use Rattle.label_ends.specs.Ends.{with_puts};
+ghost use Rattle.mldp.specs.mldp_msgs.Spelling.{IsRouter};
+ghost use Rattle.mldp_node.specs.label_ends.Ends.{with_puts};
 ghost use Rattle.mldp_node.specs.Parts.{IsPut};
 
+use crate::label_ends::Ends;
 use label_defs::Put;
-use label_ends::Ends;
 use mv_base::{Addr, NoMemory};
 
 /// Tells the messages one after another.

@@ -10,3 +10,7 @@ pub mod Checksum
 pub mod Octets
 pub mod Cursor
 pub mod Writing
+pub mod framing
+pub mod route_targets
+pub mod core_walks
+pub mod table_defs

@@ -12,7 +12,7 @@ use Rattle.scenario_defs.specs.declared.event.Timed.{Timed}
 use Rattle.scenario_defs.specs.declared.scenario.Scenario.{Scenario}
 use Rattle.scenario_defs.specs.Kinds.{same_kind}
 use Rattle.mvpn_model.specs.declared.readiness.UpEnd.{UpEnd}
-use Rattle.label_defs.proofs.KeyLemmas.{node_equal}
+use Rattle.label_forwarding.proofs.label_defs.KeyLemmas.{node_equal}
 use Rattle.mvpn_model.specs.declared.session.Session.{Session}
 use Rattle.mvpn_model.specs.declared.readiness.SessionStands.{SessionStands}
 use Rattle.mvpn_model.specs.Past.{Past, is_accepted, ticks_of, ticks_in}

@@ -6,8 +6,8 @@ use Rattle.mv_base.specs.declared.addr.Addr.TheVariants.{V4}
 use Rattle.scenario_defs.specs.declared.scenario.Scenario.{Scenario}
 use Rattle.scenario_defs.specs.declared.event.Event.{Event}
 use Rattle.scenario_defs.specs.declared.event.Event.TheVariants as events
-use Rattle.pim_joinprune.specs.declared.message.JoinPrune.{JoinPrune}
-use Rattle.pim_joinprune.specs.Reading.{decoded}
+use Rattle.pim_defs.specs.pim_joinprune.declared.message.JoinPrune.{JoinPrune}
+use Rattle.pim_defs.specs.pim_joinprune.Reading.{decoded}
 use Rattle.pim_defs.specs.Single.{join_of, prune_of}
 use Rattle.mvpn_model.specs.declared.message.Given.{Given}
 

@@ -3,8 +3,8 @@
 use Rattle.std.specs.Prelude.{ℕ, List, [], ◌∷◌, Option, None, Some, Ok, Err}
 use Rattle.mv_base.specs.declared.addr.Addr.{Addr}
 use Rattle.mv_base.specs.declared.addr.Addr.TheVariants.{V4}
-use Rattle.label_forwarding.specs.declared.fault.PacketReason.{PacketReason}
-use Rattle.label_forwarding.specs.declared.fault.PacketReason.TheVariants as reasons
+use Rattle.label_forwarding.specs.declared.fault.PacketFault.{PacketFault}
+use Rattle.label_forwarding.specs.declared.fault.PacketFault.TheVariants as reasons
 use Rattle.label_forwarding.specs.Reading.{packet_of}
 use Rattle.scenario_defs.specs.declared.report.Refusal.{Refusal}
 use Rattle.scenario_defs.specs.declared.report.Refusal.TheVariants as refusals
@@ -12,7 +12,7 @@ use Rattle.scenario_defs.specs.declared.report.FaultWord.{FaultWord}
 use Rattle.scenario_defs.specs.declared.report.FaultWord.TheVariants as words
 
 -- the fault word of a reason
-abbrev pub packet_word : PacketReason → FaultWord
+abbrev pub packet_word : PacketFault → FaultWord
 packet_word reasons.Short = words.Short
 packet_word reasons.Version = words.Version
 packet_word reasons.HeaderLength = words.HeaderLength
@@ -25,7 +25,7 @@ packet_word reasons.LinkLocal = words.LinkLocal
 abbrev pub packet_fault : List ℕ → Option Refusal
 packet_fault octets = elim (packet_of octets) [
   | Ok packet ↦ None
-  | Err fault ↦ Some (refusals.Bytes fault.place (packet_word fault.reason))
+  | Err fault ↦ Some (refusals.Bytes fault.0 (packet_word fault.1))
 ]
 
 -- the unspecified address, where octets tell none

@@ -2,9 +2,9 @@
 -- octets have a first fault.
 use Rattle.std.specs.Prelude.{ℕ, Bool, List, Option, None, Some, Ok, Err}
 use Rattle.mv_base.specs.Address.{same_addr}
-use Rattle.pim_joinprune.specs.declared.fault.PimFault.{PimFault}
-use Rattle.pim_joinprune.specs.declared.fault.PimFault.TheVariants as faults
-use Rattle.pim_joinprune.specs.Reading.{decoded}
+use Rattle.pim_defs.specs.pim_joinprune.declared.fault.PimFault.{PimFault}
+use Rattle.pim_defs.specs.pim_joinprune.declared.fault.PimFault.TheVariants as faults
+use Rattle.pim_defs.specs.pim_joinprune.Reading.{decoded}
 use Rattle.scenario_defs.specs.declared.scenario.Scenario.{Scenario}
 use Rattle.scenario_defs.specs.declared.report.Refusal.{Refusal}
 use Rattle.scenario_defs.specs.declared.report.Refusal.TheVariants as refusals

@@ -11,7 +11,7 @@ use Rattle.scenario_defs.specs.declared.scenario.Scenario.{Scenario}
 use Rattle.mvpn_model.specs.declared.readiness.UpEnd.{UpEnd}
 use Rattle.mvpn_model.specs.Past.{Past, is_accepted}
 use Rattle.mvpn_model.specs.Sessions.{sessions}
-use Rattle.label_defs.specs.Between.{is_between}
+use Rattle.label_forwarding.specs.label_defs.Between.{is_between}
 use Rattle.mvpn_model.specs.declared.session.Session.{Session}
 use Rattle.scenario_defs.specs.Kinds.{same_kind}
 

@@ -4,8 +4,8 @@ ghost use Rattle.mvpn_model.specs.Messages.{own_addr, handed, read_at, message_o
 ghost use Rattle.mvpn_model.specs.Refused.{fault_word};
 
 use mv_base::{Addr, IfaceId, NoMemory};
+use pim_defs::of_pim_joinprune::{DecodeFault, JoinPrune, PimFault, decode};
 use pim_defs::{join_of, prune_of};
-use pim_joinprune::{DecodeFault, JoinPrune, PimFault, decode};
 use scenario_defs::{Event, FaultWord, Scenario};
 use std::alloc::Global;
 

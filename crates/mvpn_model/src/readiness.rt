@@ -6,7 +6,7 @@ ghost use Rattle.scenario_defs.specs.Rules.{Rules};
 ghost use Rattle.scenario_defs.specs.Kinds.{same_kind};
 ghost use Rattle.mvpn_model.specs.Past.{past_of, ticks_of, ticks_in};
 ghost use Rattle.mvpn_model.specs.Sessions.{edges_from, bgp_session, bgp_sessions, ldp_session};
-ghost use Rattle.label_defs.specs.Between.{is_between};
+ghost use Rattle.label_forwarding.specs.label_defs.Between.{is_between};
 ghost use Rattle.mvpn_model.specs.Unready.{hold_run, is_that, is_held, unready_behind};
 ghost use Rattle.mvpn_model.specs.OneSession.{timed_end, noticed_end, raised_one, noticed_one, restarted_one, behind_one};
 ghost use Rattle.mvpn_model.specs.OneSession.{after_one, none_stands, is_ready_one, unready_among};

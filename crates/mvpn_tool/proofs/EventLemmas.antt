@@ -1,5 +1,5 @@
 -- Laws of one event.
-use Rattle.std.proofs.Common.{◌≡◌, ℕ, ◌⊎◌, inl, inr, List, [], ◌∷◌, ◌++◌, refl, sym, ap, subst, ◌∙◌}
+use Rattle.std.proofs.Common.{◌≡◌, ℕ, ◌⊎◌, inl, inr, List, [], ◌∷◌, ◌++◌, take, refl, sym, ap, subst, ◌∙◌}
 use Rattle.std.specs.Prelude.{Option, Result, Ok, Err, OnOk, OnErr, IfErr, All}
 use Rattle.mv_base.specs.declared.ids.NodeId.{NodeId}
 use Rattle.mv_io.specs.Octets.{Appended, AppendedPart}
@@ -10,15 +10,17 @@ use Rattle.scenario_defs.specs.declared.report.ReportLine.{ReportLine}
 use Rattle.scenario_defs.specs.declared.report.ReportLine.TheVariants as lines
 use Rattle.scenario_defs.specs.declared.scenario.Scenario.{Scenario}
 use Rattle.network_defs.specs.Run.{outcome}
-use Rattle.delivery_laws.specs.Flood.{lines_in}
-use Rattle.network_events.specs.Behind.{Advances, IsReached, Lacks, Steps}
+use Rattle.network_events.specs.delivery_laws.Flood.{lines_in}
+use Rattle.network_events.specs.Behind.{Advances, Lacks, Steps}
 use Rattle.network_events.specs.WorldView.{WorldView}
 use Rattle.network_events.specs.declared.halt.Halt.TheVariants as halts
+use Rattle.mvpn_tool.specs.FirstEvents.{IsReached}
 use Rattle.mvpn_tool.specs.Outcome.{EventEnds, Place, event_text}
 use Rattle.mvpn_tool.specs.Report.{event_lines, lines_text}
 use Rattle.mvpn_tool.specs.declared.command.Detail.{Detail}
 use Rattle.mvpn_tool.specs.declared.stop.Stop.{Stop}
 use Rattle.mvpn_tool.specs.declared.stop.Stop.TheVariants as stops
+use Rattle.mvpn_tool.proofs.FirstEventLemmas.{reached_more}
 
 abbrev Answer : Type 0
 Answer = Result (Unit {0}) Stop
@@ -40,12 +42,12 @@ not_label stop (inl sink) e = absurd cc
 not_label stop (inr memory) e = absurd cc
 
 module _ (scenario : Scenario) (timed : Timed) (view : WorldView) where
-  pub reached : Place scenario timed view → IsReached timed view
+  abbrev pub reached : Place scenario timed view → IsReached timed view
   reached place = record { cores = place.cores; script = place.script; count = place.count; trace = place.trace; world = place.state; behind = place.behind; next = place.next }
 
   module _ (detail : Detail) (now : WorldView) (own new_lines : List ReportLine) (none : own ≡ []) where
     -- The lines that a step made are those of its event.
-    made_lines : (place : Place scenario timed view) → Advances place.cores place.script place.count place.trace place.state timed own new_lines now →
+    made_lines : (place : Place scenario timed view) → Advances place.cores place.script.scenario (take place.count place.script.events) place.trace place.state timed own new_lines now →
         new_lines ≡ event_lines timed.line (outcome place.state timed)
     made_lines place a = a.told ∙ ap (λ (l : List ReportLine). l ++ lines_in a.acts) none ∙ ap (event_lines timed.line) (sym a.is)
 
@@ -53,9 +55,9 @@ module _ (scenario : Scenario) (timed : Timed) (view : WorldView) where
     lacking_lines n place a =
         ap (λ (l : List ReportLine). l ++ lines.Halt timed.line n ∷ []) (a.told ∙ ap (λ (l : List ReportLine). l ++ lines_in a.acts) none) ∙ ap (event_lines timed.line) (sym a.is)
 
-    module _ (steps : Steps timed view now own new_lines (Ok tt)) where
-      advance : (place : Place scenario timed view) → Advances place.cores place.script place.count place.trace place.state timed own new_lines now
-      advance place = steps.made place.cores place.script place.count place.trace place.state place.behind place.next
+    module _ (steps : Steps timed.line timed.event view now own new_lines (Ok tt)) where
+      advance : (place : Place scenario timed view) → Advances place.cores place.script.scenario (take place.count place.script.events) place.trace place.state timed own new_lines now
+      advance place = steps.made place.cores place.script.scenario (take place.count place.script.events) place.trace place.state place.behind.is
 
       pub made_are_known : (place : Place scenario timed view) → All (IsLineOf scenario) (event_lines timed.line (outcome place.state timed)) → All (IsLineOf scenario) new_lines
       made_are_known place known = subst (All (IsLineOf scenario)) (sym (made_lines place (advance place))) known
@@ -71,7 +73,7 @@ module _ (scenario : Scenario) (timed : Timed) (view : WorldView) where
               acts = a.acts;
               state = a.next;
               is = a.is;
-              behind = a.behind;
+              behind = reached_more timed view (reached place) own new_lines now a;
               text = subst (λ (l : List ReportLine). Appended old new (lines_text detail scenario l)) (made_lines place a) whole;
             };
         lacks = λ e. absurd (not_failed stops.Label e);
@@ -83,9 +85,9 @@ module _ (scenario : Scenario) (timed : Timed) (view : WorldView) where
         part = λ place. subst (λ (l : List ReportLine). AppendedPart old new (lines_text detail scenario l)) (made_lines place (advance place)) part;
       }
 
-    module _ (n : NodeId) (steps : Steps timed view now own new_lines (Err (halts.NoLabel n))) where
+    module _ (n : NodeId) (steps : Steps timed.line timed.event view now own new_lines (Err (halts.NoLabel n))) where
       lacking : (place : Place scenario timed view) → Lacks place.state timed n own new_lines
-      lacking place = steps.lacks n refl place.behind.going place.cores place.script place.count place.trace place.state place.behind place.next
+      lacking place = steps.lacks n refl place.behind.is.going place.cores place.script.scenario (take place.count place.script.events) place.trace place.state place.behind.is
 
       pub lacking_are_known : (place : Place scenario timed view) → All (IsLineOf scenario) (event_lines timed.line (outcome place.state timed)) →
           All (IsLineOf scenario) (new_lines ++ lines.Halt timed.line n ∷ [])

@@ -17,14 +17,21 @@ use Rattle.mvpn_model.specs.Report.{Entry, refused_lines}
 use Rattle.mvpn_model.specs.Safe.{Safe}
 use Rattle.network_defs.specs.Costs.{AreCoresOf, Cores}
 use Rattle.network_defs.specs.Events.{Happened, Outcome, Done, Halted}
+use Rattle.network_defs.specs.LabelRule.{LabelRule}
 use Rattle.network_defs.specs.Local.{Local}
-use Rattle.network_defs.specs.Run.{Halts, Run, Traced, outcome, report_of, traced}
-use Rattle.network_defs.specs.World.{World}
-use Rattle.network_laws.proofs.Lists.{each_at}
-use Rattle.network_laws.specs.Honest.{IsSoundEvent}
-use Rattle.network_laws.specs.SoundRun.{SoundRun}
-use Rattle.rule_laws.specs.SoundHalt.{SoundHalt}
-use Rattle.delivery_laws.specs.Flood.{lines_in}
+use Rattle.network_defs.specs.Run.{Halts, IsDrained, IsSettled, Run, Traced, outcome, report_of, traced}
+use Rattle.network_defs.specs.World.{World, start}
+use Rattle.network_events.proofs.network_laws.Lists.{each_at}
+use Rattle.network_events.specs.network_laws.Honest.{IsSoundEvent}
+use Rattle.network_events.specs.network_laws.Sound.{SoundScenario}
+use Rattle.network_events.specs.network_laws.SoundRun.{SoundRun}
+use Rattle.network_events.proofs.delivery_laws.OnceLemmas.{rises_first}
+use Rattle.run_laws.proofs.rule_laws.Halting.{run_before}
+use Rattle.run_laws.specs.Ready.{ReportsUnready}
+use Rattle.run_laws.specs.rule_laws.SoundHalt.{SoundHalt}
+use Rattle.run_laws.specs.rule_laws.Throughout.{ThroughoutEvents}
+use Rattle.settle_laws.specs.Behind.{IsBehind, Settles, drain_at, settle_at}
+use Rattle.network_events.specs.delivery_laws.Flood.{lines_in}
 use Rattle.run_laws.specs.Octets.{EventHasOctets, ScriptHasOctets}
 use Rattle.run_laws.specs.Runs as parts
 use Rattle.network_events.specs.WorldView.{WorldView}
@@ -56,7 +63,7 @@ module _ (readable_event : ReadableEvent) (readable_runs : ReadableRuns)
     (acts : List Happened) (node : NodeId) → outcome world timed ≡ Halted acts node → All (IsLineOf script.scenario) (lines_in acts ++ lines.Halt timed.line node ∷ []))
     (scenario : Scenario) (timed : Timed) (view : WorldView) (place : Place scenario timed view) where
   sound_here : SoundRun place.cores place.script (take place.count place.script.events) place.trace place.state
-  sound_here = readable_runs place.cores place.script place.count place.trace place.state place.behind.rules place.octets place.behind.of_scenario place.behind.run
+  sound_here = readable_runs place.cores place.script place.count place.trace place.state place.behind.rules place.octets place.behind.is.of_scenario place.behind.is.run
 
   sound_next : IsSoundEvent place.script.scenario timed.event
   sound_next =
@@ -77,7 +84,37 @@ module _ (readable_event : ReadableEvent) (readable_runs : ReadableRuns)
 every_event : (script : Script) → take (length script.events) script.events ≡ script.events
 every_event script = take_all (length script.events) script.events (omega arith)
 
-module _ (readable_runs : ReadableRuns)
+-- what `settle_settles` and `drain_drains` say of the events within a run
+abbrev pub SettlesWithin : Type 0
+SettlesWithin = (cores : Cores) (script : Script) (before after : List Timed) (line : ℕ) (trace : List Traced) (new : World) → SoundRun cores script (before ++ settle_at line ∷ after) trace new →
+    IsBehind cores script (before ++ settle_at line ∷ []) trace IsSettled
+
+abbrev pub DrainsWithin : Type 0
+DrainsWithin = (cores : Cores) (script : Script) (before after : List Timed) (line : ℕ) (trace : List Traced) (new : World) → Run cores script (before ++ drain_at line ∷ after) trace new →
+    IsBehind cores script (before ++ drain_at line ∷ []) trace IsDrained
+
+-- what `state_lines_report_unready` says
+abbrev pub ReportsReady : Type 0
+ReportsReady = (cores : Cores) (script : Script) (events : List Timed) (trace : List Traced) (new : World) → Rules script.scenario → Rises 0 events → Run cores script events trace new →
+    ReportsUnready script.scenario events (refused_lines (report_of trace)) (report_of trace)
+
+-- what `runs_keep_the_label_rule` says of the events that come next
+abbrev pub KeepsRule : Type 0
+KeepsRule = (cores : Cores) (script : Script) (events more : List Timed) (trace : List Traced) (new : World) → SoundRun cores script events trace new → SoundEvents script more → ThroughoutEvents LabelRule new more
+
+module _ (settled : SettlesWithin) (drained : DrainsWithin) where
+  settles_in : (cores : Cores) (script : Script) (events : List Timed) (trace : List Traced) (new : World) → SoundRun cores script events trace new → Settles cores script events trace
+  settles_in cores script events trace new sound = record {
+    settled = λ before after line parts. settled cores script before after line trace new (subst (λ (l : List Timed). SoundRun cores script l trace new) parts sound);
+    drained = λ before after line parts. drained cores script before after line trace new (subst (λ (l : List Timed). Run cores script l trace new) parts sound.run);
+  }
+
+-- before any event
+rule_from_start : KeepsRule → (cores : Cores) (script : Script) → SoundScenario script.scenario → AreCoresOf script.scenario cores → SoundEvents script script.events → ThroughoutEvents LabelRule (start script.scenario cores) script.events
+rule_from_start rule cores script scenario of_scenario sound =
+    rule cores script [] script.events [] (start script.scenario cores) (record { scenario = scenario; of_scenario = of_scenario; sound_events = tt; run = (refl, refl) }) sound
+
+module _ (readable_runs : ReadableRuns) (rule : KeepsRule) (tells : ReportsReady) (settled : SettlesWithin) (drained : DrainsWithin)
     (safe : (cores : Cores) (script : Script) (events : List Timed) (trace : List Traced) (new : World) → SoundRun cores script events trace new → Rises 0 events →
     Safe script.scenario events (refused_lines (report_of trace)) (report_of trace))
     (once : (cores : Cores) (script : Script) (events : List Timed) (trace : List Traced) (new : World) → SoundRun cores script events trace new → Rises 0 events →
@@ -97,9 +134,12 @@ module _ (readable_runs : ReadableRuns)
         safe = safe cores script script.events trace state sound rules.lines;
         once = once cores script script.events trace state sound rules.lines;
         local = local cores script script.events trace state sound;
+        label_rule = rule_from_start rule cores script sound.scenario of_scenario sound.sound_events;
+        unready = tells cores script script.events trace state rules.scenario rules.lines run;
+        settles = settles_in settled drained cores script script.events trace state sound;
       }
 
-module _ (readable_events : ReadableEvents)
+module _ (readable_events : ReadableEvents) (rule : KeepsRule) (tells : ReportsReady) (settled : SettlesWithin) (drained : DrainsWithin)
     (safe : (cores : Cores) (script : Script) (report : List Entry) (node : NodeId) → SoundHalt cores script report node → Rises 0 script.events → Safe script.scenario script.events (refused_lines report) report)
     (once : (cores : Cores) (script : Script) (report : List Entry) (node : NodeId) → (run : SoundHalt cores script report node) → Rises 0 script.events →
     Once script.scenario run.halt.before (refused_lines (report_of run.halt.trace)) (report_of run.halt.trace))
@@ -118,6 +158,9 @@ module _ (readable_events : ReadableEvents)
         safe = safe cores script report node sound rules.lines;
         once = once cores script report node sound rules.lines;
         local = local cores script report node sound;
+        label_rule = rule_from_start rule cores script sound.scenario halt.of_scenario sound.sound_events;
+        unready = tells cores script halt.before halt.trace halt.world rules.scenario (rises_first 0 halt.before (halt.timed ∷ halt.after) (subst (Rises 0) halt.events rules.lines)) halt.run;
+        settles = settles_in settled drained cores script halt.before halt.trace halt.world (run_before cores script report node sound);
       }
 
 -- ---- the report that goes on

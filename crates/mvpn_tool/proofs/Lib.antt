@@ -1,5 +1,6 @@
 pub mod TextLemmas
 pub mod KnownLemmas
+pub mod FirstEventLemmas
 pub mod EventLemmas
 pub mod OutcomeLemmas
 pub mod EndLemmas

@@ -16,7 +16,7 @@ use Rattle.network_defs.specs.Costs.{AreCoresOf, Cores}
 use Rattle.network_defs.specs.Events.{Happened, Outcome, Done, Halted}
 use Rattle.network_defs.specs.Run.{Halts, Run, Traced, outcome, report_of, traced}
 use Rattle.network_defs.specs.World.{World, start}
-use Rattle.delivery_laws.proofs.Splits.{cut_at, runs_join, take_to}
+use Rattle.network_events.proofs.delivery_laws.Splits.{cut_at, runs_join, take_to}
 use Rattle.run_laws.specs.Octets.{ScriptHasOctets}
 use Rattle.network_events.specs.Behind.{IsBegun}
 use Rattle.network_events.specs.WorldView.{WorldView}
@@ -26,6 +26,7 @@ use Rattle.mvpn_tool.specs.Report.{UpToHalt, event_lines, lines_text, text_of}
 use Rattle.mvpn_tool.specs.declared.command.Detail.{Detail}
 use Rattle.mvpn_tool.specs.declared.stop.Stop.{Stop}
 use Rattle.mvpn_tool.specs.declared.stop.Stop.TheVariants as stops
+use Rattle.mvpn_tool.proofs.FirstEventLemmas.{behind_none}
 use Rattle.mvpn_tool.proofs.TextLemmas.{text_halted, text_more, text_none, text_of-append}
 
 abbrev ended : Stop → Result WorldView Stop
@@ -77,7 +78,7 @@ module _ (known : KnownRuns) (detail : Detail) (script : Script) (rules : Script
         cores = own.0;
         trace = [];
         state = start script.scenario own.0;
-        behind = begun.behind own.0 script refl rules own.1;
+        behind = behind_none script rules view begun own.0 own.1;
         text = subst (Appended old old) (sym (text_none known.text detail script.scenario)) (appended-nil old);
       }
 
@@ -123,7 +124,7 @@ module _ (known : KnownRuns) (detail : Detail) (script : Script) (rules : Script
     own_report acts node = halted_report r.trace count timed.line acts node
 
     halts_here : (acts : List Happened) (node : NodeId) → outcome r.state timed ≡ Halted acts node → Halts r.cores script (own_report acts node) node
-    halts_here acts node lacks = halts_at r.cores script count r.trace r.state timed acts node r.behind.of_scenario r.behind.run at lacks
+    halts_here acts node lacks = halts_at r.cores script count r.trace r.state timed acts node r.behind.is.of_scenario r.behind.is.run at lacks
 
     halted_text : (acts : List Happened) (node : NodeId) → outcome r.state timed ≡ Halted acts node → text (own_report acts node) ≡ text (report_of r.trace) ++ event_text detail scenario timed view place_of
     halted_text acts node lacks =
@@ -145,7 +146,7 @@ module _ (known : KnownRuns) (detail : Detail) (script : Script) (rules : Script
     run_more acts next is =
         let place : count ≡ 0 + length (take count script.events) = omega (arith, length_first script.events count timed at) in
         subst (λ (l : List Timed). Run r.cores script l (r.trace ++ traced count acts) next) (sym (take_to script.events count timed at))
-        (runs_join (take count script.events) (timed ∷ []) (start script.scenario r.cores) r.state next 0 r.trace (traced count acts) r.behind.run count place
+        (runs_join (take count script.events) (timed ∷ []) (start script.scenario r.cores) r.state next 0 r.trace (traced count acts) r.behind.is.run count place
         (acts, next, [], is, sym (append-nil (traced count acts)), (refl, refl)))
 
     module _ (part : AppendedPart mid new (event_text detail scenario timed view place_of)) where
@@ -155,7 +156,7 @@ module _ (known : KnownRuns) (detail : Detail) (script : Script) (rules : Script
       part_by : (o : Outcome) → outcome r.state timed ≡ o → ReplaysPart detail script old new
       part_by (Done acts next) is =
           let trace : List Traced = r.trace ++ traced count acts in
-          let on = known.begins r.cores script (suc count) trace next rules octets r.behind.of_scenario (run_more acts next is) in
+          let on = known.begins r.cores script (suc count) trace next rules octets r.behind.is.of_scenario (run_more acts next is) in
           let so_far : text (report_of trace) ≡ text (report_of r.trace) ++ event_text detail scenario timed view place_of =
           text_more known.text detail script.scenario r.trace count acts ∙ ap (λ (l : List ℕ). text (report_of r.trace) ++ l) (ap text_by (sym is) ∙ sym own_text) in
           let all : text on.report ≡ (text (report_of r.trace) ++ event_text detail scenario timed view place_of) ++ text on.more =
@@ -196,8 +197,8 @@ module _ (known : KnownRuns) (detail : Detail) (script : Script) (rules : Script
       let whole : Replayed detail script (length script.events) old new view = subst (λ (n : ℕ). Replayed detail script n old new view) all r in
       record {
         replayed = whole;
-        whole = known.whole whole.cores script whole.trace whole.state rules octets whole.behind.of_scenario
-            (subst (λ (l : List Timed). Run whole.cores script l whole.trace whole.state) (take_all (length script.events) script.events (omega arith)) whole.behind.run);
+        whole = known.whole whole.cores script whole.trace whole.state rules octets whole.behind.is.of_scenario
+            (subst (λ (l : List Timed). Run whole.cores script l whole.trace whole.state) (take_all (length script.events) script.events (omega arith)) whole.behind.is.run);
       }
 
 -- The event at a place of the list is that of the script.

@@ -1,5 +1,5 @@
 -- Laws of the run of a made network, whose lines are counted.
-use Rattle.std.proofs.Common.{◌≡◌, ◌∙◌, ℕ, ◌+◌, ◌⊎◌, inl, inr, List, [], ◌++◌, length, slice_get, refl, sym, ap, subst, arith}
+use Rattle.std.proofs.Common.{◌≡◌, ◌∙◌, ℕ, ◌+◌, ◌≤◌, ◌⊎◌, inl, inr, List, [], ◌++◌, length, take, slice_get, refl, sym, ap, subst, arith}
 use Rattle.std.specs.Prelude.{Option, Some, Result, Ok, Err, IsErrOf, fold}
 use Rattle.std.proofs.lemmas.List.{take_all}
 use Rattle.std.proofs.lemmas.List.Sums.{fold-append}
@@ -14,23 +14,27 @@ use Rattle.line_words.specs.declared.fault.TextFault.{TextFault}
 use Rattle.scenario_text.specs.Grammar.{script_of}
 use Rattle.generator.specs.Made.{made}
 use Rattle.made_laws.specs.MadeScript.{made_script}
+use Rattle.made_laws.specs.growth_laws.Labels.{labels_held}
 use Rattle.mvpn_model.specs.Report.{Entry, lines_of}
 use Rattle.network_defs.specs.Costs.{Cores}
 use Rattle.network_defs.specs.Events.{Happened}
+use Rattle.network_defs.specs.Nodes.{part_of}
 use Rattle.network_defs.specs.Run.{Halts, Run, Traced, report_of, traced}
 use Rattle.network_defs.specs.World.{World, start}
-use Rattle.delivery_laws.specs.Flood.{lines_in}
+use Rattle.network_events.specs.delivery_laws.Flood.{lines_in}
 use Rattle.run_laws.specs.Octets.{ScriptHasOctets}
-use Rattle.network_events.specs.Behind.{IsBegun, IsBehind, IsReached, Steps}
+use Rattle.network_events.specs.Behind.{IsBegun, Steps}
 use Rattle.network_events.specs.WorldView.{WorldView}
 use Rattle.network_events.specs.declared.halt.Halt.TheVariants as halts
+use Rattle.mvpn_tool.specs.FirstEvents.{IsBehindFirst, IsReached}
 use Rattle.mvpn_tool.specs.Known.{KnownRuns}
-use Rattle.mvpn_tool.specs.Sweep.{EventCounts, NeverHalts, SweepEnds, SweepsWell, SweepsWhole, TellsNumbers, no_counts, sweep_text, with_line}
+use Rattle.mvpn_tool.specs.Sweep.{EventCounts, HoldsFewLabels, NeverHalts, SweepEnds, SweepsWell, SweepsWhole, TellsNumbers, no_counts, sweep_text, with_line}
 use Rattle.mvpn_tool.specs.declared.counts.Counts.{Counts}
 use Rattle.mvpn_tool.specs.declared.stop.Stop.{Stop}
 use Rattle.mvpn_tool.specs.declared.stop.Stop.TheVariants as stops
 use Rattle.mvpn_tool.specs.declared.sweep.Swept.{Swept}
 use Rattle.mvpn_tool.proofs.CountLemmas.{counted_all}
+use Rattle.mvpn_tool.proofs.FirstEventLemmas.{behind_none, reached_more}
 use Rattle.mvpn_tool.proofs.OutcomeLemmas.{halted_report, halts_at}
 use Rattle.mvpn_tool.proofs.TextLemmas.{lines_at, lines_of-append, report_of-append}
 
@@ -47,26 +51,26 @@ same_stop stop other e = cc
 
 module _ (timed : Timed) (view now : WorldView) (before after : Counts) (own new_lines : List ReportLine) (none : own ≡ []) where
   -- The step was made, and its lines were counted.
-  pub event_counted : Steps timed view now own new_lines (Ok tt) → after ≡ fold with_line before new_lines → EventCounts timed view now before after (Ok tt)
+  pub event_counted : Steps timed.line timed.event view now own new_lines (Ok tt) → after ≡ fold with_line before new_lines → EventCounts timed view now before after (Ok tt)
   event_counted steps told = record {
     made = λ at.
-        let a = steps.made at.cores at.script at.count at.trace at.world at.behind at.next in
+        let a = steps.made at.cores at.script.scenario (take at.count at.script.events) at.trace at.world at.behind.is in
         record {
           acts = a.acts;
           state = a.next;
           is = a.is;
-          behind = a.behind;
+          behind = reached_more timed view at own new_lines now a;
           told = told ∙ ap (fold with_line before) (a.told ∙ ap (λ (l : List ReportLine). l ++ lines_in a.acts) none);
         };
     lacks = λ e. absurd cc;
   }
 
   -- A label is lacking.
-  pub event_lacks_label : (n : NodeId) → Steps timed view now own new_lines (Err (halts.NoLabel n)) → EventCounts timed view now before after (Err stops.Label)
+  pub event_lacks_label : (n : NodeId) → Steps timed.line timed.event view now own new_lines (Err (halts.NoLabel n)) → EventCounts timed view now before after (Err stops.Label)
   event_lacks_label n steps = record {
     made = tt;
     lacks = λ e at.
-        let a = steps.lacks n refl at.behind.going at.cores at.script at.count at.trace at.world at.behind at.next in
+        let a = steps.lacks n refl at.behind.is.going at.cores at.script.scenario (take at.count at.script.events) at.trace at.world at.behind.is in
         record { acts = a.acts; node = n; is = a.is };
   }
 
@@ -81,7 +85,7 @@ pub record SweptSoFar (script : Script) (count : ℕ) (view : WorldView) (counts
   pub cores : Cores
   pub trace : List Traced
   pub state : World
-  pub behind : IsBehind cores script count trace state view
+  pub behind : IsBehindFirst cores script count trace state view
   pub told : counts ≡ fold with_line no_counts (lines_of (report_of trace))
 
 -- the counts behind the acts of one event more
@@ -100,7 +104,7 @@ module _ (known : KnownRuns) (script : Script) (rules : ScriptRules script) (oct
   pub swept_none : (view : WorldView) (counts : Counts) → IsBegun script.scenario view → counts ≡ no_counts → SweptSoFar script 0 view counts
   swept_none view counts begun none =
       let own = known.cores script.scenario rules.scenario in
-      record { cores = own.0; trace = []; state = start script.scenario own.0; behind = begun.behind own.0 script refl rules own.1; told = none }
+      record { cores = own.0; trace = []; state = start script.scenario own.0; behind = behind_none script rules view begun own.0 own.1; told = none }
 
   module _ (count : ℕ) (timed : Timed) (view : WorldView) (counts : Counts) (at : slice_get script.events count ≡ Some timed) (so_far : SweptSoFar script count view counts) where
     -- where the next event is met
@@ -125,7 +129,7 @@ module _ (known : KnownRuns) (script : Script) (rules : ScriptRules script) (oct
         let lacks = ends.lacks (ap stopped label) swept_to in
         absurd
         (never so_far.cores (halted_report so_far.trace count timed.line lacks.acts lacks.node) lacks.node
-        (halts_at so_far.cores script count so_far.trace so_far.state timed lacks.acts lacks.node so_far.behind.of_scenario so_far.behind.run at lacks.is))
+        (halts_at so_far.cores script count so_far.trace so_far.state timed lacks.acts lacks.node so_far.behind.is.of_scenario so_far.behind.is.run at lacks.is))
     swept_stops now after stop never ends (inr memory) = memory
 
   -- All events ran.
@@ -137,20 +141,21 @@ module _ (known : KnownRuns) (script : Script) (rules : ScriptRules script) (oct
         trace = whole.trace;
         state = whole.state;
         behind = whole.behind;
-        whole = known.whole whole.cores script whole.trace whole.state rules octets whole.behind.of_scenario
-            (subst (λ (l : List Timed). Run whole.cores script l whole.trace whole.state) (take_all (length script.events) script.events (omega arith)) whole.behind.run);
+        whole = known.whole whole.cores script whole.trace whole.state rules octets whole.behind.is.of_scenario
+            (subst (λ (l : List Timed). Run whole.cores script l whole.trace whole.state) (take_all (length script.events) script.events (omega arith)) whole.behind.is.run);
         counts = whole.told ∙ counted_all (lines_of (report_of whole.trace));
       }
 
 -- ---- a number
 
-module _ (number : ℕ) (script : Script) (said : script_of (made number) ≡ Ok script) where
+module _ (number : ℕ) (script : Script) (said : script_of (made number) ≡ Ok script) (few : (cores : Cores) → HoldsFewLabels cores script) where
   numbers_of : (Written : List ℕ → Type 0) (swept : Swept) → SweepsWhole script swept → Written (sweep_text number swept.world.network.datagrams.count swept.counts) →
       TellsNumbers Written number swept.world script
   numbers_of Written swept whole text = record {
     counts = swept.counts;
     whole = whole;
-    text = subst (λ (n : ℕ). Written (sweep_text number n swept.counts)) whole.behind.stands.datagrams.count text;
+    labels = few whole.cores;
+    text = subst (λ (n : ℕ). Written (sweep_text number n swept.counts)) whole.behind.is.stands.datagrams.count text;
   }
 
   -- The line was written.
@@ -175,7 +180,11 @@ abbrev pub AreRead : Type 0
 AreRead = (number : ℕ) → script_of (made number) ≡ Ok (made_script number)
 
 abbrev pub AreNeverHalting : Type 0
-AreNeverHalting = (cores : Cores) (number : ℕ) (report : List Entry) (node : NodeId) → ScriptRules (made_script number) → ScriptHasOctets (made_script number) → Halts cores (made_script number) report node → ⊥
+AreNeverHalting = (cores : Cores) (number : ℕ) (report : List Entry) (node : NodeId) → Halts cores (made_script number) report node → ⊥
+
+abbrev pub HoldFewLabels : Type 0
+HoldFewLabels = (cores : Cores) (number count : ℕ) (trace : List Traced) (new : World) (node : NodeId) → Run cores (made_script number) (take count (made_script number).events) trace new →
+    labels_held (part_of (new.network.state.node node)) ≤ 260
 
 abbrev said_as : Script → Result Script TextFault
 said_as script = Ok script
@@ -183,11 +192,16 @@ said_as script = Ok script
 one_script : (x y : Script) (r : Result Script TextFault) → r ≡ Ok x → r ≡ Ok y → x ≡ y
 one_script x y r one other = cc
 
+same_script : AreRead → (number : ℕ) (script : Script) → script_of (made number) ≡ Ok script → made_script number ≡ script
+same_script are_read number script said = one_script (made_script number) script (script_of (made number)) (are_read number) said
+
 -- The script that the text of a number says never halts.
-pub made_never_halts : AreRead → AreNeverHalting → (number : ℕ) (script : Script) → script_of (made number) ≡ Ok script → ScriptRules script → ScriptHasOctets script → NeverHalts script
-made_never_halts are_read never number script said rules octets =
-    let same : made_script number ≡ script = one_script (made_script number) script (script_of (made number)) (are_read number) said in
-    subst NeverHalts same (λ cores report node. never cores number report node (subst ScriptRules (sym same) rules) (subst ScriptHasOctets (sym same) octets))
+pub made_never_halts : AreRead → AreNeverHalting → (number : ℕ) (script : Script) → script_of (made number) ≡ Ok script → NeverHalts script
+made_never_halts are_read never number script said = subst NeverHalts (same_script are_read number script said) (λ cores report node. never cores number report node)
+
+-- Its nodes hold few labels.
+pub made_holds_few : AreRead → HoldFewLabels → (number : ℕ) (script : Script) → script_of (made number) ≡ Ok script → (cores : Cores) → HoldsFewLabels cores script
+made_holds_few are_read few number script said cores = subst (HoldsFewLabels cores) (same_script are_read number script said) (λ count trace state node. few cores number count trace state node)
 
 -- It says no fault.
 pub made_not_faulty : AreRead → (number : ℕ) (fault : TextFault) → script_of (made number) ≡ Err fault → ⊥

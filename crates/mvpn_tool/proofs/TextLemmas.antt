@@ -11,7 +11,7 @@ use Rattle.scenario_defs.specs.declared.scenario.Scenario.{Scenario}
 use Rattle.mvpn_model.specs.Report.{Entry, lines_of}
 use Rattle.network_defs.specs.Events.{Happened}
 use Rattle.network_defs.specs.Run.{Traced, report_of, traced}
-use Rattle.delivery_laws.specs.Flood.{lines_in}
+use Rattle.network_events.specs.delivery_laws.Flood.{lines_in}
 use Rattle.run_laws.specs.Plain.{is_plain, plain}
 use Rattle.mvpn_tool.specs.Report.{is_told, lines_text, text_of}
 use Rattle.mvpn_tool.specs.declared.command.Detail.{Detail}

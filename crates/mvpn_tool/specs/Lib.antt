@@ -1,4 +1,5 @@
 pub mod Input
+pub mod FirstEvents
 pub mod Report
 pub mod Outcome
 pub mod Known

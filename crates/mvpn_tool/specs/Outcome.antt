@@ -14,8 +14,8 @@ use Rattle.network_defs.specs.Events.{Happened, Done, Halted}
 use Rattle.network_defs.specs.Run.{Traced, outcome, report_of, traced}
 use Rattle.network_defs.specs.World.{World}
 use Rattle.run_laws.specs.Octets.{ScriptHasOctets}
-use Rattle.network_events.specs.Behind.{IsBehind}
 use Rattle.network_events.specs.WorldView.{WorldView}
+use Rattle.mvpn_tool.specs.FirstEvents.{IsBehindFirst}
 use Rattle.mvpn_tool.specs.Input.{IsInput, Taken}
 use Rattle.mvpn_tool.specs.Report.{IsHaltedRun, IsReport, IsWholeRun, event_lines, lines_text, text_of}
 use Rattle.mvpn_tool.specs.declared.command.Detail.{Detail}
@@ -33,7 +33,7 @@ pub record Place (scenario : Scenario) (timed : Timed) (view : WorldView) : Type
   pub state : World
   pub of_scenario : script.scenario ≡ scenario
   pub octets : ScriptHasOctets script
-  pub behind : IsBehind cores script count trace state view
+  pub behind : IsBehindFirst cores script count trace state view
   pub next : slice_get script.events count ≡ Some timed
 
 -- the text of the event there
@@ -46,7 +46,7 @@ pub record GoesOn (detail : Detail) (scenario : Scenario) (timed : Timed) (view 
   pub acts : List Happened
   pub state : World
   pub is : outcome place.state timed ≡ Done acts state
-  pub behind : IsBehind place.cores place.script (place.count + 1) (place.trace ++ traced place.count acts) state now
+  pub behind : IsBehindFirst place.cores place.script (place.count + 1) (place.trace ++ traced place.count acts) state now
   pub text : Appended old new (event_text detail scenario timed view place)
 
 -- The event lacks a label, and its text was written.
@@ -71,7 +71,7 @@ pub record Replayed (detail : Detail) (script : Script) (count : ℕ) (old new :
   pub cores : Cores
   pub trace : List Traced
   pub state : World
-  pub behind : IsBehind cores script count trace state view
+  pub behind : IsBehindFirst cores script count trace state view
   pub text : Appended old new (text_of detail script.scenario (report_of trace))
 
 -- All events were replayed.

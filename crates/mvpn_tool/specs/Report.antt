@@ -12,31 +12,44 @@ use Rattle.mvpn_model.specs.Report.{Entry, report_text, refused_lines}
 use Rattle.mvpn_model.specs.Safe.{Safe}
 use Rattle.network_defs.specs.Costs.{AreCoresOf, Cores}
 use Rattle.network_defs.specs.Events.{Outcome, Done, Halted}
+use Rattle.network_defs.specs.LabelRule.{LabelRule}
 use Rattle.network_defs.specs.Local.{Local}
 use Rattle.network_defs.specs.Run.{Halts, Run, Traced, report_of, traced}
-use Rattle.network_defs.specs.World.{World}
-use Rattle.delivery_laws.specs.Flood.{lines_in}
+use Rattle.network_defs.specs.World.{World, start}
+use Rattle.network_events.specs.delivery_laws.Flood.{lines_in}
 use Rattle.run_laws.specs.Plain.{is_plain, plain}
+use Rattle.run_laws.specs.Ready.{ReportsUnready}
+use Rattle.run_laws.specs.rule_laws.Throughout.{ThroughoutEvents}
+use Rattle.settle_laws.specs.Behind.{Settles}
 use Rattle.mvpn_tool.specs.declared.command.Detail.{Detail}
 use Rattle.mvpn_tool.specs.declared.command.Detail.TheVariants as details
 
 -- This happens in a run of all events of the script, by the cores of its scenario. No customer sees another's datagram; each datagram
 -- that is sent while the network is calm leaves once at each of its receivers, and nowhere else; and each hop is licensed by what its
--- node and the neighbour have put and taken.
+-- node and the neighbour have put and taken. The label rule holds after each act. The last number of each `state` line is how many
+-- sessions are not ready by the events alone. After each `settle` no octet is in transit and no timer is due, and after each `drain` no
+-- copy is on a link.
 pub record IsWholeRun (cores : Cores) (script : Script) (trace : List Traced) (world : World) : Type 0 where
   pub of_scenario : AreCoresOf script.scenario cores
   pub run : Run cores script script.events trace world
   pub safe : Safe script.scenario script.events (refused_lines (report_of trace)) (report_of trace)
   pub once : Once script.scenario script.events (refused_lines (report_of trace)) (report_of trace)
   pub local : Local world trace
+  pub label_rule : ThroughoutEvents LabelRule (start script.scenario cores) script.events
+  pub unready : ReportsUnready script.scenario script.events (refused_lines (report_of trace)) (report_of trace)
+  pub settles : Settles cores script script.events trace
 
--- The run halts at that node, for want of a label, with this report, whose last line says so. It is safe and local up to there, and of the
--- events before the one that halts each datagram of a calm network was delivered once.
+-- The run halts at that node, for want of a label, with this report, whose last line says so. It is safe and local up to there, and the
+-- label rule holds after each act. Of the events before the one that halts each datagram of a calm network was delivered once, and what is
+-- said of `state`, `settle` and `drain` holds as in a whole run.
 pub record IsHaltedRun (cores : Cores) (script : Script) (report : List Entry) (node : NodeId) : Type 0 where
   pub halt : Halts cores script report node
   pub safe : Safe script.scenario script.events (refused_lines report) report
   pub once : Once script.scenario halt.before (refused_lines (report_of halt.trace)) (report_of halt.trace)
   pub local : Local halt.world (halt.trace ++ traced (length halt.before) halt.acts)
+  pub label_rule : ThroughoutEvents LabelRule (start script.scenario cores) script.events
+  pub unready : ReportsUnready script.scenario halt.before (refused_lines (report_of halt.trace)) (report_of halt.trace)
+  pub settles : Settles cores script halt.before halt.trace
 
 -- The report is that of the run of all events, or of the run that halts.
 pub data IsReport (script : Script) (report : List Entry) : Type 0 where

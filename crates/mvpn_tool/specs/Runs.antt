@@ -53,13 +53,18 @@ WrotePart e text = AppendedPart e.old e.new text
 abbrev pub IsStopped : ℕ → Type 0
 IsStopped status = (status ≡ 4) ⊎ (status ≡ 5) ⊎ (status ≡ 6)
 
+-- As far as the source tells, it was not touched: it has left what it had left, and has not failed.
+pub record Untouched (e : Ending) : Type 0 where
+  pub rest : e.rest ≡ e.left
+  pub faults : e.source_now ≡ e.source_before
+
 -- The words name no command: the usage line, and the source is not touched.
 pub record UsageRun (e : Ending) : Type 0 where
   pub two : e.status ≡ 2 → Wrote e usage_line
   pub five : e.status ≡ 5 → WrotePart e usage_line
   pub five_cause : e.status ≡ 5 → SinkFailed e
   pub only : (e.status ≡ 2) ⊎ (e.status ≡ 5)
-  pub untouched : e.rest ≡ e.left
+  pub untouched : Untouched e
   pub worldless : e.world ≡ None
 
 -- the source tells what it had left, which is this script
@@ -126,7 +131,7 @@ pub record MakeRun (number : ℕ) (e : Ending) : Type 0 where
   pub five_cause : e.status ≡ 5 → SinkFailed e
   pub six : e.status ≡ 6 → Wrote e []
   pub only : (e.status ≡ 0) ⊎ (e.status ≡ 5) ⊎ (e.status ≡ 6)
-  pub untouched : e.rest ≡ e.left
+  pub untouched : Untouched e
   pub worldless : e.world ≡ None
 
 -- `sweep` and a number: the script of that number is replayed as by `replay`, with one line for its report, and the source is not touched
@@ -140,7 +145,7 @@ pub record SweepRun (number : ℕ) (e : Ending) : Type 0 where
   -- there was no memory, and nothing is written
   pub six : e.status ≡ 6 → Wrote e []
   pub only : (e.status ≡ 0) ⊎ (e.status ≡ 5) ⊎ (e.status ≡ 6)
-  pub untouched : e.rest ≡ e.left
+  pub untouched : Untouched e
 
 -- how a call ends whose words name that command, or none
 abbrev pub Runs : Option Command → Ending → Type 0

@@ -1,6 +1,6 @@
 -- The numbers of the run of a made network, and what `sweep` writes of them.
-use Rattle.std.specs.Prelude.{◌≡◌, ℕ, ◌+◌, ◌==◌, ◌&&◌, ◌++◌, min, Bool, true, false, codes, fold, if◌then◌else◌}
-use Rattle.std.specs.Prelude.{List, [], length, count_by, Option, None, Some, Result, Ok, Err, OnOk, IsErrOf}
+use Rattle.std.specs.Prelude.{◌≡◌, ◌≤◌, ℕ, ◌+◌, ◌==◌, ◌&&◌, ◌++◌, Bool, true, false, codes, fold, if◌then◌else◌}
+use Rattle.std.specs.Prelude.{List, [], length, take, count_by, Option, None, Some, Result, Ok, Err, OnOk, IsErrOf}
 use Rattle.std.specs.Fmt.{decimal}
 use Rattle.mv_base.specs.declared.ids.NodeId.{NodeId}
 use Rattle.mv_io.specs.Octets.{Appended, AppendedPart}
@@ -10,14 +10,16 @@ use Rattle.scenario_defs.specs.declared.report.ReportLine.{ReportLine}
 use Rattle.scenario_defs.specs.declared.report.ReportLine.TheVariants as lines
 use Rattle.scenario_text.specs.Grammar.{script_of}
 use Rattle.generator.specs.Made.{made}
+use Rattle.made_laws.specs.growth_laws.Labels.{labels_held}
 use Rattle.mvpn_model.specs.Report.{Entry, lines_of}
 use Rattle.network_defs.specs.Costs.{Cores}
 use Rattle.network_defs.specs.Events.{Happened, Done, Halted}
-use Rattle.network_defs.specs.Run.{Halts, Traced, outcome, report_of, traced}
+use Rattle.network_defs.specs.Nodes.{part_of}
+use Rattle.network_defs.specs.Run.{Halts, Run, Traced, outcome, report_of, traced}
 use Rattle.network_defs.specs.World.{World}
-use Rattle.delivery_laws.specs.Flood.{lines_in}
-use Rattle.network_events.specs.Behind.{IsBehind, IsReached}
+use Rattle.network_events.specs.delivery_laws.Flood.{lines_in}
 use Rattle.network_events.specs.WorldView.{WorldView}
+use Rattle.mvpn_tool.specs.FirstEvents.{IsBehindFirst, IsReached}
 use Rattle.mvpn_tool.specs.Report.{IsWholeRun}
 use Rattle.mvpn_tool.specs.declared.counts.Counts.{Counts}
 use Rattle.mvpn_tool.specs.declared.stop.Stop.{Stop}
@@ -41,17 +43,9 @@ abbrev pub is_calm : ReportLine → Bool
 is_calm (lines.State bytes copies buffers due unready) = bytes == 0 && (copies == 0 && (buffers == 0 && (due == 0 && unready == 0)))
 is_calm other = false
 
--- a number, or the greatest one of 64 bits where it is more
-abbrev pub counted : ℕ → ℕ
-counted number = min number 18446744073709551615
-
 -- how many lines of a report are of each kind
 abbrev pub counts_in : List ReportLine → Counts
-counts_in all = record {
-  outs = counted (count_by is_out all);
-  refused = counted (count_by is_refused all);
-  calm = counted (count_by is_calm all);
-}
+counts_in all = record { outs = count_by is_out all; refused = count_by is_refused all; calm = count_by is_calm all }
 
 abbrev pub counts_of : List Entry → Counts
 counts_of report = counts_in (lines_of report)
@@ -63,9 +57,9 @@ no_counts = record { outs = 0; refused = 0; calm = 0 }
 -- the counts behind one more line
 abbrev pub with_line : Counts → ReportLine → Counts
 with_line old line = record {
-  outs = if is_out line then counted (old.outs + 1) else old.outs;
-  refused = if is_refused line then counted (old.refused + 1) else old.refused;
-  calm = if is_calm line then counted (old.calm + 1) else old.calm;
+  outs = if is_out line then old.outs + 1 else old.outs;
+  refused = if is_refused line then old.refused + 1 else old.refused;
+  calm = if is_calm line then old.calm + 1 else old.calm;
 }
 
 -- ---- what is written
@@ -83,7 +77,7 @@ pub record CountsOn (timed : Timed) (view : WorldView) (at : IsReached timed vie
   pub acts : List Happened
   pub state : World
   pub is : outcome at.world timed ≡ Done acts state
-  pub behind : IsBehind at.cores at.script (at.count + 1) (at.trace ++ traced at.count acts) state now
+  pub behind : IsBehindFirst at.cores at.script (at.count + 1) (at.trace ++ traced at.count acts) state now
   pub told : after ≡ fold with_line before (lines_in acts)
 
 -- The event lacks a label.
@@ -104,9 +98,14 @@ pub record SweepsWhole (script : Script) (swept : Swept) : Type 0 where
   pub cores : Cores
   pub trace : List Traced
   pub state : World
-  pub behind : IsBehind cores script (length script.events) trace state swept.world
+  pub behind : IsBehindFirst cores script (length script.events) trace state swept.world
   pub whole : IsWholeRun cores script trace state
   pub counts : swept.counts ≡ counts_of (report_of trace)
+
+-- Behind any first events of the script, run by these cores, each node holds at most 260 of its labels.
+abbrev pub HoldsFewLabels : Cores → Script → Type 0
+HoldsFewLabels cores script = (count : ℕ) (trace : List Traced) (state : World) (node : NodeId) →
+    Run cores script (take count script.events) trace state → labels_held (part_of (state.network.state.node node)) ≤ 260
 
 -- None of its events lacks a label.
 abbrev pub NeverHalts : Script → Type 0
@@ -120,10 +119,11 @@ pub record IsMade (Holds : Script → Type 0) (number : ℕ) : Type 0 where
   pub said : script_of (made number) ≡ Ok script
   pub holds : Holds script
 
--- All events of the script ran, this is written of their run, and the world is behind it.
+-- All events of the script ran, with few labels at each node; this is written of their run, and the world is behind it.
 pub record TellsNumbers (Written : List ℕ → Type 0) (number : ℕ) (view : WorldView) (script : Script) : Type 0 where
   pub counts : Counts
   pub whole : SweepsWhole script (record { world = view; counts = counts })
+  pub labels : HoldsFewLabels whole.cores script
   pub text : Written (sweep_text number (length whole.state.datagrams) counts)
 
 -- The line of its numbers was written.

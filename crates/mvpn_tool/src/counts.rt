@@ -1,11 +1,11 @@
 //! How many lines of a report are of which kind.
-ghost use Rattle.std.specs.Prelude.{◌≡◌, fold};
+ghost use Rattle.std.specs.Prelude.{◌≡◌, ◌+◌, fold, OnOk};
 ghost use Rattle.mvpn_tool.specs.Sweep.{is_calm, no_counts, with_line};
 
+use mv_base::NoMemory;
 use scenario_defs::ReportLine;
 
-/// How often a datagram left at an interface, how many events were refused, and how many states were told of five zeros. Each is the
-/// greatest number of 64 bits where there are more.
+/// How often a datagram left at an interface, how many events were refused, and how many states were told of five zeros.
 #[derive(Clone, Copy, PartialEq, Eq)]
 pub struct Counts {
     pub outs: u64,
@@ -29,6 +29,14 @@ fn is_calm(line: &ReportLine) -> bool
     }
 }
 
+/// One more. A count that 64 bits do not hold wants memory.
+fn count_up(count: &mut u64) -> Result<(), NoMemory>
+    ensures { OnOk result (count.new ≡ count.old + 1) }
+{
+    *count = count.checked_add(1).ok_or(NoMemory)?;
+    Ok(())
+}
+
 impl Counts {
     pub(crate) fn none() -> Counts
         ensures { result ≡ no_counts }
@@ -41,26 +49,24 @@ impl Counts {
     }
 
     /// Counts a line.
-    fn add(&mut self, line: &ReportLine)
-        ensures { self.new ≡ with_line self.old line.now }
+    fn add(&mut self, line: &ReportLine) -> Result<(), NoMemory>
+        ensures { OnOk result (self.new ≡ with_line self.old line.now) }
     {
         match line {
-            ReportLine::Out { .. } => self.outs = self.outs.saturating_add(1),
-            ReportLine::Refused { .. } => self.refused = self.refused.saturating_add(1),
-            _ => {
-                if is_calm(line) {
-                    self.calm = self.calm.saturating_add(1);
-                }
-            }
+            ReportLine::Out { .. } => count_up(&mut self.outs),
+            ReportLine::Refused { .. } => count_up(&mut self.refused),
+            _ if is_calm(line) => count_up(&mut self.calm),
+            _ => Ok(()),
         }
     }
 
     /// Counts some lines.
-    pub(crate) fn add_all(&mut self, lines: &[ReportLine])
-        ensures { self.new ≡ fold with_line self.old lines.now }
+    pub(crate) fn add_all(&mut self, lines: &[ReportLine]) -> Result<(), NoMemory>
+        ensures { OnOk result (self.new ≡ fold with_line self.old lines.now) }
     {
         for line in lines {
-            self.add(line);
+            self.add(line)?;
         }
+        Ok(())
     }
 }

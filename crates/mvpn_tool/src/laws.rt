@@ -10,18 +10,20 @@ ghost use Rattle.mvpn_tool.specs.Known.{KnownRuns};
 ghost use Rattle.mvpn_tool.specs.Outcome.{Place};
 ghost use Rattle.mvpn_tool.specs.Report.{event_lines};
 
-use core_laws::each_scenario_has_cores;
 use license_laws::{halting_runs_are_local, runs_are_local};
-use line_laws::lines_name_what_is_there;
-use once_laws::{
+use network_events::of_network_laws::core_laws::each_scenario_has_cores;
+use network_events::of_once_laws::{
     each_run_is_safe, halting_runs_are_safe, halting_runs_deliver_once, runs_deliver_once,
 };
+use run_laws::line_laws::lines_name_what_is_there;
+use run_laws::of_rule_laws::runs_keep_the_label_rule;
+use run_laws::script_values::{events_have_octets, scenario_has_octets};
 use run_laws::{
     a_plain_report_says_as_much, first_events_of_a_run_run, one_run_or_one_halt,
-    readable_events_are_sound,
+    readable_events_are_sound, state_lines_report_unready,
 };
 use scenario_defs::Script;
-use script_values::{events_have_octets, scenario_has_octets};
+use settle_laws::{drain_drains, settle_settles};
 
 /// What a script holds is octets.
 pub(crate) fn script_has_octets(script: &Script)
@@ -49,6 +51,10 @@ pub(crate) fn runs_are_known()
     each_run_is_safe();
     runs_deliver_once();
     runs_are_local();
+    runs_keep_the_label_rule();
+    state_lines_report_unready();
+    settle_settles();
+    drain_drains();
     halting_runs_are_safe();
     halting_runs_deliver_once();
     halting_runs_are_local();

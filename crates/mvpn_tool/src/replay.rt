@@ -15,10 +15,10 @@ use crate::input::read_all;
 use crate::laws::{lines_are_known, runs_are_known, script_has_octets};
 use crate::report::{put_lines, text_of_fault};
 use crate::stop::Stop;
-use edge_home::copied_scenario;
 use mv_base::{Bytes, NodeId};
 use mv_io::{Sink, Source, write_all};
 use network_events::{Halt, World};
+use run_laws::of_edge_routes::edge_home::copied_scenario;
 use scenario_defs::{Lines, ReportLine, Scenario, Script, Timed};
 use scenario_text::{ReadFault, TextFault, read};
 use std::alloc::Global;
@@ -90,7 +90,7 @@ fn replay_event<K: Sink>(
 {
     lines_are_known();
     let mut lines = Lines::new(alloc);
-    match world.step(timed, &mut lines) {
+    match world.step(timed.line, &timed.event, &mut lines) {
         Ok(()) => write_lines(detail, scenario, &lines, text, sink),
         Err(Halt::NoMemory) => Err(Stop::Memory),
         Err(Halt::NoLabel(node)) => {

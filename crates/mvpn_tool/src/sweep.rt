@@ -5,7 +5,7 @@ ghost use Rattle.mv_io.specs.Octets.{Appended, AppendedPart};
 ghost use Rattle.scenario_defs.specs.Rules.{ScriptRules};
 ghost use Rattle.scenario_text.specs.Grammar.{script_of};
 ghost use Rattle.generator.specs.Made.{made};
-ghost use Rattle.network_events.specs.Behind.{IsReached};
+ghost use Rattle.mvpn_tool.specs.FirstEvents.{IsReached};
 ghost use Rattle.mvpn_tool.specs.Sweep.{EventCounts, NeverHalts, SweepEnds, SweepsWhole, sweep_text};
 ghost use Rattle.mvpn_tool.specs.declared.stop.Stop.TheVariants as stops;
 
@@ -13,7 +13,7 @@ use crate::counts::Counts;
 use crate::laws::{runs_are_known, script_has_octets};
 use crate::stop::Stop;
 use generator::put_made;
-use made_laws::{made_runs_never_halt, made_texts_are_read};
+use made_laws::{made_nodes_hold_few_labels, made_runs_never_halt, made_texts_are_read};
 use mv_base::{Bytes, NoMemory};
 use mv_io::{Sink, write_all};
 use network_events::{Halt, World};
@@ -40,9 +40,9 @@ fn sweep_event(
     ensures others { IfErr result (λ stop. (stop ≡ stops.Label) ⊎ (stop ≡ stops.Memory)) }
 {
     let mut lines = Lines::new(alloc);
-    match world.step(timed, &mut lines) {
+    match world.step(timed.line, &timed.event, &mut lines) {
         Ok(()) => {
-            counts.add_all(lines.as_slice());
+            counts.add_all(lines.as_slice())?;
             Ok(())
         }
         Err(Halt::NoMemory) => Err(Stop::Memory),
@@ -138,7 +138,7 @@ fn sweep_read<K: Sink>(
 {
     made_texts_are_read();
     made_runs_never_halt();
-    script_has_octets(&script);
+    made_nodes_hold_few_labels();
     let swept = sweep_script(alloc, script)?;
     match write_numbers(alloc, number, &swept, sink) {
         Ok(()) => {

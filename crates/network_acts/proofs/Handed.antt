@@ -1,4 +1,4 @@
 -- Lemmas of the crates below that the events of a network need.
-pub use Rattle.control_plane.proofs.EndLemmas.{raise_has, session_itself}
-pub use Rattle.link_copies.proofs.Holders.{two_copies}
-pub use Rattle.datagram_acts.proofs.Pooled.{has_held, is_named}
+pub use Rattle.network_acts.proofs.control_plane.EndLemmas.{raise_has, session_itself}
+pub use Rattle.data_plane.proofs.link_copies.Holders.{two_copies}
+pub use Rattle.data_plane.proofs.datagram_acts.Pooled.{has_held, is_named}

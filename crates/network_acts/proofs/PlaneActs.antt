@@ -6,10 +6,10 @@ use Rattle.mv_base.specs.declared.ids.NodeId.{NodeId}
 use Rattle.mv_base.specs.declared.memory.NoMemory.{NoMemory}
 use Rattle.scenario_defs.specs.declared.report.ReportLine.{ReportLine}
 use Rattle.scenario_defs.specs.declared.scenario.Scenario.{Scenario}
-use Rattle.session_defs.specs.Octets as octets
-use Rattle.session_defs.specs.Octets.{OctetAct, OctetNetwork, octet_run}
-use Rattle.session_defs.specs.System.{Behind}
-use Rattle.session_defs.specs.declared.direction.Direction.{Direction}
+use Rattle.network_defs.specs.session_defs.Octets as octets
+use Rattle.network_defs.specs.session_defs.Octets.{OctetAct, OctetNetwork, octet_run}
+use Rattle.network_defs.specs.session_defs.System.{Behind}
+use Rattle.network_defs.specs.declared.session_defs.direction.Direction.{Direction}
 use Rattle.edge_defs.specs.Steps.{Call}
 use Rattle.mldp_node.specs.declared.fault.NodeFault.{NodeFault}
 use Rattle.network_defs.specs.Acts.{Act, At, Tick, act, aged, at_node, put_line, put_lines, with_aged, with_network}
@@ -18,15 +18,15 @@ use Rattle.network_defs.specs.Counts.{directions}
 use Rattle.network_defs.specs.Nodes.{Nodes}
 use Rattle.network_defs.specs.System.{Elapse, NodeCall, Own, system}
 use Rattle.network_defs.specs.World.{World, scenario_of}
-use Rattle.control_plane.specs.Acted as planes
-use Rattle.control_plane.specs.Acted.{Acted, Acts, IsIn, Standing}
-use Rattle.control_plane.specs.Customers.{CustomerActs}
-use Rattle.control_plane.specs.Passing as passing
-use Rattle.control_plane.specs.Plane.{IsPlane, Moment}
-use Rattle.control_plane.specs.PlaneView.{PlaneView}
-use Rattle.control_plane.specs.declared.customers.Verdict.{Verdict}
-use Rattle.datagram_acts.specs.DatagramsView.{DatagramsView}
-use Rattle.datagram_acts.specs.Stored.{IsIdle}
+use Rattle.network_acts.specs.control_plane.Acted as planes
+use Rattle.network_acts.specs.control_plane.Acted.{Acted, Acts, IsIn, Standing}
+use Rattle.network_acts.specs.control_plane.Customers.{CustomerActs}
+use Rattle.network_acts.specs.control_plane.Passing as passing
+use Rattle.network_acts.specs.control_plane.Plane.{IsPlane, Moment}
+use Rattle.network_acts.specs.control_plane.PlaneView.{PlaneView}
+use Rattle.network_acts.specs.declared.control_plane.customers.Verdict.{Verdict}
+use Rattle.data_plane.specs.datagram_acts.DatagramsView.{DatagramsView}
+use Rattle.data_plane.specs.datagram_acts.Stored.{IsIdle}
 use Rattle.network_acts.specs.Acting.{ActsAs, Made, Passes, PassesAs}
 use Rattle.network_acts.specs.Customers.{CustomerActsAs}
 use Rattle.network_acts.specs.Instant.{Any, Instant, IsSome, IsWorld, OfPlane, standing_of}

@@ -12,10 +12,10 @@ use Rattle.network_defs.specs.Counts.{all_copies, all_nodes, datagrams_with_copy
 use Rattle.network_defs.specs.World.{World, scenario_of}
 use Rattle.network_laws.proofs.Lists.{each_weaker}
 use Rattle.network_laws.proofs.RunNodes.{HasNodes, sessions_within}
-use Rattle.control_plane.specs.Acted as planes
-use Rattle.control_plane.specs.Acted.{IsIn, Standing}
-use Rattle.control_plane.specs.Queries.{HasEnds, HaveEnds, without_copies}
-use Rattle.datagram_acts.specs.Stored.{AreLinked, IsIdle}
+use Rattle.network_acts.specs.control_plane.Acted as planes
+use Rattle.network_acts.specs.control_plane.Acted.{IsIn, Standing}
+use Rattle.network_acts.specs.control_plane.Queries.{HasEnds, HaveEnds, without_copies}
+use Rattle.data_plane.specs.datagram_acts.Stored.{AreLinked, IsIdle}
 use Rattle.network_acts.specs.Acting.{Made}
 use Rattle.network_acts.specs.Instant.{Any, Instant, IsSome, IsWorld, standing_of}
 use Rattle.network_acts.specs.NetworkView.{NetworkView}

@@ -6,7 +6,7 @@ use Rattle.scenario_defs.specs.declared.report.ReportLine.{ReportLine}
 use Rattle.mldp_node.specs.declared.fault.NodeFault.{NodeFault}
 use Rattle.mldp_node.specs.declared.fault.NodeFault.TheVariants as halts
 use Rattle.network_defs.specs.Acts.{Act, Acted, act}
-use Rattle.control_plane.specs.Plane.{Moment}
+use Rattle.network_acts.specs.control_plane.Plane.{Moment}
 use Rattle.network_acts.specs.Instant.{Instant, IsWorld}
 use Rattle.network_acts.specs.NetworkView.{NetworkView}
 

@@ -6,9 +6,9 @@ use Rattle.edge_defs.specs.Steps.{Call}
 use Rattle.mldp_node.specs.declared.fault.NodeFault.{NodeFault}
 use Rattle.mldp_node.specs.declared.fault.NodeFault.TheVariants as halts
 use Rattle.network_defs.specs.Acts.{At, act}
-use Rattle.control_plane.specs.Acted.{Standing}
-use Rattle.control_plane.specs.declared.customers.Verdict.{Verdict}
-use Rattle.control_plane.specs.declared.customers.Verdict.TheVariants as verdicts
+use Rattle.network_acts.specs.control_plane.Acted.{Standing}
+use Rattle.network_acts.specs.declared.control_plane.customers.Verdict.{Verdict}
+use Rattle.network_acts.specs.declared.control_plane.customers.Verdict.TheVariants as verdicts
 use Rattle.network_acts.specs.Acting.{Made}
 use Rattle.network_acts.specs.Instant.{Instant, IsWorld, standing_of}
 use Rattle.network_acts.specs.NetworkView.{NetworkView}

@@ -1,4 +1,4 @@
--- A datagram that is being handled, and what is known of all that were accepted.
+-- A datagram that is being sent or handled, and what is known of all that were accepted.
 use Rattle.std.specs.Prelude.{◌≡◌, ◌++◌, ℕ, List, Ok, length}
 use Rattle.std.specs.List.{AllByRecursion}
 use Rattle.mv_base.specs.declared.ids.NodeId.{NodeId}
@@ -10,18 +10,18 @@ use Rattle.scenario_defs.specs.declared.report.ReportLine.{ReportLine}
 use Rattle.edge_defs.specs.Datagrams.{Fate}
 use Rattle.network_defs.specs.Acts.{Acted, Enter, Land, act, fate_at, with_ttl, without_copy}
 use Rattle.network_defs.specs.World.{Datagram, LinkCopy, World, scenario_of}
-use Rattle.link_copies.specs.declared.kept.Landed.{Landed}
-use Rattle.control_plane.specs.Acted.{IsCurrent, IsIn}
-use Rattle.datagram_acts.specs.Stored as stored
-use Rattle.datagram_acts.specs.Stored.{Handles}
+use Rattle.data_plane.specs.declared.link_copies.kept.Landed.{Landed}
+use Rattle.network_acts.specs.control_plane.Acted.{IsCurrent, IsIn}
+use Rattle.data_plane.specs.datagram_acts.Stored as stored
+use Rattle.data_plane.specs.datagram_acts.Stored.{Handles, IsSending}
 use Rattle.network_acts.specs.Instant.{Instant, standing_of}
 use Rattle.network_acts.specs.NetworkView.{NetworkView}
 
--- The network is that world, and the datagram of that number is being handled.
+-- The network is that world, and the datagram of that number is being sent: its copies are not on links yet.
 pub record IsHandling (at : Instant) (number : ℕ) (datagram : Datagram) (network : NetworkView) : Type 0 where
   pub scenario : network.scenario ≡ scenario_of at.world
   pub plane : IsIn (standing_of at) network.plane
-  pub datagrams : Handles at.world number datagram network.datagrams
+  pub datagrams : IsSending at.world number datagram network.datagrams
 
 -- the datagram's octets are a packet of its flow
 abbrev pub IsOfFlow : Datagram → Type 0
@@ -35,23 +35,24 @@ pub record MayLand (n : NodeId) (at : Instant) : Type 0 where
   pub node : IsCurrent n (standing_of at)
   pub flows : AreOfFlows at.world
 
--- the network is some world in which a datagram is being handled, and with which this holds
+-- the network is some world in which a datagram is being sent, and with which this holds
 abbrev pub IsSomeHandling : (Instant → Type 0) → NetworkView → Type 0
 IsSomeHandling Fits network = (at : Instant) × (number : ℕ) × (datagram : Datagram) × Fits at × IsHandling at number datagram network
 
 -- The datagram that was accepted last enters at the VRF: the act leads to a world that the network is, in which that datagram is still
--- handled, and its lines stand behind those of before.
+-- being sent, and its lines stand behind those of before.
 pub record Enters (at : Instant) (vrf : VrfId) (datagram : Datagram) (lines new_lines : List ReportLine) (new : NetworkView) : Type 0 where
   pub behind : Acted
   pub is : act at.world (Enter vrf) ≡ Ok behind
   pub stands : IsHandling (record at { world = behind.world }) (length behind.world.datagrams) datagram new
   pub told : new_lines ≡ lines ++ behind.lines
 
--- the datagram was sent by that site, and is of the flow of that packet
+-- the datagram was sent by that site, and is that packet
 pub record IsSentBy (sender : SiteId) (packet : Packet) (datagram : Datagram) : Type 0 where
   pub site : datagram.site ≡ sender
   pub source : datagram.source ≡ packet.source
   pub group : datagram.group ≡ packet.group
+  pub octets : datagram.octets ≡ packet.octets
 
 -- ---- a copy that has landed
 
@@ -60,6 +61,12 @@ pub record HasLanded (at : Instant) (from to : NodeId) (place : ℕ) (landed : L
   pub scenario : network.scenario ≡ scenario_of at.world
   pub plane : IsIn (standing_of at) network.plane
   pub left : stored.HasLanded at.world from to place landed network.datagrams
+
+-- The network is that world, and the datagram of that number, of which a copy has landed, is being handled.
+pub record IsLanding (at : Instant) (number : ℕ) (datagram : Datagram) (network : NetworkView) : Type 0 where
+  pub scenario : network.scenario ≡ scenario_of at.world
+  pub plane : IsIn (standing_of at) network.plane
+  pub datagrams : Handles at.world number datagram network.datagrams
 
 -- the network is some world in which such a copy has landed
 abbrev pub IsSomeLanded : NodeId → NodeId → Landed → NetworkView → Type 0
@@ -77,5 +84,5 @@ pub record Lands (at : Instant) (from to : NodeId) (place : ℕ) (lines new_line
   pub datagram : Datagram
   pub behind : Acted
   pub is : act at.world (Land from to place) ≡ Ok behind
-  pub stands : IsHandling (record at { world = behind.world }) number datagram new
+  pub stands : IsLanding (record at { world = behind.world }) number datagram new
   pub told : new_lines ≡ lines ++ behind.lines

@@ -3,9 +3,9 @@ use Rattle.std.specs.Prelude.{◌≡◌}
 use Rattle.scenario_defs.specs.declared.scenario.Scenario.{Scenario}
 use Rattle.network_defs.specs.Costs.{Cores}
 use Rattle.network_defs.specs.World.{World, scenario_of, start}
-use Rattle.control_plane.specs.Acted.{IsIn, Standing}
-use Rattle.control_plane.specs.Plane.{Moment, at_rest}
-use Rattle.datagram_acts.specs.Stored.{IsIdle}
+use Rattle.network_acts.specs.control_plane.Acted.{IsIn, Standing}
+use Rattle.network_acts.specs.control_plane.Plane.{Moment, at_rest}
+use Rattle.data_plane.specs.datagram_acts.Stored.{IsIdle}
 use Rattle.network_acts.specs.NetworkView.{NetworkView}
 
 -- A world at a moment of an event, with the cores by the costs of links.

@@ -3,8 +3,8 @@ use Rattle.std.specs.Prelude.{refl}
 use Rattle.std.specs.Coded.{Coded, code_by, coded×}
 use Rattle.scenario_defs.specs.declared.scenario.Scenario.{Scenario}
 use Rattle.scenario_defs.specs.contracts.scenario.Scenario as scenarios
-use Rattle.control_plane.specs.PlaneView.{PlaneView, plane_code}
-use Rattle.datagram_acts.specs.DatagramsView.{DatagramsView, view_code}
+use Rattle.network_acts.specs.control_plane.PlaneView.{PlaneView, plane_code}
+use Rattle.data_plane.specs.datagram_acts.DatagramsView.{DatagramsView, view_code}
 
 -- The scenario, the control plane, and the datagrams on links.
 pub record NetworkView : Type 0 where

@@ -1,13 +1,13 @@
 -- Words of the control plane and of the datagrams in which the acts of a network are said.
-pub use Rattle.control_plane.specs.Acted.{IsCurrent, IsIn, IsWithin, Standing, same_moment, with_current}
-pub use Rattle.control_plane.specs.Customers.{IsIfaceEdge, IsMessageTo, IsUnselected, IsVrfEdge, control_at, is_message_full, is_note_full, is_selection_full}
-pub use Rattle.control_plane.specs.Moving.{IsMovable}
-pub use Rattle.control_plane.specs.Passing.{all_late}
-pub use Rattle.control_plane.specs.Plane.{Moment, at_rest}
-pub use Rattle.control_plane.specs.Queries.{EdgeView, data_of, home_in, home_of, node_place}
-pub use Rattle.control_plane.specs.Queries.{IsCoreThere, IsEdgeOf, IsEdgeThere, IsNoCore, IsNoEdge}
-pub use Rattle.control_plane.specs.Sessions.{IsDown, IsHalfUp, IsLost, none_rising, with_rising}
-pub use Rattle.control_plane.specs.declared.customers.Verdict.{Verdict}
-pub use Rattle.control_plane.specs.declared.customers.Verdict.TheVariants.{Full as VerdictFull, Made as VerdictMade}
-pub use Rattle.link_copies.specs.CopiesData.{CopiesData, IsShared, KeptCopy, is_way, kept_at}
-pub use Rattle.datagram_acts.specs.Stored.{AreLinked, Buffers, Held, IsLive, Stores, held, with_datagram}
+pub use Rattle.network_acts.specs.control_plane.Acted.{IsCurrent, IsIn, IsWithin, Standing, same_moment, with_current}
+pub use Rattle.network_acts.specs.control_plane.Customers.{IsIfaceEdge, IsMessageTo, IsUnselected, IsVrfEdge, control_at, is_message_full, is_note_full, is_selection_full}
+pub use Rattle.network_acts.specs.control_plane.Moving.{IsMovable}
+pub use Rattle.network_acts.specs.control_plane.Passing.{all_late}
+pub use Rattle.network_acts.specs.control_plane.Plane.{Moment, at_rest}
+pub use Rattle.network_acts.specs.control_plane.Queries.{EdgeView, data_of, home_in, home_of, node_place, octets_waiting}
+pub use Rattle.network_acts.specs.control_plane.Queries.{IsCoreThere, IsEdgeOf, IsEdgeThere}
+pub use Rattle.network_acts.specs.control_plane.Sessions.{IsDown, IsHalfUp, IsLost, none_rising, with_rising}
+pub use Rattle.network_acts.specs.declared.control_plane.customers.Verdict.{Verdict}
+pub use Rattle.network_acts.specs.declared.control_plane.customers.Verdict.TheVariants.{Full as VerdictFull, Made as VerdictMade}
+pub use Rattle.data_plane.specs.link_copies.CopiesData.{CopiesData, IsShared, KeptCopy, is_way, kept_at}
+pub use Rattle.data_plane.specs.datagram_acts.Stored.{AreLinked, Buffers, Held, IsLive, Stores, held, with_datagram}

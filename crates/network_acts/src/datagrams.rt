@@ -1,21 +1,19 @@
 //! Datagrams: they are accepted, enter at VRFs, and their copies land or are dropped (RFC 6513 sections 9.1.1 and 12, RFC 3032).
-ghost use Rattle.std.specs.Prelude.{◌≡◌, ◌<◌, ◌+◌, ◌^◌, ℕ, IfOk, OnOk, OnErr, length};
-ghost use Rattle.mv_base.specs.declared.addr.Addr.{Addr};
-ghost use Rattle.mv_base.specs.declared.ids.SiteId.{SiteId};
+ghost use Rattle.std.specs.Prelude.{◌≡◌, ◌<◌, ◌+◌, ◌^◌, ℕ, IfOk, OnOk, length};
 ghost use Rattle.edge_defs.specs.Datagrams as fates;
 ghost use Rattle.network_defs.specs.Acts as acts;
 ghost use Rattle.network_defs.specs.World as worlds;
-ghost use Rattle.control_plane.specs.Queries.{IsEdgeOf, IsFate};
-ghost use Rattle.datagram_acts.specs.Stored.{with_datagram};
+ghost use Rattle.network_acts.specs.control_plane.Queries.{IsEdgeOf, IsFate};
+ghost use Rattle.data_plane.specs.datagram_acts.Stored.{with_datagram};
 ghost use Rattle.network_acts.specs.Acting.{Made, Passes};
 ghost use Rattle.network_acts.specs.Handling.{Enters, HasLanded, IsHandling, IsSentBy};
 ghost use Rattle.network_acts.specs.Handling.{IsSomeHandling, IsSomeLanded, Lands, MayLand, landing_fate};
 ghost use Rattle.network_acts.specs.Instant.{Any, Instant, IsSome, IsWorld, OfPlane, standing_of};
 
+use crate::control_plane::Fate;
 use crate::network::Network;
-use control_plane::Fate;
+use data_plane::link_copies::Landed;
 use label_forwarding::{Datagram, read_packet};
-use link_copies::Landed;
 use mv_base::{NoMemory, NodeId, Seq, SiteId, VrfId};
 use scenario_defs::{Lines, ReportLine};
 use std::alloc::Global;
@@ -35,23 +33,18 @@ fn with_ttl(alloc: Global, ttl: u8, fate: Fate) -> Fate
 }
 
 impl Network {
-    /// A datagram of these octets is accepted, and is the one that is being handled. Answers its number, counted from 1.
-    pub fn accept(&mut self, octets: &[u8]) -> Result<u64, NoMemory>
-        requires network { IsSome Any self.old }
+    /// A datagram is accepted, and is the one that is being sent. Answers its number, counted from 1.
+    pub fn accept(&mut self) -> u64
         requires room { self.old.datagrams.count + 1 < 2 ^ 64 }
-        ensures number { IfOk result (λ number. (at : Instant) → IsWorld at self.old → number ≡ length at.world.datagrams + 1) }
-        ensures accepted { OnOk result ((at : Instant) (site : SiteId) (source group : Addr) → IsWorld at self.old →
-            IsHandling (record at {
-              world = with_datagram (record { site = site; source = source; group = group; octets = octets.now })
-                  at.world;
-            })
-            (length at.world.datagrams + 1) (record { site = site; source = source; group = group; octets = octets.now }) self.new) }
-        ensures unchanged { OnErr result (self.new ≡ self.old) }
+        ensures number { (at : Instant) → IsWorld at self.old → result ≡ length at.world.datagrams + 1 }
+        ensures accepted { (at : Instant) (datagram : worlds.Datagram) → IsWorld at self.old →
+            IsHandling (record at { world = with_datagram datagram at.world }) (length at.world.datagrams + 1) datagram self.new }
     {
-        self.datagrams.accept(octets)
+        self.datagrams.accept()
     }
 
-    /// The datagram that was accepted last, and is being handled, enters at the VRF, whose edge is node n.
+    /// The datagram that was accepted last, and is being sent, enters at the VRF, whose edge is node n. Its copies are on links from
+    /// `finish` on, when the branches at all VRFs are known.
     pub fn enter(
         &mut self,
         n: NodeId,
@@ -66,21 +59,23 @@ impl Network {
     {
         let alloc = lines.alloc();
         let fate = self.plane.enter(alloc, vrf, n, site, datagram)?;
-        self.datagrams.leave(
+        self.datagrams.enter(
             n,
-            255,
-            self.plane.clock(),
+            datagram.bytes(),
             fate.outs.as_slice(),
             fate.branches.as_slice(),
             lines,
         )
     }
 
-    /// The datagram is no longer handled.
-    pub fn finish(&mut self)
-        ensures { (at : Instant) (number : ℕ) (datagram : worlds.Datagram) → IsHandling at number datagram self.old → IsWorld at self.new }
+    /// The datagram that was being sent, of these octets, goes on all its branches: its octets are put into one buffer, which counts its
+    /// copies, and where it has no branch there is no buffer.
+    pub fn finish(&mut self, octets: &[u8]) -> Result<(), NoMemory>
+        requires network { IsSomeHandling Any self.old }
+        ensures { OnOk result ((at : Instant) (number : ℕ) (datagram : worlds.Datagram) → IsHandling at number datagram self.old →
+            octets.now ≡ datagram.octets → IsWorld at self.new) }
     {
-        self.datagrams.finish();
+        self.datagrams.send(self.plane.clock(), octets)
     }
 
     /// Where the copy goes that landed.

@@ -4,8 +4,8 @@ ghost use Rattle.scenario_defs.specs.Rules.{Rules};
 ghost use Rattle.network_defs.specs.Costs.{AreCoresOf, Cores};
 ghost use Rattle.network_acts.specs.Instant.{IsWorld, beginning};
 
-use control_plane::ControlPlane;
-use datagram_acts::Datagrams;
+use crate::control_plane::ControlPlane;
+use data_plane::datagram_acts::Datagrams;
 use mv_base::NoMemory;
 use scenario_defs::Scenario;
 use std::alloc::Global;
@@ -28,6 +28,10 @@ impl Model for Network {
     ghost coded = { network_code };
 
     ghost view = { λ n. record { scenario = n.scenario; plane = n.plane; datagrams = n.datagrams } };
+
+    ghost use Rattle.network_acts.specs.control_plane.Plane.{ArePlaced};
+
+    ghost invariant = { λ n. ArePlaced n.scenario n.plane.nodes };
 }
 
 impl Network {

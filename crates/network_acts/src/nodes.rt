@@ -1,8 +1,8 @@
 //! Acts of time and of nodes: the clock, timers, costs and restarts.
 ghost use Rattle.std.specs.Prelude.{◌+◌, ◌<◌, ◌≤◌, ◌^◌, length};
 ghost use Rattle.network_defs.specs.Acts.{Reroute, Restart, SetCost, Tick, Timers};
-ghost use Rattle.control_plane.specs.Acted.{IsCurrent, IsWithin, same_moment, with_current};
-ghost use Rattle.control_plane.specs.Passing.{all_late};
+ghost use Rattle.network_acts.specs.control_plane.Acted.{IsCurrent, IsWithin, same_moment, with_current};
+ghost use Rattle.network_acts.specs.control_plane.Passing.{all_late};
 ghost use Rattle.network_acts.specs.Acting.{ActsAs, Passes, PassesAs};
 ghost use Rattle.network_acts.specs.Instant.{Any, Instant, IsSome, IsWorld, OfPlane};
 

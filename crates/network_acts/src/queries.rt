@@ -1,21 +1,22 @@
 //! What is asked of a network. Nothing changes.
-ghost use Rattle.std.specs.Prelude.{◌≡◌, length, IfSome, None};
+ghost use Rattle.std.specs.Prelude.{◌≡◌, ◌<◌, length, true, false};
 ghost use Rattle.std.specs.FinMap as maps;
 ghost use Rattle.network_defs.specs.Counts.{all_copies, direction, is_end_up, octets_in_transit};
-ghost use Rattle.control_plane.specs.Acted.{IsWithin};
-ghost use Rattle.control_plane.specs.Customers.{IsVrfEdge, control_at};
-ghost use Rattle.control_plane.specs.Queries.{IsCoreThere, IsEdgeThere, IsNoCore, IsNoEdge};
-ghost use Rattle.link_copies.specs.CopiesData.{IsShared};
-ghost use Rattle.datagram_acts.specs.Stored.{AreLinked};
+ghost use Rattle.network_defs.specs.Nodes.{is_edge};
+ghost use Rattle.network_acts.specs.control_plane.Acted.{IsWithin};
+ghost use Rattle.network_acts.specs.control_plane.Customers.{IsVrfEdge, control_at};
+ghost use Rattle.network_acts.specs.control_plane.Queries.{IsCoreThere, IsEdgeThere};
+ghost use Rattle.data_plane.specs.link_copies.CopiesData.{IsShared};
+ghost use Rattle.data_plane.specs.datagram_acts.Stored.{AreLinked};
 ghost use Rattle.network_acts.specs.Instant.{Instant, IsSome, IsWorld, OfPlane, standing_of};
 
+use crate::control_plane::Edge;
 use crate::network::Network;
-use control_plane::Edge;
-use datagram_acts::Pool;
+use data_plane::datagram_acts::Pool;
 use mldp_node::LdpNode;
 use mv_base::{NodeId, Pattern, VrfId};
+use network_defs::session_defs::Direction;
 use scenario_defs::Kind;
-use session_defs::Direction;
 
 impl Network {
     /// The clock, in ticks.
@@ -65,20 +66,27 @@ impl Network {
         self.plane.is_selected(n, vrf, pattern)
     }
 
-    /// The node of that number, where it is an edge.
-    pub fn edge(&self, n: NodeId) -> Option<&Edge>
-        ensures is { IfSome result (λ edge. (at : Instant) → IsWorld at self.now → IsEdgeThere (standing_of at) n edge.now) }
-        ensures none { result ≡ None → (at : Instant) → IsWorld at self.now → IsNoEdge (standing_of at) n }
+    /// The node of that number, which is an edge.
+    pub fn edge(&self, n: NodeId) -> &Edge
+        requires edge { is_edge self.now.scenario n ≡ true }
+        ensures { (at : Instant) → IsWorld at self.now → IsEdgeThere (standing_of at) n result.now }
     {
-        self.plane.edge(n)
+        match self.plane.edge(n) {
+            Some(edge) => edge,
+            None => unreachable!(),
+        }
     }
 
-    /// The label part of the node of that number, where it is a core node.
-    pub fn core_node(&self, n: NodeId) -> Option<&LdpNode>
-        ensures is { IfSome result (λ labels. (at : Instant) → IsWorld at self.now → IsCoreThere (standing_of at) n labels.now) }
-        ensures none { result ≡ None → (at : Instant) → IsWorld at self.now → IsNoCore (standing_of at) n }
+    /// The label part of the node of that number, which is a core node.
+    pub fn core_node(&self, n: NodeId) -> &LdpNode
+        requires within { n.0 < length self.now.scenario.nodes }
+        requires core { is_edge self.now.scenario n ≡ false }
+        ensures { (at : Instant) → IsWorld at self.now → IsCoreThere (standing_of at) n result.now }
     {
-        self.plane.core_node(n)
+        match self.plane.core_node(n) {
+            Some(labels) => labels,
+            None => unreachable!(),
+        }
     }
 
     /// The buffers of the copies and of the datagram that is being handled.

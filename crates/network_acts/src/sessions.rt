@@ -1,17 +1,17 @@
 //! Acts on sessions: octets are moved, a session is lost, its loss is noticed, and its ends come up.
 ghost use Rattle.network_defs.specs.Acts as acts;
 ghost use Rattle.network_defs.specs.Counts.{direction};
-ghost use Rattle.control_plane.specs.Acted.{same_moment};
-ghost use Rattle.control_plane.specs.Moving.{IsMovable};
-ghost use Rattle.control_plane.specs.Sessions.{IsDown, IsHalfUp, IsLost, none_rising, with_rising};
+ghost use Rattle.network_acts.specs.control_plane.Acted.{same_moment};
+ghost use Rattle.network_acts.specs.control_plane.Moving.{IsMovable};
+ghost use Rattle.network_acts.specs.control_plane.Sessions.{IsDown, IsHalfUp, IsLost, none_rising, with_rising};
 ghost use Rattle.network_acts.specs.Acting.{ActsAs, Passes};
 ghost use Rattle.network_acts.specs.Instant.{Instant, IsSome, IsWorld, OfPlane};
 
 use crate::network::Network;
 use mldp_node::NodeFault;
 use mv_base::NodeId;
+use network_defs::session_defs::Direction;
 use scenario_defs::{Kind, Lines};
-use session_defs::Direction;
 
 impl Network {
     /// The first so many octets in transit over the direction, or all where there are fewer, go to the receiver.

@@ -2,7 +2,7 @@
 ghost use Rattle.std.specs.Prelude.{◌≡◌, ◌<◌, IfOk, OnOk};
 ghost use Rattle.mvpn_model.specs.Sessions as models;
 ghost use Rattle.network_defs.specs.Acts.{Tell};
-ghost use Rattle.datagram_acts.specs.Stored.{AreLinked};
+ghost use Rattle.data_plane.specs.datagram_acts.Stored.{AreLinked};
 ghost use Rattle.network_acts.specs.Acting.{Made};
 ghost use Rattle.network_acts.specs.Instant.{Any, Instant, IsSome, IsWorld};
 

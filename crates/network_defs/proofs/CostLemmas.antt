@@ -4,8 +4,8 @@ use Rattle.std.specs.List.{AllByRecursion}
 use Rattle.std.proofs.lemmas.Bool.{cases_eq, cases_lt}
 use Rattle.mv_base.specs.declared.core_link.Link.{Link}
 use Rattle.mv_base.specs.declared.ids.NodeId.{NodeId}
-use Rattle.core_walks.specs.Costs.{joins, priced_if, with_cost}
-use Rattle.core_walks.specs.Topology.{HasCost, HasEnds}
+use Rattle.mv_base.specs.core_walks.Costs.{joins, priced_if, with_cost}
+use Rattle.mv_base.specs.core_walks.Topology.{HasCost, HasEnds}
 use Rattle.scenario_defs.specs.declared.scenario.Scenario.{Scenario}
 use Rattle.edge_defs.proofs.CoreLemmas.{one_core}
 use Rattle.network_defs.specs.Costs.{AreRepriced, Cores, AreCoresOf}

@@ -9,10 +9,10 @@ use Rattle.std.specs.Cmp.Lexicographic.{nat_list_cmp_total}
 use Rattle.std.proofs.lemmas.Cmp.{on_total, lists_total}
 use Rattle.mv_base.specs.Number.{◌>>?◌}
 use Rattle.mv_base.specs.declared.ids.NodeId.{NodeId}
-use Rattle.mldp_fec.specs.declared.fec.Fec.{Fec}
-use Rattle.pim_defs.specs.Entries.{entry_cmp, iface_entry_key, kept_at}
-use Rattle.pim_defs.specs.Expiry.{counts}
-use Rattle.pim_defs.specs.declared.expiry.Expiry.{Expiry}
+use Rattle.label_defs.specs.mldp.declared.mldp_fec.fec.Fec.{Fec}
+use Rattle.edge_defs.specs.pim_defs.Entries.{entry_cmp, iface_entry_key, kept_at}
+use Rattle.edge_defs.specs.pim_defs.Expiry.{counts}
+use Rattle.edge_defs.specs.pim_defs.declared.expiry.Expiry.{Expiry}
 use Rattle.scenario_defs.specs.declared.event.Kind.TheVariants as kinds
 use Rattle.label_defs.specs.declared.branch.Branch.{Branch}
 use Rattle.label_defs.specs.declared.end.End.{End}
@@ -28,19 +28,19 @@ use Rattle.label_defs.specs.Members.{in_order}
 use Rattle.label_defs.proofs.KeyLemmas.{fec_cmp_total, fec_cmp_exact, branch_cmp_total, branch_cmp_exact}
 use Rattle.label_defs.proofs.MemberLemmas.{none_in_order}
 use Rattle.edge_defs.specs.Keys.{addr_key, same_value}
-use Rattle.table_defs.specs.Changes.{changes}
-use Rattle.edge_defs.specs.Edge.{Note, note_cmp, Upstream, VrfFlow, Taken, Selected, VrfPattern, no_control, flow_cmp, pattern_cmp}
+use Rattle.mv_base.specs.table_defs.Changes.{changes}
+use Rattle.edge_defs.specs.Edge.{Note, note_cmp, Upstream, VrfFlow, Taken, Selected, VrfPattern, EdgeData, no_control, flow_cmp, pattern_cmp}
 use Rattle.edge_defs.specs.Flows.{flows_at, vrf_flows, is_flow, with_upstream, joined_by, active_from, noted_flow}
 use Rattle.edge_defs.specs.Held.{put_to, told}
 use Rattle.edge_defs.specs.Imported.{found_in}
 use Rattle.edge_defs.specs.Originated.{is_iface_of}
 use Rattle.edge_defs.specs.Place.{EdgePlace, OwnVrf, own_vrfs, label_place, addr_of}
 use Rattle.edge_defs.specs.Steps as steps
-use Rattle.edge_defs.specs.Steps.{edge_step, control_step, refreshed, timed, selection_run, taken_run, changed_leaves, one_call, own_label_call, label_row, part_after}
+use Rattle.edge_defs.specs.Steps.{edge_step, control_step, refreshed, timed, selection_run, taken_run, changed_leaves, one_call, own_label_call, label_row, part_after, raised_after}
 use Rattle.edge_defs.specs.Tunnels.{leaves, tunnels_of, inclusive_tunnels, flow_tunnels}
 use Rattle.mvpn_model.specs.Sessions.{edges}
 use Rattle.network_defs.specs.Nodes.{NodeState, Edge, CoreNode, Nodes, with_node, place_of, label_place_of}
-use Rattle.node_defs.specs.Puts.{bgp_put, bgp_puts, label_puts}
+use Rattle.network_defs.specs.node_defs.Puts.{bgp_put, bgp_puts, label_puts}
 use Rattle.network_defs.specs.System.{node_called, core_called}
 use Rattle.network_defs.proofs.Nothing.{flat_none, no_entries, empty_by, no_union, none_retained}
 
@@ -94,13 +94,33 @@ no_changed_leaves place =
     ∙ (λ i. map (λ fec. if sets.contains (sets.empty {R = fec_cmp}) fec then label_calls.Want fec else label_calls.Unwant fec)
     (filter (λ fec. not (sets.contains (sets.empty {R = fec_cmp}) fec && sets.contains (sets.empty {R = fec_cmp}) fec)) ((ap in_order (no_union fec_cmp_total fec_cmp_exact) ∙ none_in_order fec_cmp_total) i)))
 
+-- a call with a label step of its own raises and loses no BGP session
+raises_stay : (now : ℕ) (old : FinMap node_cmp ℕ) (call : steps.Call) (own : label_calls.Call) → own_label_call call ≡ Some own → raised_after now old call ≡ old
+raises_stay now old (steps.Label neighbour message) own e = refl
+raises_stay now old (steps.Raised kinds.Ldp peer) own e = refl
+raises_stay now old (steps.Raised kinds.Bgp peer) own e = absurd cc
+raises_stay now old (steps.Noticed kinds.Ldp peer) own e = refl
+raises_stay now old (steps.Noticed kinds.Bgp peer) own e = absurd cc
+raises_stay now old (steps.Update peer message) own e = refl
+raises_stay now old (steps.Pim iface message) own e = refl
+raises_stay now old (steps.Active iface source group) own e = refl
+raises_stay now old (steps.Idle iface source group) own e = refl
+raises_stay now old (steps.Select vrf pattern) own e = refl
+raises_stay now old (steps.Unselect vrf pattern) own e = refl
+raises_stay now old steps.Timers own e = refl
+raises_stay now old steps.Rerouted own e = refl
+
+-- an edge that keeps a label part alone
+abbrev edge_of : LabelData → EdgeData
+edge_of part = record { control = no_control; part = part; raised = maps.empty }
+
 -- a step that changes no control makes its own label step alone
 idle_edge_step : (place : EdgePlace) (now : ℕ) (part : LabelData) (call : steps.Call) (own : label_calls.Call) (new : Stepped) → own_label_call call ≡ Some own → control_step place now no_control call ≡ no_control → label_step (label_place place.scenario place.core place.me) now part own ≡ Some new
-    → edge_step place now (record { control = no_control; part = part }) call ≡ Some (record { edge = record { control = no_control; part = new.part }; row = record { old = part; call = own; new = new } ∷ [] })
+    → edge_step place now (edge_of part) call ≡ Some (record { edge = edge_of new.part; row = record { old = part; call = own; new = new } ∷ [] })
 idle_edge_step place now part call own new calls same made =
-    (λ i. label_row place now part (one_call (calls i) ++ changed_leaves (leaves place no_control) (leaves place (same i))) >>? λ row. Some (record { edge = record { control = same i; part = part_after part row }; row = row }))
-    ∙ (λ i. label_row place now part (own ∷ no_changed_leaves place i) >>? λ row. Some (record { edge = record { control = no_control; part = part_after part row }; row = row }))
-    ∙ (λ i. (made i >>? λ next. label_row place now next.part [] >>? λ behind. Some (record { old = part; call = own; new = next } ∷ behind)) >>? λ row. Some (record { edge = record { control = no_control; part = part_after part row }; row = row }))
+    (λ i. label_row place now part (one_call (calls i) ++ changed_leaves (leaves place no_control) (leaves place (same i))) >>? λ row. Some (record { edge = record { control = same i; part = part_after part row; raised = raises_stay now maps.empty call own calls i }; row = row }))
+    ∙ (λ i. label_row place now part (own ∷ no_changed_leaves place i) >>? λ row. Some (record { edge = edge_of (part_after part row); row = row }))
+    ∙ (λ i. (made i >>? λ next. label_row place now next.part [] >>? λ behind. Some (record { old = part; call = own; new = next } ∷ behind)) >>? λ row. Some (record { edge = edge_of (part_after part row); row = row }))
 
 no_bgp_puts : (place : EdgePlace) → bgp_puts place no_control no_control ≡ []
 no_bgp_puts place = flat_none (λ peer. map (bgp_put place.me peer) (put_to place no_control no_control peer)) none (edges place.scenario)
@@ -112,7 +132,7 @@ no_bgp_puts place = flat_none (λ peer. map (bgp_put place.me peer) (put_to plac
 
 -- an edge or a core node that keeps a label part alone
 abbrev pub as_node : Bool → LabelData → NodeState
-as_node edge part = if edge then Edge (record { control = no_control; part = part }) else CoreNode part
+as_node edge part = if edge then Edge (edge_of part) else CoreNode part
 
 idle_called : (nodes : Nodes) (n : NodeId) (edge : Bool) (part new : LabelData) (call : steps.Call) (own : label_calls.Call) → own_label_call call ≡ Some own → control_step (place_of nodes n) nodes.clock no_control call ≡ no_control
     → label_step (label_place_of nodes n) nodes.clock part own ≡ Some (record { part = new; puts = [] })

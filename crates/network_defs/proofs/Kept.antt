@@ -10,7 +10,7 @@ use Rattle.scenario_defs.specs.declared.report.ReportLine.{ReportLine}
 use Rattle.scenario_defs.specs.declared.report.ReportLine.TheVariants as lines
 use Rattle.scenario_defs.specs.declared.scenario.Vrf.{Vrf}
 use Rattle.label_defs.specs.declared.branch.Branch.{Branch}
-use Rattle.session_defs.specs.Octets.{OctetNetwork}
+use Rattle.network_defs.specs.session_defs.Octets.{OctetNetwork}
 use Rattle.edge_defs.specs.Datagrams.{Fate, entering_fate}
 use Rattle.edge_defs.specs.Place.{OwnVrf}
 use Rattle.network_defs.specs.Acts.{Act, Enter, Land, Acted, with_branches, copy_on, fated, datagram_at, enters_at, entering, fate_at, with_ttl, landed, without_copy, landing, act}

@@ -3,9 +3,9 @@ use Rattle.std.proofs.Common.{◌≡◌, ℕ, ◌+◌, ◌&&◌, Bool, true, fal
 use Rattle.std.specs.FinMap as maps
 use Rattle.std.specs.FinMap.{find}
 use Rattle.mv_base.specs.declared.ids.NodeId.{NodeId}
-use Rattle.pim_defs.specs.Entries.{entry_cmp}
-use Rattle.pim_defs.specs.Expiry.{is_after}
-use Rattle.pim_defs.specs.declared.expiry.Expiry.{Expiry}
+use Rattle.edge_defs.specs.pim_defs.Entries.{entry_cmp}
+use Rattle.edge_defs.specs.pim_defs.Expiry.{is_after}
+use Rattle.edge_defs.specs.pim_defs.declared.expiry.Expiry.{Expiry}
 use Rattle.scenario_defs.specs.declared.event.Kind.{Kind}
 use Rattle.scenario_defs.specs.declared.event.Kind.TheVariants as kinds
 use Rattle.scenario_defs.specs.declared.report.ReportLine.{ReportLine}

@@ -12,10 +12,10 @@ use Rattle.scenario_defs.specs.declared.scenario.Vrf.{Vrf}
 use Rattle.label_defs.specs.LabelData.{use_of, branches_of}
 use Rattle.label_defs.specs.declared.branch.Branch.{Branch}
 use Rattle.scenario_defs.specs.Kinds.{same_kind}
-use Rattle.session_defs.specs.Octets as octets
-use Rattle.session_defs.specs.Octets.{OctetAct, octet_run}
-use Rattle.session_defs.specs.System.{Put, Behind, octets_over}
-use Rattle.session_defs.specs.declared.direction.Direction.{Direction}
+use Rattle.network_defs.specs.session_defs.Octets as octets
+use Rattle.network_defs.specs.session_defs.Octets.{OctetAct, octet_run}
+use Rattle.network_defs.specs.session_defs.System.{Put, Behind, octets_over}
+use Rattle.network_defs.specs.declared.session_defs.direction.Direction.{Direction}
 use Rattle.edge_defs.specs.Datagrams.{Fate, discarded, tree_of, entering_fate, arriving_fate}
 use Rattle.edge_defs.specs.Place.{OwnVrf}
 use Rattle.edge_defs.specs.Steps as steps

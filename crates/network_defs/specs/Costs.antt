@@ -1,9 +1,9 @@
 -- The costs of links, which events change, and the core that a node knows by the costs that it has acted on.
 use Rattle.std.specs.Prelude.{◌≡◌, List, [], ◌∷◌, length, None}
 use Rattle.mv_base.specs.declared.core_link.Link.{Link}
-use Rattle.core_walks.specs.Topology.{HasCost}
+use Rattle.mv_base.specs.core_walks.Topology.{HasCost}
 use Rattle.scenario_defs.specs.declared.scenario.Scenario.{Scenario}
-use Rattle.core_walks.specs.Core.{Core, IsCoreOf}
+use Rattle.mv_base.specs.core_walks.Core.{Core, IsCoreOf}
 
 -- The same links, in the same order, each at some cost of 1 to 65535.
 abbrev pub AreRepriced : List Link → List Link → Type 0

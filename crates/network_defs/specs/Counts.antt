@@ -9,7 +9,7 @@ use Rattle.scenario_defs.specs.declared.report.ReportLine.{ReportLine}
 use Rattle.scenario_defs.specs.declared.report.ReportLine.TheVariants as lines
 use Rattle.scenario_defs.specs.declared.scenario.Scenario.{Scenario}
 use Rattle.label_defs.specs.LabelData as labels
-use Rattle.session_defs.specs.declared.direction.Direction.{Direction}
+use Rattle.network_defs.specs.declared.session_defs.direction.Direction.{Direction}
 use Rattle.edge_defs.specs.Due as edges
 use Rattle.mvpn_model.specs.Sessions.{sessions}
 use Rattle.mvpn_model.specs.declared.session.Session.{Session}

@@ -6,12 +6,12 @@ use Rattle.std.specs.FinMap as maps
 use Rattle.std.specs.FinSet as sets
 use Rattle.mv_base.specs.declared.ids.NodeId.{NodeId}
 use Rattle.mv_base.specs.declared.ids.VrfId.{VrfId}
-use Rattle.framing.specs.Cut.{Yields}
-use Rattle.mldp_fec.specs.declared.fec.Fec.{Fec}
-use Rattle.mldp_msgs.specs.FirstFault.{PduFault}
-use Rattle.mldp_msgs.specs.Spelling.{SpellsPdu}
-use Rattle.mldp_msgs.specs.declared.message.LabelMessage.{LabelMessage}
-use Rattle.mldp_msgs.specs.declared.message.LabelMessage.TheVariants as messages
+use Rattle.mv_base.specs.framing.Cut.{Yields}
+use Rattle.label_defs.specs.mldp.declared.mldp_fec.fec.Fec.{Fec}
+use Rattle.label_defs.specs.mldp.mldp_msgs.FirstFault.{PduFault}
+use Rattle.label_defs.specs.mldp.mldp_msgs.Spelling.{SpellsPdu}
+use Rattle.label_defs.specs.mldp.declared.mldp_msgs.message.LabelMessage.{LabelMessage}
+use Rattle.label_defs.specs.mldp.declared.mldp_msgs.message.LabelMessage.TheVariants as messages
 use Rattle.scenario_defs.specs.Vpn.{same_vpn, vrf_of_site}
 use Rattle.scenario_defs.specs.declared.event.Kind.TheVariants as kinds
 use Rattle.scenario_defs.specs.declared.scenario.Scenario.{Scenario}

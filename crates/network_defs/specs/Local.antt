@@ -6,14 +6,14 @@ use Rattle.mv_base.specs.declared.ids.IfaceId.{IfaceId}
 use Rattle.mv_base.specs.declared.ids.NodeId.{NodeId}
 use Rattle.mv_base.specs.declared.ids.VrfId.{VrfId}
 use Rattle.mv_base.specs.declared.pattern.Pattern.{Pattern}
-use Rattle.mldp_fec.specs.declared.fec.Fec.{Fec}
-use Rattle.mldp_msgs.specs.Labels.{HasLabel}
-use Rattle.mvpn_nlri.specs.declared.route.Afi.{Afi}
-use Rattle.mvpn_nlri.specs.declared.route.Route.TheVariants as routes
-use Rattle.bgp_attributes.specs.declared.key.Key.{Key}
-use Rattle.bgp_attributes.specs.declared.key.Key.TheVariants.{Mcast}
-use Rattle.bgp_attributes.specs.declared.update.Advert.{Advert}
-use Rattle.bgp_update.specs.Table.{HasRoute}
+use Rattle.label_defs.specs.mldp.declared.mldp_fec.fec.Fec.{Fec}
+use Rattle.label_defs.specs.mldp.mldp_msgs.Labels.{HasLabel}
+use Rattle.edge_defs.specs.bgp_values.declared.mvpn_nlri.route.Afi.{Afi}
+use Rattle.edge_defs.specs.bgp_values.declared.mvpn_nlri.route.Route.TheVariants as routes
+use Rattle.edge_defs.specs.bgp_messages.declared.bgp_attributes.key.Key.{Key}
+use Rattle.edge_defs.specs.bgp_messages.declared.bgp_attributes.key.Key.TheVariants.{Mcast}
+use Rattle.edge_defs.specs.bgp_messages.declared.bgp_attributes.update.Advert.{Advert}
+use Rattle.edge_defs.specs.bgp_messages.bgp_update.Table.{HasRoute}
 use Rattle.scenario_defs.specs.declared.event.Kind.{Kind}
 use Rattle.scenario_defs.specs.declared.event.Kind.TheVariants as kinds
 use Rattle.scenario_defs.specs.declared.report.ReportLine.{ReportLine}

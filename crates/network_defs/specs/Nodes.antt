@@ -8,7 +8,7 @@ use Rattle.label_defs.specs.LabelData.{LabelData, Place}
 use Rattle.edge_defs.specs.Edge as edges
 use Rattle.edge_defs.specs.Edge.{EdgeData}
 use Rattle.edge_defs.specs.Place.{EdgePlace, label_place}
-use Rattle.core_walks.specs.Core.{Core}
+use Rattle.mv_base.specs.core_walks.Core.{Core}
 use Rattle.network_defs.specs.Costs.{Cores}
 
 pub data NodeState : Type 0 where

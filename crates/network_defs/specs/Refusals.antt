@@ -7,7 +7,7 @@ use Rattle.std.specs.FinSet as sets
 use Rattle.mv_base.specs.declared.ids.NodeId.{NodeId}
 use Rattle.mv_base.specs.declared.ids.VrfId.{VrfId}
 use Rattle.mv_base.specs.declared.pattern.Pattern.{Pattern}
-use Rattle.pim_defs.specs.Entries.{applied, are_too_many}
+use Rattle.edge_defs.specs.pim_defs.Entries.{applied, are_too_many}
 use Rattle.scenario_defs.specs.Vpn.{edge_of}
 use Rattle.scenario_defs.specs.declared.event.Event.{Event}
 use Rattle.scenario_defs.specs.declared.event.Event.TheVariants as events

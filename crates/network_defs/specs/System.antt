@@ -2,19 +2,19 @@
 use Rattle.std.specs.Prelude.{ℕ, ◌+◌, [], Option, None, Some}
 use Rattle.mv_base.specs.Number.{◌>>?◌}
 use Rattle.mv_base.specs.declared.ids.NodeId.{NodeId}
-use Rattle.core_walks.specs.Costs.{with_cost}
+use Rattle.mv_base.specs.core_walks.Costs.{with_cost}
 use Rattle.label_defs.specs.LabelData.{LabelData}
 use Rattle.label_defs.specs.Steps as labels
 use Rattle.label_defs.specs.Steps.{label_step}
-use Rattle.session_defs.specs.System.{Stepped, System}
+use Rattle.network_defs.specs.session_defs.System.{Stepped, System}
 use Rattle.edge_defs.specs.Edge.{EdgeData}
 use Rattle.edge_defs.specs.Place.{addr_of}
 use Rattle.edge_defs.specs.Steps as steps
 use Rattle.edge_defs.specs.Steps.{edge_step, own_label_call}
 use Rattle.network_defs.specs.Nodes.{NodeState, Edge, CoreNode, Nodes, fresh_node, with_node, following, place_of, label_place_of}
-use Rattle.node_defs.specs.Puts.{label_puts}
-pub use Rattle.node_defs.specs.EdgeState.{call_of}
-use Rattle.node_defs.specs.EdgeState.{edge_puts}
+use Rattle.network_defs.specs.node_defs.Puts.{label_puts}
+pub use Rattle.network_defs.specs.node_defs.EdgeState.{call_of}
+use Rattle.network_defs.specs.node_defs.EdgeState.{edge_puts}
 
 -- ---- steps of a node
 

@@ -3,9 +3,9 @@ use Rattle.std.specs.Prelude.{ℕ, zero, suc, ◌==◌, ◌&&◌, false, List, [
 use Rattle.mv_base.specs.declared.addr.Addr.{Addr}
 use Rattle.mv_base.specs.declared.ids.NodeId.{NodeId}
 use Rattle.mv_base.specs.declared.ids.SiteId.{SiteId}
-use Rattle.framing.specs.Feed.{unfed}
+use Rattle.mv_base.specs.framing.Feed.{unfed}
 use Rattle.scenario_defs.specs.declared.scenario.Scenario.{Scenario}
-use Rattle.session_defs.specs.Octets.{OctetNetwork}
+use Rattle.network_defs.specs.session_defs.Octets.{OctetNetwork}
 use Rattle.network_defs.specs.Costs.{Cores}
 use Rattle.network_defs.specs.Nodes.{Nodes, start_nodes}
 

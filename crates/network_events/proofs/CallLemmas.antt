@@ -14,7 +14,9 @@ use Rattle.network_acts.specs.Acting.{ActsAs}
 use Rattle.network_acts.specs.Customers.{CustomerActsAs}
 use Rattle.network_acts.specs.Instant.{Instant, IsWorld, OfPlane, standing_of}
 use Rattle.network_acts.specs.NetworkView.{NetworkView}
-use Rattle.network_acts.specs.Words.{Standing, Verdict, VerdictFull, VerdictMade, same_moment}
+use Rattle.network_acts.specs.Words.{Standing, same_moment}
+use Rattle.network_acts.specs.declared.control_plane.customers.Verdict.{Verdict}
+use Rattle.network_acts.specs.declared.control_plane.customers.Verdict.TheVariants.{Full as VerdictFull, Made as VerdictMade}
 use Rattle.network_events.specs.Customers.{verdict_at}
 use Rattle.network_events.specs.Doing.{answer_at}
 use Rattle.network_events.specs.Meeting.{IsReady, Meets, met}

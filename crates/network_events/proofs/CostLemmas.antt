@@ -4,14 +4,14 @@ use Rattle.mv_base.specs.declared.ids.NodeId.{NodeId}
 use Rattle.label_defs.proofs.KeyLemmas.{node_cases, node_itself}
 use Rattle.scenario_defs.specs.declared.report.ReportLine.{ReportLine}
 use Rattle.scenario_defs.specs.declared.scenario.Scenario.{Scenario}
-use Rattle.session_defs.specs.declared.direction.Direction.{Direction}
+use Rattle.network_defs.specs.declared.session_defs.direction.Direction.{Direction}
 use Rattle.network_defs.specs.Acts as acts
 use Rattle.network_defs.specs.Acts.{Act, Acted, act}
 use Rattle.network_defs.specs.Counts.{node_ids}
 use Rattle.network_defs.specs.Events.{Happened, Done, and_then, cost_acts, row}
 use Rattle.network_defs.specs.World.{World, scenario_of}
 use Rattle.network_defs.proofs.Kept.{Comes, Gives, row_keeps}
-use Rattle.network_laws.proofs.Lists.{each_of}
+use Rattle.network_acts.proofs.network_laws.Lists.{each_of}
 use Rattle.network_acts.specs.Instant.{Instant, IsSome, IsWorld, OfPlane}
 use Rattle.network_acts.specs.NetworkView.{NetworkView}
 use Rattle.network_acts.specs.Words.{IsWithin, Moment, all_late, at_rest, same_moment, with_current}

@@ -18,7 +18,7 @@ use Rattle.pim_joinprune.specs.Reading.{decoded}
 use Rattle.pim_joinprune.specs.Spelling.{IsJoinPrune, written}
 use Rattle.pim_joinprune.specs.declared.fault.PimFault.{PimFault}
 use Rattle.pim_joinprune.specs.declared.message.JoinPrune.{JoinPrune}
-use Rattle.pim_laws.proofs.DecodingLemmas.{spelled_read}
+use Rattle.pim_joinprune.proofs.pim_laws.DecodingLemmas.{spelled_read}
 use Rattle.pim_defs.proofs.SingleLemmas.{join_spelled, prune_spelled}
 use Rattle.pim_defs.specs.Entries.{applied, are_too_many}
 use Rattle.pim_defs.specs.Single.{join_of, prune_of}
@@ -44,14 +44,15 @@ use Rattle.network_defs.specs.Events.{at_edge, done, with_message}
 use Rattle.network_defs.specs.Nodes.{CoreNode, Edge, NodeState}
 use Rattle.network_defs.specs.Refusals.{are_sessions_full, control_at, control_of, edge_of_vrf, is_selected, message_refusal, note_limit, refusal, refused_if, selection_limit, selections_at}
 use Rattle.network_defs.specs.World.{World, clock_of, scenario_of}
-use Rattle.network_laws.proofs.RunMessages.{IsSoundGiven, join_is_sound, prune_is_sound, read_is_sound}
-use Rattle.network_laws.specs.Sound.{IsFlow, SoundNode, SoundPattern}
-use Rattle.run_laws.proofs.SoundEvents.{sound_event}
+use Rattle.network_acts.proofs.network_laws.RunMessages.{IsSoundGiven, join_is_sound, prune_is_sound, read_is_sound}
+use Rattle.network_acts.specs.network_laws.Sound.{IsFlow, SoundNode, SoundPattern}
+use Rattle.network_acts.proofs.run_laws.SoundEvents.{sound_event}
 use Rattle.network_acts.specs.Acting.{ActsAs}
 use Rattle.network_acts.specs.Customers.{CustomerActsAs}
 use Rattle.network_acts.specs.Instant.{Instant, IsSome, IsWorld, OfPlane, standing_of}
 use Rattle.network_acts.specs.NetworkView.{NetworkView}
-use Rattle.network_acts.specs.Words.{IsIfaceEdge, IsMessageTo, IsUnselected, IsVrfEdge, Verdict, is_message_full, is_note_full, is_selection_full, same_moment}
+use Rattle.network_acts.specs.Words.{IsIfaceEdge, IsMessageTo, IsUnselected, IsVrfEdge, is_message_full, is_note_full, is_selection_full, same_moment}
+use Rattle.network_acts.specs.declared.control_plane.customers.Verdict.{Verdict}
 use Rattle.network_events.specs.Customers.{Hands, HandsMessage, IsForIface, IsRead, IsWrittenFor, verdict_at}
 use Rattle.network_events.specs.Doing.{answer_at}
 use Rattle.network_events.specs.Meeting.{IsGiven, IsReady, Meets, met}

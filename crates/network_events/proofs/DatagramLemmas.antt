@@ -29,7 +29,7 @@ use Rattle.network_defs.specs.Refusals.{are_links_full, edge_of_vrf, refusal, re
 use Rattle.network_defs.specs.World.{Datagram, World, scenario_of}
 use Rattle.network_acts.specs.Acting.{Made}
 use Rattle.network_acts.specs.Handling.{Enters, IsHandling, IsSentBy, IsSomeHandling}
-use Rattle.network_acts.specs.Instant.{Instant, IsSome, IsWorld, OfPlane, standing_of}
+use Rattle.network_acts.specs.Instant.{Any, Instant, IsSome, IsWorld, OfPlane, standing_of}
 use Rattle.network_acts.specs.NetworkView.{NetworkView}
 use Rattle.network_acts.specs.Words.{IsEdgeOf, with_datagram}
 use Rattle.network_events.specs.Datagrams.{EntersAt, HasEntered, IsSent, IsSomeSent, Makes, Sends, of_memory}
@@ -165,51 +165,54 @@ module _ (site : SiteId) (packet : Packet) (old mid : NetworkView) where
   abbrev sent_one : Datagram
   sent_one = record { site = site; source = packet.source; group = packet.group; octets = packet.octets }
 
-  -- from every world that the network was, a datagram of these octets is handled in the one with it
-  abbrev pub AcceptsOf : List ℕ → Type 0
-  AcceptsOf octets = (at : Instant) (s : SiteId) (source group : Addr) → IsWorld at old → IsHandling (record at { world = with_datagram (record { site = s; source = source; group = group; octets = octets }) at.world })
-      (length at.world.datagrams + 1) (record { site = s; source = source; group = group; octets = octets }) mid
-
+  -- from every world that the network was, any datagram is being sent in the one with it
   abbrev pub Accepts : Type 0
-  Accepts = AcceptsOf packet.octets
+  Accepts = (at : Instant) (datagram : Datagram) → IsWorld at old → IsHandling (record at { world = with_datagram datagram at.world }) (length at.world.datagrams + 1) datagram mid
 
   accepted : Accepts → (at : Instant) → IsReady at → IsWorld at old → IsSent site packet sent_one mid (record at { world = with_datagram sent_one at.world })
   accepted accepts at ready is = record {
     rest = ready.resting.rest;
-    sent = record { site = refl; source = refl; group = refl };
-    stands = subst (λ n. IsHandling (record at { world = with_datagram sent_one at.world }) n sent_one mid) (sym (length-append at.world.datagrams (sent_one ∷ []))) (accepts at site packet.source packet.group is);
+    sent = record { site = refl; source = refl; group = refl; octets = refl };
+    stands = subst (λ n. IsHandling (record at { world = with_datagram sent_one at.world }) n sent_one mid) (sym (length-append at.world.datagrams (sent_one ∷ []))) (accepts at sent_one is);
   }
 
   pub some_sent : Accepts → IsSome IsReady old → IsSomeSent site packet mid
   some_sent accepts (at, ready, is) = (record at { world = with_datagram sent_one at.world }, sent_one, accepted accepts at ready is)
 
+  -- the datagram is still being sent once it has entered
+  pub some_behind : Accepts → (vrfs : List VrfId) (behind : NetworkView) (lines new_lines : List ReportLine) → EntersAt site packet vrfs mid behind lines new_lines
+      → IsSome IsReady old → IsSomeHandling Any behind
+  some_behind accepts vrfs behind lines new_lines enters (at, ready, is) =
+      let has = enters (record at { world = with_datagram sent_one at.world }) sent_one (accepted accepts at ready is) in
+      (record at { world = has.world }, length has.world.datagrams, sent_one, tt, has.stands)
+
   pub sent_all : Accepts → (vrfs : List VrfId) → vrfs ≡ entered old.scenario site → (behind new : NetworkView) (lines new_lines : List ReportLine) → EntersAt site packet vrfs mid behind lines new_lines
-      → ((at : Instant) (number : ℕ) (datagram : Datagram) → IsHandling at number datagram behind → IsWorld at new)
+      → (octets : List ℕ) → octets ≡ packet.octets → ((at : Instant) (number : ℕ) (datagram : Datagram) → IsHandling at number datagram behind → octets ≡ datagram.octets → IsWorld at new)
       → (at : Instant) → IsReady at → IsWorld at old → Did at at.moment (sent site packet.source packet.group packet.octets at.world) lines new_lines new
-  sent_all accepts vrfs all behind new lines new_lines enters finishes at ready is =
+  sent_all accepts vrfs all behind new lines new_lines enters octets text finishes at ready is =
       let has = enters (record at { world = with_datagram sent_one at.world }) sent_one (accepted accepts at ready is) in
       let same : vrfs ≡ entered (scenario_of at.world) site = all ∙ ap (λ (s : Scenario). entered s site) is.scenario in
       record {
         acts = has.acts;
         world = has.world;
         is = ap (λ (l : List VrfId). row (map (λ vrf. Enter vrf) l) (with_datagram sent_one at.world)) (sym same) ∙ has.is;
-        stands = finishes (record at { world = has.world }) (length has.world.datagrams) sent_one has.stands;
+        stands = finishes (record at { world = has.world }) (length has.world.datagrams) sent_one has.stands text;
         told = has.told;
       }
 
 -- ---- events that send octets
 
-abbrev refused_by : Option Refusal → Result Packet PacketFault → Option Refusal
-refused_by rest read = option_or (elim read [ Ok packet ↦ None | Err found ↦ Some (refusals.Bytes found.place (packet_word found.reason)) ]) rest
+abbrev refused_by : Option Refusal → Result Packet (ℕ × PacketFault) → Option Refusal
+refused_by rest read = option_or (elim read [ Ok packet ↦ None | Err found ↦ Some (refusals.Bytes found.0 (packet_word found.1)) ]) rest
 
 module _ (site : SiteId) (octets : List ℕ) where
   pub sends_octets : Sends site octets (events.Packet site octets)
   sends_octets = record { refuses = λ world. refl; does = λ world. refl }
 
-  abbrev source_or : Result Packet PacketFault → Addr
+  abbrev source_or : Result Packet (ℕ × PacketFault) → Addr
   source_or read = elim read [ Ok p ↦ p.source | Err found ↦ no_addr ]
 
-  abbrev group_or : Result Packet PacketFault → Addr
+  abbrev group_or : Result Packet (ℕ × PacketFault) → Addr
   group_or read = elim read [ Ok p ↦ p.group | Err found ↦ no_addr ]
 
   pub sends_written : (source group : Addr) (payload : List ℕ) → octets ≡ packet source group payload → packet_of octets ≡ Ok (record { source = source; group = group; octets = octets })
@@ -227,9 +230,9 @@ module _ (site : SiteId) (octets : List ℕ) where
     abbrev pub AreFull : Bool → Type 0
     AreFull full = (at : Instant) → IsReady at → IsWorld at old → are_links_full at.world ≡ full
 
-    pub octets_fault : (found : PacketFault) → packet_of octets ≡ Err found → Meets event old old lines lines (Ok (Some (refusals.Bytes found.place (packet_word found.reason))))
+    pub octets_fault : (found : ℕ × PacketFault) → packet_of octets ≡ Err found → Meets event old old lines lines (Ok (Some (refusals.Bytes found.0 (packet_word found.1))))
     octets_fault found read =
-        meets_refused event old lines (refusals.Bytes found.place (packet_word found.reason)) (λ at ready is. sends.refuses at.world ∙ ap (refused_by (refused_if (are_links_full at.world) refusals.Full)) read)
+        meets_refused event old lines (refusals.Bytes found.0 (packet_word found.1)) (λ at ready is. sends.refuses at.world ∙ ap (refused_by (refused_if (are_links_full at.world) refusals.Full)) read)
 
     why : (own : Packet) → packet_of octets ≡ Ok own → (full : Bool) → (at : Instant) → are_links_full at.world ≡ full → refusal at.world event ≡ refused_if full refusals.Full
     why own read full at is = sends.refuses at.world ∙ (ap (refused_by (refused_if (are_links_full at.world) refusals.Full)) read ∙ ap (λ (b : Bool). refused_if b refusals.Full) is)

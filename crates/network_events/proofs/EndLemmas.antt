@@ -4,15 +4,15 @@ use Rattle.std.proofs.lemmas.Bool.{and_parts, or_cases}
 use Rattle.std.proofs.lemmas.Option.{same_Some}
 use Rattle.mv_base.specs.Number.{◌>>?◌}
 use Rattle.mv_base.specs.declared.ids.NodeId.{NodeId}
-use Rattle.framing.specs.Feed.{unfed}
+use Rattle.mv_base.specs.framing.Feed.{unfed}
 use Rattle.label_defs.proofs.KeyLemmas.{node_apart, node_equal, node_itself}
 use Rattle.scenario_defs.specs.Rules.{Rules}
 use Rattle.scenario_defs.specs.declared.event.Kind.{Kind}
 use Rattle.scenario_defs.specs.declared.report.ReportLine.{ReportLine}
 use Rattle.scenario_defs.specs.declared.scenario.Scenario.{Scenario}
-use Rattle.session_defs.specs.Octets as octets
-use Rattle.session_defs.specs.Octets.{OctetNetwork, octet_act, octet_run}
-use Rattle.session_defs.specs.System.{Behind, with_earlier}
+use Rattle.network_defs.specs.session_defs.Octets as octets
+use Rattle.network_defs.specs.session_defs.Octets.{OctetNetwork, octet_act, octet_run}
+use Rattle.network_defs.specs.session_defs.System.{Behind, with_earlier}
 use Rattle.edge_defs.specs.Steps.{Call, Noticed, Raised}
 use Rattle.mldp_node.specs.declared.fault.NodeFault.{NodeFault}
 use Rattle.mvpn_model.specs.Sessions.{sessions}
@@ -25,11 +25,11 @@ use Rattle.network_defs.specs.Nodes.{Nodes}
 use Rattle.network_defs.specs.System.{Own, system}
 use Rattle.network_defs.specs.World.{World, scenario_of}
 use Rattle.network_defs.proofs.Kept.{Comes, Gives, both_give, one_comes, then_comes}
-use Rattle.wire_laws.specs.Edges.{IsWay, begins}
-use Rattle.wire_laws.specs.Ends.{HasCall, end_behind, is_raise}
-use Rattle.wire_laws.specs.Ways.{IsFound}
-use Rattle.wire_laws.proofs.EndLemmas.{calls_ends}
-use Rattle.wire_laws.proofs.WayLemmas.{reversed, session_found, two_ends, way_has}
+use Rattle.network_acts.specs.wire_laws.Edges.{IsWay, begins}
+use Rattle.network_acts.specs.wire_laws.Ends.{HasCall, end_behind, is_raise}
+use Rattle.network_acts.specs.wire_laws.Ways.{IsFound}
+use Rattle.network_acts.proofs.wire_laws.EndLemmas.{calls_ends}
+use Rattle.network_acts.proofs.wire_laws.WayLemmas.{reversed, session_found, two_ends, way_has}
 use Rattle.network_acts.specs.Acting.{ActsAs}
 use Rattle.network_acts.specs.Instant.{Instant, IsSome, IsWorld, OfPlane, standing_of}
 use Rattle.network_acts.specs.NetworkView.{NetworkView}

@@ -14,7 +14,7 @@ use Rattle.label_forwarding.specs.Reading.{fault, four_fault, four_of, octets_in
 use Rattle.label_forwarding.specs.Spelling.{Packet}
 use Rattle.label_forwarding.specs.Written.{MayBeSent, written}
 use Rattle.label_forwarding.specs.declared.fault.PacketFault.{PacketFault}
-use Rattle.label_forwarding.specs.declared.fault.PacketReason.TheVariants as reasons
+use Rattle.label_forwarding.specs.declared.fault.PacketFault.TheVariants as reasons
 use Rattle.scenario_defs.specs.Rules.{AreOfOneFamily, IsEventOf, IsGroup, IsUnicast, NamesFlow, payload_limit}
 use Rattle.scenario_defs.specs.declared.event.Event.{Event}
 use Rattle.scenario_defs.specs.declared.event.Event.TheVariants as events
@@ -27,13 +27,12 @@ use Rattle.network_defs.specs.Acts.{Act, Acted, act}
 use Rattle.network_defs.specs.Events.{Done, Happened, done, row}
 use Rattle.network_defs.specs.Refusals.{refusal, refused_if, are_links_full}
 use Rattle.network_defs.specs.World.{Datagram, World, scenario_of}
-use Rattle.network_laws.proofs.Lists.{each_append, each_of}
-use Rattle.delivery_laws.proofs.Delivery.{done_sends}
-use Rattle.delivery_laws.proofs.Outcomes.{Gives}
-use Rattle.delivery_laws.proofs.Silent.{Sent, act_sent}
-use Rattle.delivery_laws.specs.Once.{brought_by}
+use Rattle.network_acts.proofs.network_laws.Lists.{each_append, each_of}
+use Rattle.once_laws.proofs.delivery_laws.Delivery.{done_sends}
+use Rattle.once_laws.proofs.delivery_laws.Outcomes.{Gives}
+use Rattle.once_laws.proofs.delivery_laws.Silent.{Sent, act_sent}
+use Rattle.once_laws.specs.delivery_laws.Once.{brought_by}
 use Rattle.network_acts.specs.Handling.{AreOfFlows, IsOfFlow}
-use Rattle.network_events.specs.Meeting.{IsGiven}
 
 -- ---- datagrams stay
 
@@ -68,18 +67,18 @@ written_flow source group payload names few =
 -- ---- packets that are read
 
 module _ (octets : List ℕ) where
-  abbrev octets_of : Result Packet PacketFault → List ℕ
+  abbrev octets_of : Result Packet (ℕ × PacketFault) → List ℕ
   octets_of (Ok packet) = packet.octets
   octets_of (Err found) = octets
 
-  abbrev IsWhole : Result Packet PacketFault → Type 0
+  abbrev IsWhole : Result Packet (ℕ × PacketFault) → Type 0
   IsWhole read = octets_of read ≡ octets
 
-  if_whole : (b : Bool) (x y : Result Packet PacketFault) → IsWhole x → IsWhole y → IsWhole (cond b x y)
+  if_whole : (b : Bool) (x y : Result Packet (ℕ × PacketFault)) → IsWhole x → IsWhole y → IsWhole (cond b x y)
   if_whole true x y h k = h
   if_whole false x y h k = k
 
-  unless_whole : (o : Option PacketFault) (packet : Packet) → packet.octets ≡ octets → IsWhole (unless o packet)
+  unless_whole : (o : Option (ℕ × PacketFault)) (packet : Packet) → packet.octets ≡ octets → IsWhole (unless o packet)
   unless_whole None packet h = h
   unless_whole (Some found) packet h = refl
 
@@ -98,9 +97,9 @@ module _ (octets : List ℕ) where
   read_whole : IsWhole (packet_of octets)
   unfolding packet_of
   read_whole =
-      let last : Result Packet PacketFault = Err (fault 0 reasons.Version) in
-      let six : Result Packet PacketFault = cond (slice_index octets 0 / 16 == 6) (six_of octets) last in
-      let four : Result Packet PacketFault = cond (slice_index octets 0 / 16 == 4) (four_of octets) six in
+      let last : Result Packet (ℕ × PacketFault) = Err (fault 0 reasons.Version) in
+      let six : Result Packet (ℕ × PacketFault) = cond (slice_index octets 0 / 16 == 6) (six_of octets) last in
+      let four : Result Packet (ℕ × PacketFault) = cond (slice_index octets 0 / 16 == 4) (four_of octets) six in
       if_whole (nat_lt (length octets) 20) (Err (fault (length octets) reasons.Short)) four refl
       (if_whole (slice_index octets 0 / 16 == 4) (four_of octets) six four_whole (if_whole (slice_index octets 0 / 16 == 6) (six_of octets) last six_whole refl))
 
@@ -112,20 +111,20 @@ module _ (octets : List ℕ) where
   pub read_flow : (site : SiteId) → packet_fault octets ≡ None → IsOfFlow (record { site = site; source = source_in octets; group = group_in octets; octets = octets })
   read_flow site none = by (packet_of octets) refl none
     where
-      fault_in : Result Packet PacketFault → Option Refusal
-      fault_in read = elim read [ Ok packet ↦ None | Err found ↦ Some (refusals.Bytes found.place (packet_word found.reason)) ]
+      fault_in : Result Packet (ℕ × PacketFault) → Option Refusal
+      fault_in read = elim read [ Ok packet ↦ None | Err found ↦ Some (refusals.Bytes found.0 (packet_word found.1)) ]
 
-      by : (read : Result Packet PacketFault) → packet_of octets ≡ read → fault_in read ≡ None
+      by : (read : Result Packet (ℕ × PacketFault)) → packet_of octets ≡ read → fault_in read ≡ None
           → packet_of octets ≡ Ok (record { source = source_in octets; group = group_in octets; octets = octets })
       by (Ok packet) e h =
           e ∙ (λ i. Ok (record { source = ap source_or (sym e) i; group = ap group_or (sym e) i; octets = whole packet e i }))
         where
-          source_or : Result Packet PacketFault → Addr
+          source_or : Result Packet (ℕ × PacketFault) → Addr
           source_or r = elim r [ Ok p ↦ p.source | Err found ↦ no_addr ]
 
-          group_or : Result Packet PacketFault → Addr
+          group_or : Result Packet (ℕ × PacketFault) → Addr
           group_or r = elim r [ Ok p ↦ p.group | Err found ↦ no_addr ]
-      by (Err found) e h = absurd (none-some (refusals.Bytes found.place (packet_word found.reason)) (sym h))
+      by (Err found) e h = absurd (none-some (refusals.Bytes found.0 (packet_word found.1)) (sym h))
 
 -- ---- events
 
@@ -138,7 +137,7 @@ brought_flows world (events.Send site source group payload) free is = (written_f
 brought_flows world (events.Packet site octets) free is = (read_flow octets site (first_none (packet_fault octets) (refused_if (are_links_full world) refusals.Full) free), tt)
 brought_flows world other free is = tt
 
--- Behind an event that is not refused the datagrams are of their flows, where they were before.
-pub flows_behind : (world : World) (event : Event) (acts : List Happened) (new : World) → refusal world event ≡ None → done world event ≡ Done acts new → IsGiven (scenario_of world) event → AreOfFlows world → AreOfFlows new
+-- After an event that is not refused the datagrams are of their flows, where they were before.
+pub flows_behind : (world : World) (event : Event) (acts : List Happened) (new : World) → refusal world event ≡ None → done world event ≡ Done acts new → IsEventOf (scenario_of world) event → AreOfFlows world → AreOfFlows new
 flows_behind world event acts new free e is flows =
-    subst (AllByRecursion IsOfFlow) (sym (done_sends world event acts new e)) (each_append IsOfFlow world.datagrams (brought_by event) flows (brought_flows world event free is.of_it))
+    subst (AllByRecursion IsOfFlow) (sym (done_sends world event acts new e)) (each_append IsOfFlow world.datagrams (brought_by event) flows (brought_flows world event free is))

@@ -10,9 +10,9 @@ use Rattle.mvpn_model.specs.declared.session.Session.{Session}
 use Rattle.network_defs.specs.Counts.{direction, is_up}
 use Rattle.network_defs.specs.Events.{Outcome, Done, healed, is_session_of, notices, raise_acts, raises, row}
 use Rattle.network_defs.specs.World.{World, scenario_of}
-use Rattle.wire_laws.specs.Edges.{IsWay}
-use Rattle.wire_laws.proofs.SessionPairs.{session_has}
-use Rattle.wire_laws.proofs.WayLemmas.{has_way}
+use Rattle.network_acts.specs.wire_laws.Edges.{IsWay}
+use Rattle.network_acts.proofs.wire_laws.SessionPairs.{session_has}
+use Rattle.network_acts.proofs.wire_laws.WayLemmas.{has_way}
 use Rattle.network_acts.specs.Instant.{Instant, IsSome, IsWorld}
 use Rattle.network_acts.specs.NetworkView.{NetworkView}
 use Rattle.network_acts.specs.Words.{same_moment}

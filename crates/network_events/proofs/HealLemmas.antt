@@ -12,8 +12,8 @@ use Rattle.network_defs.specs.Counts.{direction, is_joined, is_up}
 use Rattle.network_defs.specs.Events.{Happened, Outcome, Done, and_then, healed, raise_acts, row}
 use Rattle.network_defs.specs.World.{World, scenario_of}
 use Rattle.network_defs.proofs.Kept.{Comes, Gives, both_give}
-use Rattle.wire_laws.specs.Edges.{IsWay}
-use Rattle.wire_laws.proofs.WayLemmas.{reversed}
+use Rattle.network_acts.specs.wire_laws.Edges.{IsWay}
+use Rattle.network_acts.proofs.wire_laws.WayLemmas.{reversed}
 use Rattle.network_acts.specs.Instant.{Instant, IsSome, IsWorld, OfPlane, standing_of}
 use Rattle.network_acts.specs.NetworkView.{NetworkView}
 use Rattle.network_acts.specs.Words.{IsLost, same_moment}

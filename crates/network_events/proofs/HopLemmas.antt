@@ -10,15 +10,15 @@ use Rattle.std.proofs.lemmas.Option.{slice_get-get_or}
 use Rattle.mv_base.specs.declared.core_link.Link.{Link}
 use Rattle.mv_base.specs.declared.ids.NodeId.{NodeId}
 use Rattle.mv_base.specs.declared.memory.NoMemory.{NoMemory}
-use Rattle.core_walks.proofs.WalkLemmas.{good}
-use Rattle.core_walks.specs.Topology.{HasEnds}
-use Rattle.core_walks.specs.Walks.{IsLinked}
+use Rattle.mv_base.proofs.core_walks.WalkLemmas.{good}
+use Rattle.mv_base.specs.core_walks.Topology.{HasEnds}
+use Rattle.mv_base.specs.core_walks.Walks.{IsLinked}
 use Rattle.scenario_defs.specs.Rules.{Rules}
 use Rattle.scenario_defs.specs.declared.event.Event.TheVariants as events
 use Rattle.scenario_defs.specs.declared.report.Refusal.TheVariants as refusals
 use Rattle.scenario_defs.specs.declared.report.ReportLine.{ReportLine}
 use Rattle.scenario_defs.specs.declared.scenario.Scenario.{Scenario}
-use Rattle.session_defs.specs.Octets.{OctetNetwork}
+use Rattle.network_defs.specs.session_defs.Octets.{OctetNetwork}
 use Rattle.network_defs.proofs.Kept.{Comes, Gives, land_keeps, row_keeps}
 use Rattle.network_defs.specs.Acts.{Act, Drop, Land, Tell, act}
 use Rattle.network_defs.specs.Counts.{link_ways}
@@ -26,7 +26,7 @@ use Rattle.network_defs.specs.Events.{Done, Happened, Outcome, done, drain_round
 use Rattle.network_defs.specs.Nodes.{Nodes}
 use Rattle.network_defs.specs.Refusals.{lacks_copy, refused_if}
 use Rattle.network_defs.specs.World.{World, scenario_of}
-use Rattle.network_laws.proofs.Lists.{each_at, each_flat, each_map, each_of, each_weaker}
+use Rattle.network_acts.proofs.network_laws.Lists.{each_at, each_flat, each_map, each_of, each_weaker}
 use Rattle.network_acts.specs.Acting.{Made, Passes}
 use Rattle.network_acts.specs.Handling.{AreOfFlows, MayLand}
 use Rattle.network_acts.specs.Instant.{Instant, IsSome, IsWorld}

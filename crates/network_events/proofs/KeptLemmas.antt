@@ -8,7 +8,7 @@ use Rattle.scenario_defs.specs.declared.event.Event.TheVariants as events
 use Rattle.scenario_defs.specs.declared.event.Kind.{Kind}
 use Rattle.scenario_defs.specs.declared.report.ReportLine.{ReportLine}
 use Rattle.scenario_defs.specs.declared.scenario.Scenario.{Scenario}
-use Rattle.session_defs.specs.declared.direction.Direction.{Direction}
+use Rattle.network_defs.specs.declared.session_defs.direction.Direction.{Direction}
 use Rattle.mvpn_model.specs.Unready.{SessionsStand, is_that}
 use Rattle.mvpn_model.specs.declared.session.Session.{Session}
 use Rattle.network_defs.specs.Acts.{Act, Acted, Tick, Timers, Move, Lose, Notice, RaiseFirst, RaiseSecond, Restart, At, Enter, Land, Drop, Tell, SetCost, Reroute, act}
@@ -17,11 +17,11 @@ use Rattle.network_defs.specs.Events.{Happened, Outcome, Done, cost_acts, done, 
 use Rattle.network_defs.specs.Costs.{Cores}
 use Rattle.network_defs.specs.World.{World, clock_of, scenario_of, start}
 use Rattle.network_defs.proofs.Kept.{Comes, Gives, each_keeps, row_keeps, times_keeps}
-use Rattle.network_laws.proofs.Lists.{each_of}
-use Rattle.network_laws.proofs.SteadyEvents.{steady_event}
-use Rattle.ready_laws.proofs.ActsStand as stand
-use Rattle.ready_laws.proofs.ActsStand.{WorldStands, act_gives, act_stand}
-use Rattle.ready_laws.proofs.Nodes.{end_of}
+use Rattle.network_acts.proofs.network_laws.Lists.{each_of}
+use Rattle.network_acts.proofs.network_laws.SteadyEvents.{steady_event}
+use Rattle.network_acts.proofs.network_laws.ready_laws.ActsStand as stand
+use Rattle.network_acts.proofs.network_laws.ready_laws.ActsStand.{WorldStands, act_gives, act_stand}
+use Rattle.network_acts.proofs.network_laws.ready_laws.Nodes.{end_of}
 use Rattle.network_acts.specs.Instant.{Instant, IsSome}
 use Rattle.network_acts.specs.NetworkView.{NetworkView}
 use Rattle.network_acts.specs.Words.{same_moment}
@@ -172,10 +172,6 @@ module _ (first : World → Outcome) (keeps : KeepsEven first) (old mid : Networ
 
 -- ---- runs
 
--- Each session is joined both ways or not at all: when nothing has happened yet, and behind each event.
+-- When nothing has happened yet, each session is joined both ways or not at all.
 pub start_alike : (scenario : Scenario) (cores : Cores) → AreAlike (start scenario cores)
 start_alike scenario cores kind a b = refl
-
-pub alike_behind : (event : Event) (world : World) (acts : List Happened) (new : World) → done world event ≡ Done acts new → AreAlike world → AreAlike new
-alike_behind event world acts new e alike =
-    (comes_done (IsEven (scenario_of world)) (done world event) acts new e (event_even event (scenario_of world) world (record { own = refl; alike = alike }))).alike

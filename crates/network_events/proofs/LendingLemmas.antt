@@ -1,14 +1,16 @@
 -- What a world lends is what the runs say that it is behind.
-use Rattle.std.proofs.Common.{◌≡◌, ◌∙◌, ℕ, sym, ap, subst, ◌≤◌, length, inl, inr}
+use Rattle.std.proofs.Common.{◌≡◌, ◌∙◌, ℕ, sym, ap, subst, length}
 use Rattle.mv_base.specs.declared.ids.NodeId.{NodeId}
+use Rattle.scenario_defs.specs.declared.event.Kind.TheVariants as kinds
 use Rattle.scenario_defs.specs.declared.scenario.Scenario.{Scenario}
 use Rattle.mldp_node.specs.NodeData.{NodeData}
+use Rattle.network_defs.specs.Counts.{direction}
 use Rattle.network_acts.specs.Instant.{Instant, IsWorld, standing_of}
-use Rattle.network_acts.specs.Words as words
 use Rattle.network_acts.specs.Words.{EdgeView, IsCoreThere, IsEdgeThere, IsShared, home_of, node_place}
+use Rattle.network_acts.specs.wire_laws.Edges.{IsWay}
 use Rattle.network_acts.proofs.Handed.{has_held, is_named, two_copies}
 use Rattle.network_events.specs.Behind.{IsBehind, between_events}
-use Rattle.network_events.specs.Lending.{InEachRun, IsCore, IsEdge, IsNoCore, IsNoEdge, IsPool}
+use Rattle.network_events.specs.Lending.{InEachRun, IsCore, IsEdge, IsPool}
 use Rattle.network_events.specs.WorldView.{WorldView}
 use Rattle.network_events.proofs.BehindLemmas.{links_behind, scenario_behind}
 
@@ -16,32 +18,37 @@ use Rattle.network_events.proofs.BehindLemmas.{links_behind, scenario_behind}
 
 module _ (own now : WorldView) (same : own ≡ now) (n : NodeId) where
   pub edge_lent : (edge : EdgeView) → ((at : Instant) → IsWorld at own.network → IsEdgeThere (standing_of at) n edge) → InEachRun now (IsEdge n edge)
-  edge_lent edge there cores script count trace world behind =
-      let is = there (between_events cores world) (subst (IsBehind cores script count trace world) (sym same) behind).stands in
-      record { home = is.home ∙ ap (λ (s : Scenario). home_of s n) (scenario_behind cores script count trace world now behind); unspent = is.unspent; keeps = is.keeps }
-
-  pub no_edge_lent : ((at : Instant) → IsWorld at own.network → words.IsNoEdge (standing_of at) n) → InEachRun now (IsNoEdge n)
-  no_edge_lent there cores script count trace world behind = there (between_events cores world) (subst (IsBehind cores script count trace world) (sym same) behind).stands
+  edge_lent edge there cores scenario events trace world behind =
+      let is = there (between_events cores world) (subst (IsBehind cores scenario events trace world) (sym same) behind).stands in
+      let scenario_is = scenario_behind cores scenario events trace world now behind in
+      record {
+        home = is.home ∙ ap (λ (s : Scenario). home_of s n) scenario_is;
+        unspent = is.unspent;
+        keeps = is.keeps;
+        waits = λ kind peer way. is.waits kind peer (subst (λ (s : Scenario). IsWay s (direction kind n peer)) (sym scenario_is) way);
+        streams = is.streams;
+        toward = is.toward;
+      }
 
   pub core_lent : (labels : NodeData) → ((at : Instant) → IsWorld at own.network → IsCoreThere (standing_of at) n labels) → InEachRun now (IsCore n labels)
-  core_lent labels there cores script count trace world behind =
-      let is = there (between_events cores world) (subst (IsBehind cores script count trace world) (sym same) behind).stands in
-      record { place = is.place ∙ ap (λ (s : Scenario). node_place s n) (scenario_behind cores script count trace world now behind); unspent = is.unspent; keeps = is.keeps }
-
-  pub no_core_lent : ((at : Instant) → IsWorld at own.network → words.IsNoCore (standing_of at) n) → InEachRun now (IsNoCore n)
-  no_core_lent there cores script count trace world behind =
-      elim (there (between_events cores world) (subst (IsBehind cores script count trace world) (sym same) behind).stands) [
-        | inl edge ↦ inl edge
-        | inr past ↦ inr (subst (λ (s : Scenario). length s.nodes ≤ n.0) (scenario_behind cores script count trace world now behind) past)
-      ]
+  core_lent labels there cores scenario events trace world behind =
+      let is = there (between_events cores world) (subst (IsBehind cores scenario events trace world) (sym same) behind).stands in
+      let scenario_is = scenario_behind cores scenario events trace world now behind in
+      record {
+        place = is.place ∙ ap (λ (s : Scenario). node_place s n) scenario_is;
+        unspent = is.unspent;
+        keeps = is.keeps;
+        waits = λ peer way. is.waits peer (subst (λ (s : Scenario). IsWay s (direction kinds.Ldp n peer)) (sym scenario_is) way);
+        toward = is.toward;
+      }
 
 -- ---- buffers
 
-pool_of : (view : WorldView) → IsShared view.network.datagrams.copies → InEachRun view (λ script world. IsPool world view)
-pool_of view account cores script count trace world behind =
+pool_of : (view : WorldView) → IsShared view.network.datagrams.copies → InEachRun view (λ scenario world. IsPool world view)
+pool_of view account cores scenario events trace world behind =
     let idle = behind.stands.datagrams in
     let copies = view.network.datagrams.copies in
-    let links = links_behind cores script count trace world view behind in
+    let links = links_behind cores scenario events trace world view behind in
     record {
       copies = idle.stores.copies;
       buffers = λ from to place kept at.
@@ -51,10 +58,10 @@ pool_of view account cores script count trace world behind =
           let is = is_named world copies idle.stores links account idle.none name live in record { from = is.0; to = is.1; place = is.2; kept = is.3; at = is.4; names = is.5 };
     }
 
-pub pool_lent : (own now : WorldView) → own ≡ now → IsShared own.network.datagrams.copies → InEachRun now (λ script world. IsPool world now)
-pool_lent own now same account = subst (λ (w : WorldView). InEachRun w (λ script world. IsPool world w)) same (pool_of own account)
+pub pool_lent : (own now : WorldView) → own ≡ now → IsShared own.network.datagrams.copies → InEachRun now (λ scenario world. IsPool world now)
+pool_lent own now same account = subst (λ (w : WorldView). InEachRun w (λ scenario world. IsPool world w)) same (pool_of own account)
 
 -- ---- datagrams
 
-pub accepted_lent : (own now : WorldView) (count : ℕ) → own ≡ now → ((at : Instant) → IsWorld at own.network → count ≡ length at.world.datagrams) → InEachRun now (λ script world. count ≡ length world.datagrams)
-accepted_lent own now count same counted cores script upto trace world behind = counted (between_events cores world) (subst (IsBehind cores script upto trace world) (sym same) behind).stands
+pub accepted_lent : (own now : WorldView) (count : ℕ) → own ≡ now → ((at : Instant) → IsWorld at own.network → count ≡ length at.world.datagrams) → InEachRun now (λ scenario world. count ≡ length world.datagrams)
+accepted_lent own now count same counted cores scenario events trace world behind = counted (between_events cores world) (subst (IsBehind cores scenario events trace world) (sym same) behind).stands

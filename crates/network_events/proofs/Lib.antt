@@ -1,3 +1,5 @@
+pub use Rattle.network_acts.proofs.network_laws as network_laws
+pub use Rattle.once_laws.proofs.delivery_laws as delivery_laws
 mod CallLemmas
 mod CostLemmas
 mod CustomerLemmas
@@ -20,5 +22,6 @@ mod TurnLemmas
 mod LinkLemmas
 mod RunLemmas
 mod BehindLemmas
+pub mod ScriptLemmas
 mod StepLemmas
 mod LendingLemmas

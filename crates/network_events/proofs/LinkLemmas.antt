@@ -6,14 +6,14 @@ use Rattle.std.proofs.lemmas.Bool.{and_from, and_parts, cond-false, eq-eqb, eqb-
 use Rattle.std.proofs.lemmas.List.Elements.{All-head, All-tail}
 use Rattle.mv_base.specs.declared.core_link.Link.{Link}
 use Rattle.mv_base.specs.declared.ids.NodeId.{NodeId}
-use Rattle.core_walks.specs.Topology.{HasEnds, JoinsSamePair}
+use Rattle.mv_base.specs.core_walks.Topology.{HasEnds, JoinsSamePair}
 use Rattle.label_defs.proofs.MemberLemmas.{count-cons}
 use Rattle.scenario_defs.specs.Rules.{Rules}
 use Rattle.network_defs.specs.Counts.{link_ways}
 use Rattle.network_defs.specs.World.{LinkCopy, World, scenario_of}
 use Rattle.network_acts.specs.Words.{AreLinked, is_way}
-use Rattle.delivery_laws.specs.Flood.{AreSound, SoundCopy}
-use Rattle.delivery_laws.specs.Flood as floods
+use Rattle.once_laws.specs.delivery_laws.Flood.{AreSound, SoundCopy}
+use Rattle.once_laws.specs.delivery_laws.Flood as floods
 
 true-ne-false : true ≡ false → ⊥
 true-ne-false t = cc

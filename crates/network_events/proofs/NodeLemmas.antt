@@ -10,8 +10,8 @@ use Rattle.network_defs.specs.Acts as acts
 use Rattle.network_defs.specs.Counts.{direction}
 use Rattle.network_defs.specs.Events.{row}
 use Rattle.network_defs.specs.World.{scenario_of}
-use Rattle.wire_laws.specs.Edges.{IsWay}
-use Rattle.wire_laws.proofs.WayLemmas.{has_way}
+use Rattle.network_acts.specs.wire_laws.Edges.{IsWay}
+use Rattle.network_acts.proofs.wire_laws.WayLemmas.{has_way}
 use Rattle.network_acts.specs.Acting.{ActsAs}
 use Rattle.network_acts.specs.Instant.{Instant, IsSome, IsWorld, OfPlane, standing_of}
 use Rattle.network_acts.specs.NetworkView.{NetworkView}

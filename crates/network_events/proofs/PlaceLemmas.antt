@@ -16,8 +16,8 @@ use Rattle.scenario_defs.specs.declared.scenario.Vrf.{Vrf}
 use Rattle.mvpn_model.proofs.VpnLemmas.{element_at}
 use Rattle.network_defs.specs.Refusals.{edge_of_vrf}
 use Rattle.network_defs.specs.World.{scenario_of}
-use Rattle.network_laws.proofs.RunNodes.{IsFoundNode, edge_within, vrf_within}
-use Rattle.network_laws.specs.Sound.{SoundScenario}
+use Rattle.network_acts.proofs.network_laws.RunNodes.{IsFoundNode, edge_within, vrf_within}
+use Rattle.network_acts.specs.network_laws.Sound.{SoundScenario}
 use Rattle.network_acts.specs.Instant.{Instant, standing_of}
 use Rattle.network_acts.specs.NetworkView.{NetworkView}
 use Rattle.network_acts.specs.Words.{IsCurrent, IsEdgeOf, IsIfaceEdge, IsIn, IsVrfEdge, Moment, at_rest}

@@ -4,12 +4,12 @@ use Rattle.mv_base.specs.Lists.{Among}
 use Rattle.mldp_node.specs.declared.fault.NodeFault.{NodeFault}
 use Rattle.scenario_defs.specs.declared.report.ReportLine.{ReportLine}
 use Rattle.scenario_defs.specs.declared.scenario.Scenario.{Scenario}
-use Rattle.session_defs.specs.declared.direction.Direction.{Direction}
+use Rattle.network_defs.specs.declared.session_defs.direction.Direction.{Direction}
 use Rattle.network_defs.specs.Acts as acts
 use Rattle.network_defs.specs.Counts.{directions, node_ids, octets_in_transit}
 use Rattle.network_defs.specs.Events.{Outcome, Done, and_then, each, row, settled, times, turn}
 use Rattle.network_defs.specs.World.{World, scenario_of}
-use Rattle.wire_laws.specs.Edges.{IsWay}
+use Rattle.network_acts.specs.wire_laws.Edges.{IsWay}
 use Rattle.network_acts.specs.Acting.{ActsAs}
 use Rattle.network_acts.specs.Instant.{Instant, IsSome, IsWorld, OfPlane, standing_of}
 use Rattle.network_acts.specs.NetworkView.{NetworkView}

@@ -3,15 +3,15 @@ use Rattle.std.proofs.Common.{◌≡◌, ◌∙◌, refl, sym, ap, subst, arith,
 use Rattle.std.proofs.lemmas.List.Sums.{sum_by-cons}
 use Rattle.scenario_defs.specs.declared.event.Kind.{Kind}
 use Rattle.scenario_defs.specs.declared.scenario.Scenario.{Scenario}
-use Rattle.session_defs.specs.Message.{SessionMessage}
-use Rattle.session_defs.specs.Octets.{Stream}
-use Rattle.session_defs.specs.Refined.{IsLine}
-use Rattle.session_defs.specs.declared.direction.Direction.{Direction}
+use Rattle.network_defs.specs.session_defs.Message.{SessionMessage}
+use Rattle.network_defs.specs.session_defs.Octets.{Stream}
+use Rattle.network_defs.specs.session_defs.Refined.{IsLine}
+use Rattle.network_defs.specs.declared.session_defs.direction.Direction.{Direction}
 use Rattle.network_defs.specs.Acts as acts
 use Rattle.network_defs.specs.Counts.{directions, octets_in_transit}
 use Rattle.network_defs.specs.Events.{Outcome, Done, and_then, each, row, turn}
 use Rattle.network_defs.specs.World.{World, scenario_of}
-use Rattle.wire_laws.specs.Edges.{IsWay}
+use Rattle.network_acts.specs.wire_laws.Edges.{IsWay}
 use Rattle.network_acts.specs.Instant.{Instant, IsWorld, standing_of}
 use Rattle.network_acts.specs.NetworkView.{NetworkView}
 use Rattle.network_acts.specs.Words.{IsMovable, Moment}

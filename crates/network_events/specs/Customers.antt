@@ -13,8 +13,9 @@ use Rattle.scenario_defs.specs.declared.scenario.Scenario.{Scenario}
 use Rattle.mldp_node.specs.declared.fault.NodeFault.{NodeFault}
 use Rattle.mvpn_model.specs.Messages.{handed, message_of, own_addr}
 use Rattle.mvpn_model.specs.Refused.{is_ours}
-use Rattle.network_laws.specs.Honest.{SoundMessage}
-use Rattle.network_acts.specs.Words.{Verdict, VerdictFull, VerdictMade}
+use Rattle.network_acts.specs.network_laws.Honest.{SoundMessage}
+use Rattle.network_acts.specs.declared.control_plane.customers.Verdict.{Verdict}
+use Rattle.network_acts.specs.declared.control_plane.customers.Verdict.TheVariants.{Full as VerdictFull, Made as VerdictMade}
 use Rattle.network_events.specs.Doing.{halted_at}
 use Rattle.network_events.specs.declared.halt.Halt.{Halt}
 

@@ -6,7 +6,7 @@ use Rattle.mldp_node.specs.declared.fault.NodeFault.{NodeFault}
 use Rattle.mldp_node.specs.declared.fault.NodeFault.TheVariants as faults
 use Rattle.network_defs.specs.Events.{Happened, Outcome, Done, Halted}
 use Rattle.network_defs.specs.World.{World}
-pub use Rattle.delivery_laws.specs.Flood.{lines_in}
+pub use Rattle.once_laws.specs.delivery_laws.Flood.{lines_in}
 use Rattle.network_acts.specs.Instant.{Instant, IsWorld}
 use Rattle.network_acts.specs.NetworkView.{NetworkView}
 use Rattle.network_acts.specs.Words.{Moment}

@@ -1,48 +1,53 @@
 -- The parts of a world that it lends, and what they are in the runs that it is behind.
-use Rattle.std.specs.Prelude.{◌≡◌, ◌↔◌, ◌≤◌, ◌==◌, ◌⊎◌, ℕ, List, map, count_by, length, slice_get, None, Some}
+use Rattle.std.specs.Prelude.{◌≡◌, ◌↔◌, ◌==◌, ℕ, List, [], map, count_by, slice_get, None, Some}
 use Rattle.std.specs.FinMap as maps
 use Rattle.mv_base.specs.declared.ids.NodeId.{NodeId}
-use Rattle.label_defs.specs.LabelData.{LabelData}
-use Rattle.scenario_defs.specs.declared.event.Script.{Script}
-use Rattle.edge_defs.specs.Edge.{EdgeData}
-use Rattle.mldp_node.specs.NodeData.{NodeData}
+use Rattle.label_defs.specs.Node.{waiting_for}
+use Rattle.scenario_defs.specs.declared.event.Kind.{Kind}
+use Rattle.scenario_defs.specs.declared.event.Kind.TheVariants as kinds
+use Rattle.scenario_defs.specs.declared.event.Timed.{Timed}
+use Rattle.scenario_defs.specs.declared.scenario.Scenario.{Scenario}
+use Rattle.mldp_node.specs.NodeData.{IsWaitingTowardRoots, NodeData}
 use Rattle.network_defs.specs.Costs.{Cores}
-use Rattle.network_defs.specs.Counts.{all_copies}
-use Rattle.network_defs.specs.Nodes.{CoreNode, Edge}
+use Rattle.network_defs.specs.Counts.{all_copies, direction}
+use Rattle.network_defs.specs.Nodes.{CoreNode, Edge, core_at}
 use Rattle.network_defs.specs.Run.{Traced}
 use Rattle.network_defs.specs.World.{Datagram, World, numbered}
-pub use Rattle.network_acts.specs.Words.{EdgeView, IsLive, KeptCopy, data_of, held, home_in, home_of, kept_at, node_place}
+use Rattle.network_defs.specs.session_defs.PeerSession.{stream_at}
+use Rattle.network_acts.specs.wire_laws.Edges.{IsWay, session_with}
+pub use Rattle.network_acts.specs.Words.{EdgeView, IsLive, KeptCopy, data_of, held, home_in, home_of, kept_at, node_place, octets_waiting}
 use Rattle.network_events.specs.Behind.{IsBehind}
 use Rattle.network_events.specs.WorldView.{WorldView}
 
--- this holds in every run that the network is behind, of its script and of the world of the definitions
-abbrev pub InEachRun : WorldView → (Script → World → Type 0) → Type 0
+-- this holds in every run that the network is behind, of its scenario and of the world of the definitions
+abbrev pub InEachRun : WorldView → (Scenario → World → Type 0) → Type 0
 InEachRun view Holds =
-    (cores : Cores) (script : Script) (count : ℕ) (trace : List Traced) (world : World) →
-    IsBehind cores script count trace world view → Holds script world
+    (cores : Cores) (scenario : Scenario) (events : List Timed) (trace : List Traced) (world : World) →
+    IsBehind cores scenario events trace world view → Holds scenario world
 
 -- ---- nodes
 
--- The edge is that of the number in the scenario, goes on, and keeps what the world says of the node.
-pub record IsEdge (node : NodeId) (edge : EdgeView) (script : Script) (world : World) : Type 0 where
-  pub home : home_in edge ≡ home_of script.scenario node
+-- The edge is that of the number in the scenario, goes on, and keeps what the world says of the node. No octets wait in it for any of its
+-- sessions, since all are handed out in the act that puts them; and what it holds back of the stream of each session, how many octets came
+-- before, and its first fault are those of the world. Each tree that waits there for a label does so towards its root, by the costs that
+-- the edge has acted on.
+pub record IsEdge (node : NodeId) (edge : EdgeView) (scenario : Scenario) (world : World) : Type 0 where
+  pub home : home_in edge ≡ home_of scenario node
   pub unspent : edge.spent ≡ None
   pub keeps : world.network.state.node node ≡ Edge (data_of edge)
+  pub waits : (kind : Kind) (peer : NodeId) → IsWay scenario (direction kind node peer) → octets_waiting edge kind peer ≡ []
+  pub streams : (kind : Kind) (peer : NodeId) →
+      stream_at edge.streams (session_with kind peer) ≡ world.network.stream (direction kind peer node)
+  pub toward : IsWaitingTowardRoots (core_at world.network.state node) edge.labels
 
--- the node is a core node, as each is that the scenario does not have
-abbrev pub IsNoEdge : NodeId → Script → World → Type 0
-IsNoEdge node script world = (part : LabelData) × (world.network.state.node node ≡ CoreNode part)
-
--- The label part is that of the core node of the number in the scenario, goes on, and is what the world says of the node.
-pub record IsCore (node : NodeId) (labels : NodeData) (script : Script) (world : World) : Type 0 where
-  pub place : labels.place ≡ node_place script.scenario node
+-- The label part is that of the core node of the number in the scenario, goes on, and is what the world says of the node. No octets wait in
+-- it for any of its neighbours. Each tree that waits there for a label does so towards its root, by the costs that the node has acted on.
+pub record IsCore (node : NodeId) (labels : NodeData) (scenario : Scenario) (world : World) : Type 0 where
+  pub place : labels.place ≡ node_place scenario node
   pub unspent : labels.node.spent ≡ None
   pub keeps : world.network.state.node node ≡ CoreNode labels.node.part
-
--- the node is an edge, or none of the scenario
-abbrev pub IsNoCore : NodeId → Script → World → Type 0
-IsNoCore node script world =
-    ((edge : EdgeData) × (world.network.state.node node ≡ Edge edge)) ⊎ (length script.scenario.nodes ≤ node.0)
+  pub waits : (peer : NodeId) → IsWay scenario (direction kinds.Ldp node peer) → waiting_for labels.node.waiting peer ≡ []
+  pub toward : IsWaitingTowardRoots (core_at world.network.state node) labels
 
 -- ---- buffers
 

@@ -1,3 +1,5 @@
+pub use Rattle.network_acts.specs.network_laws as network_laws
+pub use Rattle.once_laws.specs.delivery_laws as delivery_laws
 pub mod Doing
 pub mod Meeting
 pub mod Parts

@@ -11,7 +11,7 @@ use Rattle.network_defs.specs.Counts.{direction}
 use Rattle.network_defs.specs.Events.{done}
 use Rattle.network_defs.specs.Refusals.{refusal}
 use Rattle.network_defs.specs.World.{World}
-use Rattle.network_laws.specs.Honest.{IsSoundEvent}
+use Rattle.network_acts.specs.network_laws.Honest.{IsSoundEvent}
 use Rattle.network_acts.specs.Handling.{AreOfFlows}
 use Rattle.network_acts.specs.Instant.{Instant, IsWorld}
 use Rattle.network_acts.specs.NetworkView.{NetworkView}

@@ -4,7 +4,7 @@ use Rattle.mv_base.specs.declared.ids.NodeId.{NodeId}
 use Rattle.scenario_defs.specs.declared.event.Kind.{Kind}
 use Rattle.network_defs.specs.Counts.{direction, is_up}
 use Rattle.network_defs.specs.World.{scenario_of}
-use Rattle.wire_laws.specs.Edges.{IsWay}
+use Rattle.network_acts.specs.wire_laws.Edges.{IsWay}
 use Rattle.network_acts.specs.Instant.{Instant}
 use Rattle.network_acts.specs.Words.{all_late, at_rest}
 use Rattle.network_events.specs.Meeting.{IsResting}

@@ -1,4 +1,4 @@
--- The line of an event that is refused.
+-- The lines of an event: those of its acts, or the one of its refusal; and what is appended of them.
 use Rattle.std.specs.Prelude.{◌≡◌, ◌⊎◌, ℕ, ◌++◌, List, [], ◌∷◌, Option, None, Some, Result, Ok, Err}
 use Rattle.scenario_defs.specs.declared.report.Refusal.{Refusal}
 use Rattle.scenario_defs.specs.declared.report.ReportLine.{ReportLine}
@@ -20,3 +20,9 @@ pub record Tells (line : ℕ) (answer : Result (Option Refusal) Halt) (lines new
     : Type 0 where
   pub made : result ≡ Ok tt → IsTold line answer lines new_lines
   pub lacks : (halt : Halt) → result ≡ Err halt → (halt ≡ halts.NoMemory) ⊎ ((answer ≡ Err halt) × (new_lines ≡ lines))
+
+-- All lines of the event are appended to those of before, and it comes to what was told; or memory is wanting, and those of before stay as
+-- they were.
+pub record Appends (told : Result (Unit {0}) Halt) (own lines new_lines : List ReportLine) (result : Result (Unit {0}) Halt) : Type 0 where
+  pub all : (result ≡ Err halts.NoMemory → ⊥) → (result ≡ told) × (new_lines ≡ lines ++ own)
+  pub wanting : result ≡ Err halts.NoMemory → new_lines ≡ lines

@@ -14,10 +14,10 @@ use crate::halt::{Halt, answer_at, met};
 use mldp_node::NodeFault;
 use mv_base::{Addr, IfaceId, NoMemory, NodeId};
 use mvpn_model::{fault_word, own_addr};
+use network_acts::of_edge_routes::route_order::are_octets;
 use network_acts::{Network, Verdict};
 use pim_defs::{join_of, prune_of};
 use pim_joinprune::{DecodeFault, JoinPrune, decode, encode};
-use route_order::are_octets;
 use scenario_defs::{JoinEntry, Lines, Refusal, edge_of};
 
 /// So many octets in transit are too many for an event of a customer.

@@ -1,6 +1,6 @@
 //! Events of datagrams: sites send them, their copies hop over links or are dropped, and the state is told (RFC 6513 sections 9.1.1 and 12,
 //! RFC 3032).
-ghost use Rattle.std.specs.Prelude.{◌≡◌, ◌<◌, ◌+◌, ◌^◌, [], ◌∷◌, OnOk};
+ghost use Rattle.std.specs.Prelude.{◌≡◌, [], ◌∷◌, OnOk};
 ghost use Rattle.mvpn_model.specs.Packets.{packet_word};
 ghost use Rattle.scenario_defs.specs.declared.event.Event.{Event};
 ghost use Rattle.scenario_defs.specs.declared.event.Event.TheVariants as events;
@@ -14,7 +14,7 @@ ghost use Rattle.network_events.specs.Meeting.{IsGiven, IsReady, Meets};
 use crate::halt::{Halt, met};
 use crate::packet::packet;
 use crate::places::{edge_of_vrf, entered};
-use label_forwarding::{Datagram, PacketReason, read_packet};
+use label_forwarding::{Datagram, PacketFault, read_packet};
 use mv_base::{Addr, NoMemory, NodeId, SiteId, VrfId};
 use network_acts::{Network, sessions_of};
 use scenario_defs::{FaultWord, Lines, Refusal};
@@ -39,17 +39,17 @@ fn are_links_full(network: &Network) -> bool
 }
 
 /// The word that tells why octets are no packet.
-fn packet_word(reason: PacketReason) -> FaultWord
-    ensures { result ≡ packet_word reason }
+fn packet_word(fault: PacketFault) -> FaultWord
+    ensures { result ≡ packet_word fault }
 {
-    match reason {
-        PacketReason::Short => FaultWord::Short,
-        PacketReason::Version => FaultWord::Version,
-        PacketReason::HeaderLength => FaultWord::HeaderLength,
-        PacketReason::TotalLength => FaultWord::TotalLength,
-        PacketReason::Checksum => FaultWord::Checksum,
-        PacketReason::NotMulticast => FaultWord::NotMulticast,
-        PacketReason::LinkLocal => FaultWord::LinkLocal,
+    match fault {
+        PacketFault::Short => FaultWord::Short,
+        PacketFault::Version => FaultWord::Version,
+        PacketFault::HeaderLength => FaultWord::HeaderLength,
+        PacketFault::TotalLength => FaultWord::TotalLength,
+        PacketFault::Checksum => FaultWord::Checksum,
+        PacketFault::NotMulticast => FaultWord::NotMulticast,
+        PacketFault::LinkLocal => FaultWord::LinkLocal,
     }
 }
 
@@ -87,7 +87,8 @@ fn enter_each(
     Ok(())
 }
 
-/// The site's datagram is accepted, and enters at each VRF at which the site is attached.
+/// The site's datagram is accepted, and enters at each VRF at which the site is attached. Where 64 bits hold no number for it, memory is
+/// wanting.
 fn sent(
     network: &mut Network,
     site: SiteId,
@@ -95,15 +96,16 @@ fn sent(
     lines: &mut Lines,
 ) -> Result<(), NoMemory>
     requires network { IsSome IsReady network.old }
-    requires room { network.old.datagrams.count + 1 < 2 ^ 64 }
     ensures { Makes IsReady (definitions.sent site datagram.now.source datagram.now.group datagram.now.octets)
         network.old network.new lines.old lines.new result }
 {
     let vrfs = entered(lines.alloc(), network.scenario(), site)?;
-    network.accept(datagram.bytes())?;
+    if network.accepted() == u64::MAX {
+        return Err(NoMemory);
+    }
+    network.accept();
     enter_each(network, vrfs.as_slice(), site, datagram, lines)?;
-    network.finish();
-    Ok(())
+    network.finish(datagram.bytes())
 }
 
 /// The site sends octets, which are a packet of that flow, where there is room on the links.
@@ -114,7 +116,6 @@ fn send_octets(
     lines: &mut Lines,
 ) -> Result<Option<Refusal>, Halt>
     requires network { IsSome IsReady network.old }
-    requires room { network.old.datagrams.count + 1 < 2 ^ 64 }
     ensures { (event : Event) → Sends site octets.now event → Meets event network.old network.new lines.old lines.new result }
 {
     match read_packet(octets) {
@@ -124,13 +125,10 @@ fn send_octets(
             }
             met(of_memory(sent(network, site, &datagram, lines)))
         }
-        Err(fault) => {
-            let word = packet_word(fault.reason);
-            Ok(Some(Refusal::Bytes {
-                place: fault.place,
-                word,
-            }))
-        }
+        Err((place, fault)) => Ok(Some(Refusal::Bytes {
+            place,
+            word: packet_word(fault),
+        })),
     }
 }
 
@@ -145,7 +143,6 @@ pub(crate) fn send(
 ) -> Result<Option<Refusal>, Halt>
     requires network { IsSome IsReady network.old }
     requires event { IsGiven network.old.scenario (events.Send site source group payload.now) }
-    requires room { network.old.datagrams.count + 1 < 2 ^ 64 }
     ensures { Meets (events.Send site source group payload.now) network.old network.new lines.old lines.new result }
 {
     match packet(lines.alloc(), source, group, payload) {
@@ -163,7 +160,6 @@ pub(crate) fn send_packet(
 ) -> Result<Option<Refusal>, Halt>
     requires network { IsSome IsReady network.old }
     requires event { IsGiven network.old.scenario (events.Packet site octets.now) }
-    requires room { network.old.datagrams.count + 1 < 2 ^ 64 }
     ensures { Meets (events.Packet site octets.now) network.old network.new lines.old lines.new result }
 {
     send_octets(network, site, octets, lines)

@@ -14,8 +14,8 @@ use crate::selections::{select, unselect};
 use crate::sessions::{heal, lose, move_octets, notice, raise};
 use crate::settling::settle;
 use network_acts::Network;
+use network_defs::session_defs::Direction;
 use scenario_defs::{Event, Lines, Refusal};
-use session_defs::Direction;
 
 /// The network meets an event, where none is under way.
 pub(crate) fn meet(
@@ -26,7 +26,6 @@ pub(crate) fn meet(
     requires network { IsSome IsReady network.old }
     requires event { IsGiven network.old.scenario event.now }
     requires clock { network.old.plane.clock + ticks_of event.now < 2 ^ 63 }
-    requires room { network.old.datagrams.count + 1 < 2 ^ 64 }
     ensures { Meets event.now network.old network.new lines.old lines.new result }
 {
     match event {

@@ -1,4 +1,14 @@
-//! The events of a script, as a network meets them: each is refused, or is a row of acts.
+//! The events of a script, as a network meets them. An event comes in; it is refused with the first reason that holds,
+//! or its acts are done one after another by calls of `network_acts`, and its lines go out; or it lacks a label, and
+//! the network halts. `Meets` in `specs/Meeting.antt` is the contract of an event, `Does` in `Doing.antt` that of a row
+//! of acts: in a loop over acts what was done so far is the prefix of the row. `World` (`world.rt`) goes through a
+//! script: `of`, `step`, `close`, and the parts that it lends (its edges, core nodes and buffers); `Behind` says which
+//! network is after the first events, `Lending` what the lent parts are in each run. `dispatch.rt` takes an event by
+//! its kind, and there is a file for sessions and `heal`, for `settle`, for nodes and time, costs, Join/Prune messages
+//! and notes (RFC 7761 section 4.5, RFC 6514 section 14), selections (RFC 6514 section 12.1), datagrams (RFC 6513
+//! sections 9.1.1 and 12, RFC 3032) and `drain`; `packet.rt` has the octets of a `send` (RFC 791, RFC 8200),
+//! `places.rt` the edge of a VRF and the VRFs at which a datagram enters, `halt.rt` why a network goes no further.
+//! Below it are `network_acts` and `once_laws`; above it `mvpn_tool` replays a script event by event.
 #![tactic(auto)]
 
 mod costs;
@@ -17,5 +27,7 @@ mod world;
 
 pub use halt::Halt;
 pub use mldp_node::LdpNode;
-pub use network_acts::{Edge, Pool};
+// The names `of_..`: words of lower crates that this crate's contracts are made of.
+pub use network_acts::{Edge, Pool, of_network_laws as of_network_laws};
+pub use once_laws as of_once_laws;
 pub use world::World;

@@ -7,7 +7,7 @@ ghost use Rattle.network_defs.specs.Acts as acts;
 ghost use Rattle.network_defs.specs.Counts.{direction};
 ghost use Rattle.network_defs.specs.Events.{each, healed, is_session_of, raise_acts, raises, row};
 ghost use Rattle.network_defs.specs.World.{scenario_of};
-ghost use Rattle.wire_laws.specs.Edges.{IsWay};
+ghost use Rattle.network_acts.specs.wire_laws.Edges.{IsWay};
 ghost use Rattle.network_acts.specs.Instant.{IsSome, OfPlane};
 ghost use Rattle.network_acts.specs.Words.{IsLost, same_moment};
 ghost use Rattle.network_events.specs.Doing.{Does};
@@ -18,8 +18,8 @@ use crate::halt::{Halt, answer_at, met};
 use mv_base::NodeId;
 use mvpn_model::Session;
 use network_acts::{Network, sessions_of};
+use network_defs::session_defs::Direction;
 use scenario_defs::{Kind, Lines, Refusal};
-use session_defs::Direction;
 
 /// Octets are moved over a session: the first so many in transit, or all where there are fewer.
 pub(crate) fn move_octets(

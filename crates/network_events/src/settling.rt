@@ -4,7 +4,7 @@ ghost use Rattle.scenario_defs.specs.declared.event.Event.TheVariants as events;
 ghost use Rattle.network_defs.specs.Acts as acts;
 ghost use Rattle.network_defs.specs.Counts.{directions, node_ids};
 ghost use Rattle.network_defs.specs.Events.{each, row, settled, times, turn};
-ghost use Rattle.wire_laws.specs.Edges.{IsWay};
+ghost use Rattle.network_acts.specs.wire_laws.Edges.{IsWay};
 ghost use Rattle.network_acts.specs.Instant.{IsSome};
 ghost use Rattle.network_acts.specs.Words.{same_moment};
 ghost use Rattle.network_events.specs.Doing.{Does};
@@ -14,8 +14,8 @@ use crate::halt::{Halt, answer_at, met};
 use crate::nodes::timers_at;
 use mv_base::{NoMemory, NodeId};
 use network_acts::{Directions, Network, directions_of, sessions_of};
+use network_defs::session_defs::Direction;
 use scenario_defs::{Lines, Refusal, Scenario};
-use session_defs::Direction;
 use std::alloc::Global;
 
 /// The directions of all sessions of a scenario, in order.

@@ -4,23 +4,23 @@ use Rattle.std.specs.List.{AllByRecursion, filter}
 use Rattle.std.specs.FinMap as maps
 use Rattle.std.proofs.lemmas.List.{length-append, length-map}
 use Rattle.mv_base.specs.declared.ids.NodeId.{NodeId}
-use Rattle.route_targets.specs.declared.communities.ExtComm.{ExtComm}
-use Rattle.route_targets.specs.declared.communities.Target.{Target}
-use Rattle.bgp_attributes.specs.declared.key.Key.{Key}
-use Rattle.bgp_attributes.specs.declared.key.Key.TheVariants.{Unicast}
-use Rattle.mvpn_nlri.specs.declared.route.Route.TheVariants as routes
-use Rattle.bgp_attributes.specs.declared.key.Key.TheVariants as keys
+use Rattle.mv_base.specs.declared.route_targets.communities.ExtComm.{ExtComm}
+use Rattle.mv_base.specs.declared.route_targets.communities.Target.{Target}
+use Rattle.bgp_messages.specs.declared.bgp_attributes.key.Key.{Key}
+use Rattle.bgp_messages.specs.declared.bgp_attributes.key.Key.TheVariants.{Unicast}
+use Rattle.bgp_values.specs.declared.mvpn_nlri.route.Route.TheVariants as routes
+use Rattle.bgp_messages.specs.declared.bgp_attributes.key.Key.TheVariants as keys
 use Rattle.scenario_defs.specs.Home.{local_routes}
 use Rattle.scenario_defs.specs.declared.scenario.Route.{Route}
 use Rattle.scenario_defs.specs.declared.scenario.Vrf.{Vrf}
-use Rattle.edge_defs.specs.Edge.{Note, VrfPattern, Selected, VrfFlow, Import, Upstream, Site, Remote, Control}
-use Rattle.edge_defs.specs.Held.{join_route, join_routes, held_for}
-use Rattle.edge_defs.specs.Keys.{Value}
-use Rattle.bgp_update.specs.Written.{afi_of}
-use Rattle.edge_defs.specs.Originated.{target_comms, import_comm, source_as_comm, import_target, own_import, selective_key, active_key, plain_value, unicast_value, tunnel_value, unicast_routes, is_iface_of, notes_of, active_routes, selective_routes, routes_of, originated}
-use Rattle.edge_defs.specs.Place.{EdgePlace, OwnVrf, own_addr, own_vrfs, tunnel_number}
+use Rattle.network_defs.specs.edge_defs.Edge.{Note, VrfPattern, Selected, VrfFlow, Import, Upstream, Site, Remote, Control}
+use Rattle.network_defs.specs.edge_defs.Held.{join_route, join_routes, held_for}
+use Rattle.network_defs.specs.edge_defs.Keys.{Value}
+use Rattle.bgp_messages.specs.bgp_update.Written.{afi_of}
+use Rattle.network_defs.specs.edge_defs.Originated.{target_comms, import_comm, source_as_comm, import_target, own_import, selective_key, active_key, plain_value, unicast_value, tunnel_value, unicast_routes, is_iface_of, notes_of, active_routes, selective_routes, routes_of, originated}
+use Rattle.network_defs.specs.edge_defs.Place.{EdgePlace, OwnVrf, own_addr, own_vrfs, tunnel_number}
 use Rattle.network_laws.specs.Sound.{IsHost, IsFlow, AreEight, SoundScenario, SoundPattern, SoundUpstream, SoundControl}
-use Rattle.edge_defs.proofs.KeyLemmas.{key_total, key_exact, note_total, pattern_total, flow_total}
+use Rattle.network_defs.proofs.edge_defs.KeyLemmas.{key_total, key_exact, note_total, pattern_total, flow_total}
 use Rattle.network_laws.proofs.Lists.{each_append, each_map, each_flat, each_filter, each_weaker, each_found, IfFound}
 use Rattle.network_laws.proofs.Maps.{found_is, all_entries}
 use Rattle.network_laws.proofs.BgpPlaces.{FitsVrf, FitsPrefix, own_fit, local_fit}

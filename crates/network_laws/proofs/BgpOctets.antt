@@ -9,8 +9,8 @@ use Rattle.mv_base.specs.Address.{addr_octets}
 use Rattle.mv_base.specs.Octets.{IsOctets}
 use Rattle.mv_base.specs.declared.addr.Addr.{Addr}
 use Rattle.mv_base.specs.declared.addr.Addr.TheVariants.{V4, V6}
-use Rattle.route_targets.specs.declared.communities.ExtComm.{ExtComm}
-use Rattle.bgp_update.specs.Written.{attribute_head, attribute, comms_octets}
+use Rattle.mv_base.specs.declared.route_targets.communities.ExtComm.{ExtComm}
+use Rattle.bgp_messages.specs.bgp_update.Written.{attribute_head, attribute, comms_octets}
 use Rattle.network_laws.specs.Sound.{IsHost, AreEight}
 
 -- ---- lists of octets

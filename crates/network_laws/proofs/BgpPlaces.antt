@@ -12,7 +12,7 @@ use Rattle.mv_base.specs.declared.ids.NodeId.{NodeId}
 use Rattle.mv_base.specs.declared.ids.SiteId.{SiteId}
 use Rattle.mv_base.specs.declared.ids.VrfId.{VrfId}
 use Rattle.mv_base.specs.declared.prefix.Prefix.{Prefix}
-use Rattle.route_targets.specs.declared.communities.Target.{Target}
+use Rattle.mv_base.specs.declared.route_targets.communities.Target.{Target}
 use Rattle.scenario_defs.specs.Home.{routes_of_site, routes_from, local_routes}
 use Rattle.scenario_defs.specs.Rules.{IsIpv4, IsTarget, IsVrf, IsSite, IsSitePrefix}
 use Rattle.scenario_defs.specs.Vpn.{is_attached_at}
@@ -21,7 +21,7 @@ use Rattle.scenario_defs.specs.declared.scenario.Route.{Route}
 use Rattle.scenario_defs.specs.declared.scenario.Scenario.{Scenario}
 use Rattle.scenario_defs.specs.declared.scenario.Site.{Site}
 use Rattle.scenario_defs.specs.declared.scenario.Vrf.{Vrf}
-use Rattle.edge_defs.specs.Place.{EdgePlace, OwnVrf, addr_of, own_addr, vrfs_from, own_vrfs}
+use Rattle.network_defs.specs.edge_defs.Place.{EdgePlace, OwnVrf, addr_of, own_addr, vrfs_from, own_vrfs}
 use Rattle.network_laws.specs.Sound.{IsHost, AreEight, SoundScenario}
 use Rattle.network_laws.proofs.Lists.{each_append, each_map}
 

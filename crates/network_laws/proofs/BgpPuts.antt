@@ -5,21 +5,21 @@ use Rattle.std.specs.Option.{option_eq}
 use Rattle.std.specs.List.{AllByRecursion}
 use Rattle.std.specs.FinMap as maps
 use Rattle.mv_base.specs.declared.ids.NodeId.{NodeId}
-use Rattle.bgp_attributes.specs.declared.key.Key.{Key}
-use Rattle.table_defs.specs.Changes.{withdrawals, advertisements, lost, news, changes}
-use Rattle.table_defs.specs.declared.change.Change.{Change}
-use Rattle.table_defs.specs.declared.change.Change.TheVariants.{Reach, Unreach}
-use Rattle.session_defs.specs.Message.{IsPut}
-use Rattle.session_defs.specs.System.{Put}
-use Rattle.edge_defs.specs.Edge.{Control}
-use Rattle.edge_defs.specs.Held.{held_for, told, put_to}
-use Rattle.edge_defs.specs.Keys.{key_cmp, Value, Table, same_value}
-use Rattle.edge_defs.specs.Place.{EdgePlace}
-use Rattle.mvpn_model.specs.Sessions.{edges}
-use Rattle.node_defs.specs.Puts.{bgp_put, bgp_puts}
+use Rattle.bgp_messages.specs.declared.bgp_attributes.key.Key.{Key}
+use Rattle.mv_base.specs.table_defs.Changes.{withdrawals, advertisements, lost, news, changes}
+use Rattle.mv_base.specs.declared.table_defs.change.Change.{Change}
+use Rattle.mv_base.specs.declared.table_defs.change.Change.TheVariants.{Reach, Unreach}
+use Rattle.network_defs.specs.session_defs.Message.{IsPut}
+use Rattle.network_defs.specs.session_defs.System.{Put}
+use Rattle.network_defs.specs.edge_defs.Edge.{Control}
+use Rattle.network_defs.specs.edge_defs.Held.{held_for, told, put_to}
+use Rattle.network_defs.specs.edge_defs.Keys.{key_cmp, Value, Table, same_value}
+use Rattle.network_defs.specs.edge_defs.Place.{EdgePlace}
+use Rattle.network_defs.specs.mvpn_model.Sessions.{edges}
+use Rattle.network_defs.specs.node_defs.Puts.{bgp_put, bgp_puts}
 use Rattle.network_laws.specs.Sound.{SoundScenario, SoundControl}
 use Rattle.network_laws.proofs.BgpHeld.{held_fits}
-use Rattle.edge_defs.proofs.KeyLemmas.{key_total, key_exact}
+use Rattle.network_defs.proofs.edge_defs.KeyLemmas.{key_total, key_exact}
 use Rattle.network_laws.proofs.Lists.{each_append, each_of, each_map, each_flat}
 use Rattle.network_laws.proofs.Maps.{all_entries, kept_is}
 use Rattle.network_laws.proofs.BgpPlaces.{own_host}

@@ -10,18 +10,18 @@ use Rattle.mv_base.specs.declared.addr.Addr.{Addr}
 use Rattle.mv_base.specs.declared.addr.Addr.TheVariants.{V4, V6}
 use Rattle.mv_base.specs.declared.prefix.Prefix.{Prefix}
 use Rattle.mv_base.specs.declared.rd.Rd.{Rd}
-use Rattle.mvpn_nlri.specs.Spelling as spelling
-use Rattle.mvpn_nlri.specs.Spelling.{IsSource, IsGroup, IsAnyOr, IsRoute, sized, any_or_sized, fields}
-use Rattle.mvpn_nlri.specs.declared.route.Afi.{Afi}
-use Rattle.mvpn_nlri.specs.declared.route.Afi.TheVariants.{Ipv4}
-use Rattle.mvpn_nlri.specs.declared.route.Route.{Route}
-use Rattle.mvpn_nlri.specs.declared.route.Route.TheVariants as routes
-use Rattle.bgp_attributes.specs.Spelling.{octets_for}
-use Rattle.bgp_attributes.specs.declared.key.Key.TheVariants.{Mcast, Unicast}
-use Rattle.bgp_update.specs.Written.{advertised, withdrawn, vpn_text}
+use Rattle.bgp_values.specs.mvpn_nlri.Spelling as spelling
+use Rattle.bgp_values.specs.mvpn_nlri.Spelling.{IsSource, IsGroup, IsAnyOr, IsRoute, sized, any_or_sized, fields}
+use Rattle.bgp_values.specs.declared.mvpn_nlri.route.Afi.{Afi}
+use Rattle.bgp_values.specs.declared.mvpn_nlri.route.Afi.TheVariants.{Ipv4}
+use Rattle.bgp_values.specs.declared.mvpn_nlri.route.Route.{Route}
+use Rattle.bgp_values.specs.declared.mvpn_nlri.route.Route.TheVariants as routes
+use Rattle.bgp_messages.specs.bgp_attributes.Spelling.{octets_for}
+use Rattle.bgp_messages.specs.declared.bgp_attributes.key.Key.TheVariants.{Mcast, Unicast}
+use Rattle.bgp_messages.specs.bgp_update.Written.{advertised, withdrawn, vpn_text}
 use Rattle.scenario_defs.specs.Rules.{IsSitePrefix}
-use Rattle.bgp_update.specs.Written.{afi_of}
-use Rattle.edge_defs.specs.Originated.{afi_by}
+use Rattle.bgp_messages.specs.bgp_update.Written.{afi_of}
+use Rattle.network_defs.specs.edge_defs.Originated.{afi_by}
 use Rattle.network_laws.specs.Sound.{IsHost, IsCustomer, IsGroupAddr, IsFlow, AreAlike, AreEight, SoundPattern}
 use Rattle.network_laws.proofs.BgpOctets.{octets_cons, octets_append, one_octet, octets_of_32, host_octets, host_length}
 use Rattle.network_laws.proofs.BgpTexts.{FitsKey, host_addr}

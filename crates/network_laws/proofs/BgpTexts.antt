@@ -7,26 +7,26 @@ use Rattle.mv_base.specs.Address.{addr_octets, IsAddr}
 use Rattle.mv_base.specs.Octets.{IsOctets}
 use Rattle.mv_base.specs.declared.addr.Addr.{Addr}
 use Rattle.mv_base.specs.declared.addr.Addr.TheVariants.{V4, V6}
-use Rattle.mvpn_nlri.specs.declared.route.Afi.TheVariants.{Ipv4, Ipv6}
-use Rattle.route_targets.specs.declared.communities.ExtComm.{ExtComm}
-use Rattle.pmsi_attr.specs.declared.pmsi.Pmsi.{Pmsi}
-use Rattle.bgp_attributes.specs.Spelling.{pair, mapped_front, AreComms}
-use Rattle.bgp_attributes.specs.declared.family.Family.{Family}
-use Rattle.bgp_attributes.specs.declared.family.Family.TheVariants as families
-use Rattle.bgp_attributes.specs.declared.key.Key.{Key}
-use Rattle.bgp_attributes.specs.declared.update.Advert.{Advert}
-use Rattle.bgp_attributes.specs.declared.update.Change as updates
-use Rattle.bgp_attributes.specs.declared.update.Message.TheVariants as messages
-use Rattle.bgp_update.specs.Written.{attribute, path_text, family_of, hop_of, key_text, advertised, withdrawn, comms_octets, reach_value, tunnel_text, advert_text, message_text, written, update_of, IsNextHop, IsWritableKey, IsWritable, HasOctets, IsTunnel}
-use Rattle.bgp_update.proofs.Appending.{message_octets}
-use Rattle.bgp_update.proofs.ReadsBack.{written_spells}
-use Rattle.table_defs.specs.declared.change.Change.{Change}
-use Rattle.table_defs.specs.declared.change.Change.TheVariants.{Reach, Unreach}
+use Rattle.bgp_values.specs.declared.mvpn_nlri.route.Afi.TheVariants.{Ipv4, Ipv6}
+use Rattle.mv_base.specs.declared.route_targets.communities.ExtComm.{ExtComm}
+use Rattle.bgp_values.specs.declared.pmsi_attr.pmsi.Pmsi.{Pmsi}
+use Rattle.bgp_messages.specs.bgp_attributes.Spelling.{pair, mapped_front, AreComms}
+use Rattle.bgp_messages.specs.declared.bgp_attributes.family.Family.{Family}
+use Rattle.bgp_messages.specs.declared.bgp_attributes.family.Family.TheVariants as families
+use Rattle.bgp_messages.specs.declared.bgp_attributes.key.Key.{Key}
+use Rattle.bgp_messages.specs.declared.bgp_attributes.update.Advert.{Advert}
+use Rattle.bgp_messages.specs.declared.bgp_attributes.update.Change as updates
+use Rattle.bgp_messages.specs.declared.bgp_attributes.update.Message.TheVariants as messages
+use Rattle.bgp_messages.specs.bgp_update.Written.{attribute, path_text, family_of, hop_of, key_text, advertised, withdrawn, comms_octets, reach_value, tunnel_text, advert_text, message_text, written, update_of, IsNextHop, IsWritableKey, IsWritable, HasOctets, IsTunnel}
+use Rattle.bgp_messages.proofs.bgp_update.Appending.{message_octets}
+use Rattle.bgp_messages.proofs.bgp_update.ReadsBack.{written_spells}
+use Rattle.mv_base.specs.declared.table_defs.change.Change.{Change}
+use Rattle.mv_base.specs.declared.table_defs.change.Change.TheVariants.{Reach, Unreach}
 use Rattle.scenario_defs.specs.declared.event.Kind.TheVariants as kinds
-use Rattle.session_defs.specs.Message.{IsPut}
-use Rattle.edge_defs.specs.Keys.{Value}
-use Rattle.edge_defs.specs.Messages.{as_update}
-use Rattle.node_defs.specs.Puts.{update_unit}
+use Rattle.network_defs.specs.session_defs.Message.{IsPut}
+use Rattle.network_defs.specs.edge_defs.Keys.{Value}
+use Rattle.network_defs.specs.edge_defs.Messages.{as_update}
+use Rattle.network_defs.specs.node_defs.Puts.{update_unit}
 use Rattle.network_laws.specs.Sound.{IsHost, AreEight}
 use Rattle.network_laws.proofs.BgpOctets.{no_octets, octets_cons, octets_append, one_octet, repeated_octets, octets_of_16, octets_of_32, host_octets, host_length, comms_fit, comms_length, attribute_fits, attribute_length}
 

@@ -6,14 +6,14 @@ use Rattle.mv_base.specs.Address.{addr_octets}
 use Rattle.mv_base.specs.Octets.{IsOctets}
 use Rattle.mv_base.specs.declared.addr.Addr.{Addr}
 use Rattle.mv_base.specs.declared.addr.Addr.TheVariants.{V4, V6}
-use Rattle.mldp_fec.specs.Spelling as fecs
-use Rattle.mldp_fec.specs.Spelling.{plain, IsTlv, IsOpaque}
-use Rattle.pmsi_attr.specs.declared.pmsi.Pmsi.{Pmsi}
-use Rattle.pmsi_attr.specs.declared.pmsi.Tunnel.TheVariants as tunnels
-use Rattle.pmsi_attr.specs.Spelling as pmsis
-use Rattle.edge_defs.specs.Edge.{Import}
-use Rattle.edge_defs.specs.Originated.{import_comm, source_as_comm, import_target}
-use Rattle.edge_defs.specs.Place.{lsp, lsp_opaque}
+use Rattle.mldp.specs.mldp_fec.Spelling as fecs
+use Rattle.mldp.specs.mldp_fec.Spelling.{plain, IsTlv, IsOpaque}
+use Rattle.bgp_values.specs.declared.pmsi_attr.pmsi.Pmsi.{Pmsi}
+use Rattle.bgp_values.specs.declared.pmsi_attr.pmsi.Tunnel.TheVariants as tunnels
+use Rattle.bgp_values.specs.pmsi_attr.Spelling as pmsis
+use Rattle.network_defs.specs.edge_defs.Edge.{Import}
+use Rattle.network_defs.specs.edge_defs.Originated.{import_comm, source_as_comm, import_target}
+use Rattle.network_defs.specs.edge_defs.Place.{lsp, lsp_opaque}
 use Rattle.network_laws.specs.Sound.{IsHost, AreEight}
 use Rattle.network_laws.proofs.BgpOctets.{no_octets, octets_cons, octets_append, octets_of_16, octets_of_32, host_octets, host_length, attribute_fits, attribute_length}
 use Rattle.network_laws.proofs.BgpTexts.{FitsTunnel, host_addr}

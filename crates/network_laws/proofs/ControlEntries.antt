@@ -7,12 +7,12 @@ use Rattle.pim_joinprune.specs.declared.group.Group.{Group}
 use Rattle.pim_joinprune.specs.declared.message.JoinPrune.{JoinPrune}
 use Rattle.pim_joinprune.specs.declared.source.JpSource.{JpSource}
 use Rattle.scenario_defs.specs.declared.event.IfaceEntry.{IfaceEntry}
-use Rattle.pim_defs.specs.declared.expiry.Expiry.{Expiry}
-use Rattle.pim_defs.specs.Expiry.{counts}
-use Rattle.pim_defs.specs.Mention.{entry_of}
-use Rattle.pim_defs.specs.Entries.{Entries, expiry_then, named_in, with_expiries, applied, kept_at}
-use Rattle.pim_defs.proofs.EntriesLemmas.{get-kept}
-use Rattle.pim_defs.proofs.KeyLemmas.{entry_cmp_total, entry_cmp_exact}
+use Rattle.network_defs.specs.edge_defs.pim_defs.declared.expiry.Expiry.{Expiry}
+use Rattle.network_defs.specs.edge_defs.pim_defs.Expiry.{counts}
+use Rattle.network_defs.specs.edge_defs.pim_defs.Mention.{entry_of}
+use Rattle.network_defs.specs.edge_defs.pim_defs.Entries.{Entries, expiry_then, named_in, with_expiries, applied, kept_at}
+use Rattle.network_defs.proofs.edge_defs.pim_defs.EntriesLemmas.{get-kept}
+use Rattle.network_defs.proofs.edge_defs.pim_defs.KeyLemmas.{entry_cmp_total, entry_cmp_exact}
 use Rattle.network_laws.specs.Sound.{SoundEntry}
 use Rattle.network_laws.specs.Honest.{SoundGroup, SoundMessage}
 use Rattle.network_laws.proofs.Lists.{each_append, each_map, each_flat, each_weaker}

@@ -15,34 +15,34 @@ use Rattle.mv_base.specs.declared.addr.Addr.TheVariants.{V4, V6}
 use Rattle.mv_base.specs.declared.ids.NodeId.{NodeId}
 use Rattle.mv_base.proofs.Fields.{octets_before, octets_behind, wide16}
 use Rattle.mv_base.specs.declared.prefix.Prefix.{Prefix}
-use Rattle.mvpn_nlri.specs.declared.route.Afi.{Afi}
-use Rattle.mvpn_nlri.specs.declared.route.Afi.TheVariants.{Ipv4, Ipv6}
-use Rattle.mvpn_nlri.specs.declared.route.Route.TheVariants as routes
-use Rattle.mvpn_nlri.specs.Spelling.{IsSource, IsGroup}
-use Rattle.route_targets.specs.declared.communities.ExtComm.{ExtComm}
-use Rattle.bgp_attributes.specs.declared.key.Key.{Key}
-use Rattle.bgp_attributes.specs.declared.key.Key.TheVariants.{Mcast, Unicast}
+use Rattle.bgp_values.specs.declared.mvpn_nlri.route.Afi.{Afi}
+use Rattle.bgp_values.specs.declared.mvpn_nlri.route.Afi.TheVariants.{Ipv4, Ipv6}
+use Rattle.bgp_values.specs.declared.mvpn_nlri.route.Route.TheVariants as routes
+use Rattle.bgp_values.specs.mvpn_nlri.Spelling.{IsSource, IsGroup}
+use Rattle.mv_base.specs.declared.route_targets.communities.ExtComm.{ExtComm}
+use Rattle.bgp_messages.specs.declared.bgp_attributes.key.Key.{Key}
+use Rattle.bgp_messages.specs.declared.bgp_attributes.key.Key.TheVariants.{Mcast, Unicast}
 use Rattle.scenario_defs.specs.declared.event.IfaceEntry.{IfaceEntry}
 use Rattle.scenario_defs.specs.declared.event.JoinEntry.{JoinEntry}
 use Rattle.scenario_defs.specs.declared.event.JoinEntry.TheVariants as entries
-use Rattle.pim_defs.proofs.KeyLemmas.{entry_cmp_total}
+use Rattle.network_defs.proofs.edge_defs.pim_defs.KeyLemmas.{entry_cmp_total}
 use Rattle.label_defs.proofs.KeyLemmas.{node_cmp_total}
 use Rattle.label_defs.proofs.MemberLemmas.{each_in_order}
 use Rattle.label_defs.specs.Members.{in_order}
-use Rattle.choice_defs.specs.Choice.{best_route}
-use Rattle.choice_defs.specs.declared.origin.Origin.{Origin}
-use Rattle.choice_defs.specs.declared.origin.Origin.TheVariants as origins
-use Rattle.edge_defs.specs.Edge.{Note, VrfFlow, Import, Upstream, Site, Remote, TakenRoute, Taken, Control}
-use Rattle.edge_defs.specs.Flows.{flows_at, vrf_flows, with_upstream, possible_flows, joined_by, active_flows, active_from, noted_flow, is_flow}
-use Rattle.edge_defs.specs.Imported.{FlowRoute, JoinBy, active_of, imported_active, import_in, source_as_in, found_in, only_one, join_by, taken_from, is_admitted}
-use Rattle.edge_defs.specs.Keys.{Value, key_cmp}
-use Rattle.edge_defs.specs.Originated.{is_iface_of, notes_of}
-use Rattle.edge_defs.specs.Place.{EdgePlace, OwnVrf, own_vrfs}
-use Rattle.edge_defs.specs.Upstream.{costs_of, known_routes, upstream_by, upstream_for}
+use Rattle.network_defs.specs.edge_defs.choice_defs.Choice.{best_route}
+use Rattle.network_defs.specs.edge_defs.choice_defs.declared.origin.Origin.{Origin}
+use Rattle.network_defs.specs.edge_defs.choice_defs.declared.origin.Origin.TheVariants as origins
+use Rattle.network_defs.specs.edge_defs.Edge.{Note, VrfFlow, Import, Upstream, Site, Remote, TakenRoute, Taken, Control}
+use Rattle.network_defs.specs.edge_defs.Flows.{flows_at, vrf_flows, with_upstream, possible_flows, joined_by, active_flows, active_from, noted_flow, is_flow}
+use Rattle.network_defs.specs.edge_defs.Imported.{FlowRoute, JoinBy, active_of, imported_active, import_in, source_as_in, found_in, only_one, join_by, taken_from, is_admitted}
+use Rattle.network_defs.specs.edge_defs.Keys.{Value, key_cmp}
+use Rattle.network_defs.specs.edge_defs.Originated.{is_iface_of, notes_of}
+use Rattle.network_defs.specs.edge_defs.Place.{EdgePlace, OwnVrf, own_vrfs}
+use Rattle.network_defs.specs.edge_defs.Upstream.{costs_of, known_routes, upstream_by, upstream_for}
 use Rattle.network_laws.specs.Sound.{IsHost, IsFlow, AreEight, SoundEntry, SoundUpstream, SoundKey, SoundValue, SoundTaken}
 use Rattle.network_laws.proofs.Lists.{each_append, each_of, each_map, each_flat, each_weaker, each_filtered, each_found, only_meets}
 use Rattle.network_laws.proofs.Maps.{Each, AllEntries, all_entries, made_meets}
-use Rattle.edge_defs.proofs.KeyLemmas.{key_total, note_total, flow_total, flow_exact}
+use Rattle.network_defs.proofs.edge_defs.KeyLemmas.{key_total, note_total, flow_total, flow_exact}
 use Rattle.network_laws.proofs.ControlEntries.{SoundAt}
 
 -- what a peer's table meets

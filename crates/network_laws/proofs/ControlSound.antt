@@ -3,13 +3,13 @@
 use Rattle.std.proofs.Common.{ℕ, Bool, true, false, cond, List, [], ◌∷◌}
 use Rattle.mv_base.specs.Octets.{IsOctets}
 use Rattle.mv_base.specs.declared.ids.NodeId.{NodeId}
-use Rattle.mldp_msgs.specs.declared.message.LabelMessage.{LabelMessage}
-use Rattle.bgp_attributes.specs.declared.update.Message.{Message}
-use Rattle.bgp_update.specs.Spelling.{SpellsMessage}
-use Rattle.edge_defs.specs.Edge.{Control}
-use Rattle.edge_defs.specs.Place.{EdgePlace}
-use Rattle.edge_defs.specs.Steps as steps
-use Rattle.edge_defs.specs.Steps.{with_update, effect, is_vrf_step, refreshed, control_step}
+use Rattle.mldp.specs.declared.mldp_msgs.message.LabelMessage.{LabelMessage}
+use Rattle.bgp_messages.specs.declared.bgp_attributes.update.Message.{Message}
+use Rattle.bgp_messages.specs.bgp_update.Spelling.{SpellsMessage}
+use Rattle.network_defs.specs.edge_defs.Edge.{Control}
+use Rattle.network_defs.specs.edge_defs.Place.{EdgePlace}
+use Rattle.network_defs.specs.edge_defs.Steps as steps
+use Rattle.network_defs.specs.edge_defs.Steps.{with_update, effect, is_vrf_step, refreshed, control_step}
 use Rattle.network_laws.specs.Sound.{SoundScenario, SoundControl}
 use Rattle.network_laws.specs.Honest.{IsSoundCall}
 use Rattle.network_laws.proofs.ControlFlows.{SoundSources, flows_are_sound}

@@ -8,30 +8,30 @@ use Rattle.mv_base.specs.declared.addr.Addr.{Addr}
 use Rattle.mv_base.specs.declared.addr.Addr.TheVariants.{V4, V6}
 use Rattle.mv_base.specs.declared.prefix.Prefix.{Prefix}
 use Rattle.mv_base.specs.declared.rd.Rd.{Rd}
-use Rattle.framing.specs.Units.{Spelled, octets_of, AreUnits}
-use Rattle.framing.specs.Parts.{ArePartsAfter}
-use Rattle.framing.proofs.Cuts.{IsOctets-before, IsOctets-behind}
-use Rattle.mldp_fec.specs.declared.fec.Fec.{Fec}
-use Rattle.pmsi_attr.specs.declared.pmsi.Pmsi.{Pmsi}
-use Rattle.pmsi_attr.specs.declared.pmsi.Tunnel.{Tunnel}
-use Rattle.pmsi_attr.specs.declared.pmsi.Tunnel.TheVariants as tunnels
-use Rattle.pmsi_attr.specs.Spelling as pmsis
-use Rattle.mvpn_nlri.specs.declared.route.Afi.{Afi}
-use Rattle.mvpn_nlri.specs.declared.route.Route.{Route}
-use Rattle.mvpn_nlri.specs.declared.route.Route.TheVariants as routes
-use Rattle.mvpn_nlri.specs.Spelling as nlri
-use Rattle.route_targets.specs.declared.communities.ExtComm.{ExtComm}
-use Rattle.bgp_attributes.specs.declared.attribute.Attribute.{Attribute}
-use Rattle.bgp_attributes.specs.declared.attribute.Attribute.TheVariants.{Reach, Unreach, Communities, Tunnel as Tunnelled, Passed}
-use Rattle.bgp_attributes.specs.declared.attribute.Reachable.{Reachable}
-use Rattle.bgp_attributes.specs.declared.family.Family.{Family}
-use Rattle.bgp_attributes.specs.declared.family.Family.TheVariants as families
-use Rattle.bgp_attributes.specs.declared.key.Key.{Key}
-use Rattle.bgp_attributes.specs.declared.key.Key.TheVariants.{Mcast, Unicast}
-use Rattle.bgp_attributes.specs.Spelling.{pair, SpellsVpn, SpellsKey, SpellsUnit, AreKeys, SpellsReachable, AreComms, SpellsValue, len_field, SpellsAttribute, IsNew, comms_in, comms_of, pmsi_of}
-use Rattle.edge_defs.specs.Imported.{lsp_of}
+use Rattle.mv_base.specs.framing.Units.{Spelled, octets_of, AreUnits}
+use Rattle.mv_base.specs.framing.Parts.{ArePartsAfter}
+use Rattle.mv_base.proofs.framing.Cuts.{IsOctets-before, IsOctets-behind}
+use Rattle.mldp.specs.declared.mldp_fec.fec.Fec.{Fec}
+use Rattle.bgp_values.specs.declared.pmsi_attr.pmsi.Pmsi.{Pmsi}
+use Rattle.bgp_values.specs.declared.pmsi_attr.pmsi.Tunnel.{Tunnel}
+use Rattle.bgp_values.specs.declared.pmsi_attr.pmsi.Tunnel.TheVariants as tunnels
+use Rattle.bgp_values.specs.pmsi_attr.Spelling as pmsis
+use Rattle.bgp_values.specs.declared.mvpn_nlri.route.Afi.{Afi}
+use Rattle.bgp_values.specs.declared.mvpn_nlri.route.Route.{Route}
+use Rattle.bgp_values.specs.declared.mvpn_nlri.route.Route.TheVariants as routes
+use Rattle.bgp_values.specs.mvpn_nlri.Spelling as nlri
+use Rattle.mv_base.specs.declared.route_targets.communities.ExtComm.{ExtComm}
+use Rattle.bgp_messages.specs.declared.bgp_attributes.attribute.Attribute.{Attribute}
+use Rattle.bgp_messages.specs.declared.bgp_attributes.attribute.Attribute.TheVariants.{Reach, Unreach, Communities, Tunnel as Tunnelled, Passed}
+use Rattle.bgp_messages.specs.declared.bgp_attributes.attribute.Reachable.{Reachable}
+use Rattle.bgp_messages.specs.declared.bgp_attributes.family.Family.{Family}
+use Rattle.bgp_messages.specs.declared.bgp_attributes.family.Family.TheVariants as families
+use Rattle.bgp_messages.specs.declared.bgp_attributes.key.Key.{Key}
+use Rattle.bgp_messages.specs.declared.bgp_attributes.key.Key.TheVariants.{Mcast, Unicast}
+use Rattle.bgp_messages.specs.bgp_attributes.Spelling.{pair, SpellsVpn, SpellsKey, SpellsUnit, AreKeys, SpellsReachable, AreComms, SpellsValue, len_field, SpellsAttribute, IsNew, comms_in, comms_of, pmsi_of}
+use Rattle.network_defs.specs.edge_defs.Imported.{lsp_of}
 use Rattle.label_defs.specs.Node.{is_p2mp}
-use Rattle.edge_defs.specs.Place.{is_lsp_opaque}
+use Rattle.network_defs.specs.edge_defs.Place.{is_lsp_opaque}
 use Rattle.network_laws.specs.Sound.{AreEight, IsSoundFec, SoundKey}
 use Rattle.network_laws.proofs.Lists.{each_flat}
 

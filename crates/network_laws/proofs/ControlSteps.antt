@@ -5,22 +5,22 @@ use Rattle.std.specs.FinMap as maps
 use Rattle.std.specs.FinMap.{FinMap}
 use Rattle.std.specs.FinSet as sets
 use Rattle.mv_base.specs.declared.ids.NodeId.{NodeId}
-use Rattle.bgp_attributes.specs.declared.update.Message.{Message}
-use Rattle.bgp_update.specs.Table.{changes_of}
+use Rattle.bgp_messages.specs.declared.bgp_attributes.update.Message.{Message}
+use Rattle.bgp_messages.specs.bgp_update.Table.{changes_of}
 use Rattle.scenario_defs.specs.declared.event.Kind.TheVariants as kinds
 use Rattle.label_defs.specs.Keys.{node_cmp}
 use Rattle.label_defs.proofs.KeyLemmas.{node_cmp_total, node_cmp_exact}
-use Rattle.edge_defs.specs.Edge.{Note, VrfPattern, pattern_cmp, Selected, Taken, Control}
-use Rattle.edge_defs.specs.Keys.{key_cmp}
-use Rattle.edge_defs.specs.Place.{EdgePlace}
-use Rattle.edge_defs.specs.Steps as steps
-use Rattle.selective_defs.specs.Selective.{free_number}
-use Rattle.edge_defs.specs.Steps.{taken_change, with_update, is_used, with_selection, selection_run, selections_run, route_run, taken_run, peers_run, timed, effect}
+use Rattle.network_defs.specs.edge_defs.Edge.{Note, VrfPattern, pattern_cmp, Selected, Taken, Control}
+use Rattle.network_defs.specs.edge_defs.Keys.{key_cmp}
+use Rattle.network_defs.specs.edge_defs.Place.{EdgePlace}
+use Rattle.network_defs.specs.edge_defs.Steps as steps
+use Rattle.network_defs.specs.edge_defs.selective_defs.Selective.{free_number}
+use Rattle.network_defs.specs.edge_defs.Steps.{taken_change, with_update, is_used, with_selection, selection_run, selections_run, route_run, taken_run, peers_run, timed, effect}
 use Rattle.network_laws.specs.Sound.{SoundPattern, SoundTaken, SoundControl}
 use Rattle.network_laws.specs.Honest.{IsSoundCall}
 use Rattle.network_laws.proofs.Lists.{each_map, each_weaker}
 use Rattle.network_laws.proofs.Maps.{Each, all_entries, made_meets, put_meets, cut_meets, each_inserted, still}
-use Rattle.edge_defs.proofs.KeyLemmas.{key_total, key_exact, note_total, note_exact, pattern_total, pattern_exact}
+use Rattle.network_defs.proofs.edge_defs.KeyLemmas.{key_total, key_exact, note_total, note_exact, pattern_total, pattern_exact}
 use Rattle.network_laws.proofs.ControlEntries.{applied_sound, kept_sound}
 use Rattle.network_laws.proofs.ControlFlows.{SoundPeer, SoundRoute, SoundNote}
 use Rattle.network_laws.proofs.ControlTaken.{SoundChange, all_changes_sound}

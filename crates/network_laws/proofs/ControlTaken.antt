@@ -5,28 +5,28 @@ use Rattle.std.specs.Int.{w16, to_be_bytes}
 use Rattle.std.specs.Prelude.{length}
 use Rattle.std.specs.FinMap as maps
 use Rattle.mv_base.specs.Octets.{IsOctets}
-use Rattle.framing.proofs.Cuts.{IsOctets-before, IsOctets-behind}
-use Rattle.pmsi_attr.specs.declared.pmsi.Pmsi.{Pmsi}
-use Rattle.route_targets.specs.declared.communities.ExtComm.{ExtComm}
-use Rattle.bgp_attributes.specs.Spelling as attributes
-use Rattle.bgp_attributes.specs.declared.attribute.Attribute.{Attribute}
-use Rattle.bgp_attributes.specs.declared.attribute.Attribute.TheVariants.{Reach, Unreach, Communities, Tunnel, Passed}
-use Rattle.bgp_attributes.specs.declared.key.Key.{Key}
-use Rattle.bgp_attributes.specs.declared.update.Advert.{Advert}
-use Rattle.bgp_attributes.specs.declared.update.Change.{Change}
-use Rattle.bgp_attributes.specs.declared.update.Change.TheVariants as changes
-use Rattle.bgp_attributes.specs.declared.update.Message.{Message}
-use Rattle.bgp_attributes.specs.declared.update.Message.TheVariants as messages
-use Rattle.bgp_attributes.specs.declared.update.Update.{Update}
-use Rattle.bgp_update.specs.Spelling.{header, SpellsBody, SpellsMessage, Means}
-use Rattle.bgp_update.specs.Table.{announced, unannounced, changes_of}
-use Rattle.edge_defs.specs.Edge.{TakenRoute, Taken}
-use Rattle.edge_defs.specs.Keys.{Value, same_value}
-use Rattle.edge_defs.specs.Steps.{learned, taken_change}
+use Rattle.mv_base.proofs.framing.Cuts.{IsOctets-before, IsOctets-behind}
+use Rattle.bgp_values.specs.declared.pmsi_attr.pmsi.Pmsi.{Pmsi}
+use Rattle.mv_base.specs.declared.route_targets.communities.ExtComm.{ExtComm}
+use Rattle.bgp_messages.specs.bgp_attributes.Spelling as attributes
+use Rattle.bgp_messages.specs.declared.bgp_attributes.attribute.Attribute.{Attribute}
+use Rattle.bgp_messages.specs.declared.bgp_attributes.attribute.Attribute.TheVariants.{Reach, Unreach, Communities, Tunnel, Passed}
+use Rattle.bgp_messages.specs.declared.bgp_attributes.key.Key.{Key}
+use Rattle.bgp_messages.specs.declared.bgp_attributes.update.Advert.{Advert}
+use Rattle.bgp_messages.specs.declared.bgp_attributes.update.Change.{Change}
+use Rattle.bgp_messages.specs.declared.bgp_attributes.update.Change.TheVariants as changes
+use Rattle.bgp_messages.specs.declared.bgp_attributes.update.Message.{Message}
+use Rattle.bgp_messages.specs.declared.bgp_attributes.update.Message.TheVariants as messages
+use Rattle.bgp_messages.specs.declared.bgp_attributes.update.Update.{Update}
+use Rattle.bgp_messages.specs.bgp_update.Spelling.{header, SpellsBody, SpellsMessage, Means}
+use Rattle.bgp_messages.specs.bgp_update.Table.{announced, unannounced, changes_of}
+use Rattle.network_defs.specs.edge_defs.Edge.{TakenRoute, Taken}
+use Rattle.network_defs.specs.edge_defs.Keys.{Value, same_value}
+use Rattle.network_defs.specs.edge_defs.Steps.{learned, taken_change}
 use Rattle.network_laws.specs.Sound.{AreEight, SoundKey, SoundValue, SoundTaken}
 use Rattle.network_laws.proofs.Lists.{each_append, each_of, each_map, each_flat, each_weaker}
 use Rattle.network_laws.proofs.Maps.{put_meets, cut_meets}
-use Rattle.edge_defs.proofs.KeyLemmas.{key_total, key_exact}
+use Rattle.network_defs.proofs.edge_defs.KeyLemmas.{key_total, key_exact}
 use Rattle.network_laws.proofs.ControlFlows.{SoundRoute}
 use Rattle.network_laws.proofs.ControlSpelled.{SoundTunnel, SoundAttribute, attributes_sound, comms_of_sound, pmsi_of_sound}
 

@@ -5,20 +5,20 @@ use Rattle.std.specs.List.{AllByRecursion}
 use Rattle.mv_base.specs.Number.{◌>>?◌}
 use Rattle.mv_base.specs.declared.core_link.Link.{Link}
 use Rattle.mv_base.specs.declared.ids.NodeId.{NodeId}
-use Rattle.framing.specs.Feed.{fed}
+use Rattle.mv_base.specs.framing.Feed.{fed}
 use Rattle.label_defs.specs.LabelData.{LabelData}
 use Rattle.label_defs.specs.Steps as labels
 use Rattle.label_defs.specs.Steps.{label_step}
 use Rattle.scenario_defs.specs.declared.report.ReportLine.{ReportLine}
 use Rattle.scenario_defs.specs.declared.report.ReportLine.TheVariants as lines
-use Rattle.session_defs.specs.Message.{SessionMessage, same_direction, front_of}
-use Rattle.session_defs.specs.Octets as octets
-use Rattle.session_defs.specs.Octets.{OctetNetwork, OctetAct, with_step, all_taken, moved, octet_act, octet_run}
-use Rattle.session_defs.specs.System.{Put, Stepped, Behind, with_earlier}
-use Rattle.session_defs.specs.declared.direction.Direction.{Direction}
-use Rattle.edge_defs.specs.Edge.{EdgeData}
-use Rattle.edge_defs.specs.Steps as steps
-use Rattle.edge_defs.specs.Steps.{edge_step}
+use Rattle.network_defs.specs.session_defs.Message.{SessionMessage, same_direction, front_of}
+use Rattle.network_defs.specs.session_defs.Octets as octets
+use Rattle.network_defs.specs.session_defs.Octets.{OctetNetwork, OctetAct, with_step, all_taken, moved, octet_act, octet_run}
+use Rattle.network_defs.specs.session_defs.System.{Put, Stepped, Behind, with_earlier}
+use Rattle.network_defs.specs.declared.session_defs.direction.Direction.{Direction}
+use Rattle.network_defs.specs.edge_defs.Edge.{EdgeData}
+use Rattle.network_defs.specs.edge_defs.Steps as steps
+use Rattle.network_defs.specs.edge_defs.Steps.{edge_step}
 use Rattle.network_defs.specs.Acts.{Act, Tick, Timers, Move, Lose, Notice, RaiseFirst, RaiseSecond, Restart, At, Enter, Land, Drop, Tell, SetCost, Reroute, Acted, with_network, at_node, is_of_session, is_at, leads_to, is_from_peer, with_aged, act}
 use Rattle.network_defs.specs.Costs.{Cores}
 use Rattle.network_defs.specs.Counts.{direction}

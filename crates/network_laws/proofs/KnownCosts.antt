@@ -4,18 +4,18 @@ use Rattle.std.proofs.Common.{◌≡◌, ◌<◌, ◌≤◌, ℕ, zero, suc, ◌
 use Rattle.std.specs.List.{AllByRecursion}
 use Rattle.std.proofs.lemmas.Bool.{cases_eq, cond-true, cond-false, eq-eqb, ne_eqb}
 use Rattle.mv_base.specs.declared.ids.NodeId.{NodeId}
-use Rattle.core_walks.specs.Costs.{with_cost}
+use Rattle.mv_base.specs.core_walks.Costs.{with_cost}
 use Rattle.scenario_defs.specs.declared.event.Event.{Event}
 use Rattle.scenario_defs.specs.declared.event.Event.TheVariants as events
 use Rattle.scenario_defs.specs.declared.event.Timed.{Timed}
 use Rattle.scenario_defs.specs.declared.report.Refusal.{Refusal}
 use Rattle.scenario_defs.specs.declared.report.ReportLine.TheVariants as lines
 use Rattle.scenario_defs.specs.declared.scenario.Scenario.{Scenario}
-use Rattle.session_defs.specs.Octets as octets
-use Rattle.session_defs.specs.Octets.{with_step}
-use Rattle.session_defs.specs.System.{Stepped, with_earlier}
+use Rattle.network_defs.specs.session_defs.Octets as octets
+use Rattle.network_defs.specs.session_defs.Octets.{with_step}
+use Rattle.network_defs.specs.session_defs.System.{Stepped, with_earlier}
 use Rattle.mv_base.specs.Number.{◌>>?◌}
-use Rattle.edge_defs.specs.Steps as steps
+use Rattle.network_defs.specs.edge_defs.Steps as steps
 use Rattle.network_defs.specs.Acts.{SetCost, Reroute, act, with_network}
 use Rattle.network_defs.specs.Costs.{Cores}
 use Rattle.network_defs.specs.Counts.{all_nodes, node_ids}
@@ -32,7 +32,7 @@ use Rattle.network_laws.specs.SoundRun.{SoundRun}
 use Rattle.network_laws.proofs.RunActs.{WorldStays}
 use Rattle.network_laws.proofs.RunEvents.{turned_stays, start_stays, run_stays}
 use Rattle.scenario_defs.specs.declared.event.Script.{Script}
-use Rattle.core_walks.specs.Core.{IsCoreOf}
+use Rattle.mv_base.specs.core_walks.Core.{IsCoreOf}
 use Rattle.network_laws.proofs.Costs.{Costs, costs_of, StepHas, WorldCosts, called_has, act_costs}
 use Rattle.network_laws.proofs.SteadyEvents.{IsNoCost, steady_event}
 

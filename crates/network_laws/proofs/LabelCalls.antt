@@ -9,7 +9,7 @@ use Rattle.std.proofs.lemmas.Option.{same_Some}
 use Rattle.mv_base.specs.Number.{◌>>?◌}
 use Rattle.mv_base.specs.declared.addr.Addr.{Addr}
 use Rattle.mv_base.specs.declared.ids.NodeId.{NodeId}
-use Rattle.mldp_fec.specs.declared.fec.Fec.{Fec}
+use Rattle.mldp.specs.declared.mldp_fec.fec.Fec.{Fec}
 use Rattle.scenario_defs.specs.declared.event.Kind.TheVariants as kinds
 use Rattle.label_defs.specs.Keys.{fec_cmp}
 use Rattle.label_defs.specs.LabelData.{LabelData}
@@ -19,12 +19,12 @@ use Rattle.label_defs.specs.Members.{in_order}
 use Rattle.label_defs.proofs.KeyLemmas.{fec_cmp_total}
 use Rattle.label_defs.proofs.SettleLemmas.{bind_some}
 use Rattle.label_defs.proofs.MemberLemmas.{each_in_order}
-use Rattle.edge_defs.specs.Edge.{Control}
-use Rattle.edge_defs.specs.Place.{EdgePlace, label_place}
-use Rattle.edge_defs.specs.Steps as steps
-use Rattle.edge_defs.specs.Steps.{own_label_call, changed_leaves, one_call, LabelStep, label_row, part_after}
-use Rattle.edge_defs.specs.Tunnels.{leaves}
-use Rattle.node_defs.specs.Puts.{label_puts}
+use Rattle.network_defs.specs.edge_defs.Edge.{Control}
+use Rattle.network_defs.specs.edge_defs.Place.{EdgePlace, label_place}
+use Rattle.network_defs.specs.edge_defs.Steps as steps
+use Rattle.network_defs.specs.edge_defs.Steps.{own_label_call, changed_leaves, one_call, LabelStep, label_row, part_after}
+use Rattle.network_defs.specs.edge_defs.Tunnels.{leaves}
+use Rattle.network_defs.specs.node_defs.Puts.{label_puts}
 use Rattle.network_laws.specs.Sound.{IsSoundFec, SoundControl}
 use Rattle.network_laws.proofs.LabelEnds.{IsNoRaise, own_ends_stay_empty, ends_stay_empty, no_ends_no_puts}
 use Rattle.network_laws.proofs.LabelLeaves.{leaves_are_sound}

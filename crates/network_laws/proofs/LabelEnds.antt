@@ -7,8 +7,8 @@ use Rattle.std.specs.FinSet as sets
 use Rattle.std.proofs.lemmas.Option.{same_Some, none-some}
 use Rattle.mv_base.specs.declared.addr.Addr.{Addr}
 use Rattle.mv_base.specs.declared.ids.NodeId.{NodeId}
-use Rattle.mldp_fec.specs.declared.fec.Fec.{Fec}
-use Rattle.mldp_msgs.specs.declared.message.LabelMessage.TheVariants as messages
+use Rattle.mldp.specs.declared.mldp_fec.fec.Fec.{Fec}
+use Rattle.mldp.specs.declared.mldp_msgs.message.LabelMessage.TheVariants as messages
 use Rattle.label_defs.specs.Keys.{node_cmp}
 use Rattle.label_defs.specs.LabelData.{Place, LabelData, use_of}
 use Rattle.label_defs.specs.Settling.{Stepped, change_of, changed, put_by, settle_all, with_use}
@@ -22,8 +22,8 @@ use Rattle.label_defs.specs.declared.put.Put as labels
 use Rattle.label_defs.proofs.KeyLemmas.{node_cmp_total, node_cmp_exact}
 use Rattle.label_defs.proofs.SettleLemmas.{bind_some}
 use Rattle.label_defs.proofs.UseLemmas.{map_some}
-use Rattle.edge_defs.specs.Steps.{LabelStep}
-use Rattle.node_defs.specs.Puts.{label_put, label_puts}
+use Rattle.network_defs.specs.edge_defs.Steps.{LabelStep}
+use Rattle.network_defs.specs.node_defs.Puts.{label_put, label_puts}
 use Rattle.network_defs.proofs.Nothing.{no_entries}
 
 -- the call is none of an end that comes up

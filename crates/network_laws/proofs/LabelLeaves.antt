@@ -11,18 +11,18 @@ use Rattle.mv_base.specs.Address.{same_addr}
 use Rattle.mv_base.specs.declared.addr.Addr.{Addr}
 use Rattle.mv_base.specs.declared.ids.NodeId.{NodeId}
 use Rattle.mv_base.proofs.CutLemmas.{if_some}
-use Rattle.mldp_fec.specs.declared.fec.Fec.{Fec}
-use Rattle.bgp_attributes.specs.declared.key.Key.{Key}
+use Rattle.mldp.specs.declared.mldp_fec.fec.Fec.{Fec}
+use Rattle.bgp_messages.specs.declared.bgp_attributes.key.Key.{Key}
 use Rattle.scenario_defs.specs.declared.scenario.Vrf.{Vrf}
-use Rattle.selective_defs.specs.Selective.{wanted, is_wanted}
-use Rattle.selective_defs.specs.declared.learned_route.LearnedRoute.{LearnedRoute}
+use Rattle.network_defs.specs.edge_defs.selective_defs.Selective.{wanted, is_wanted}
+use Rattle.network_defs.specs.edge_defs.selective_defs.declared.learned_route.LearnedRoute.{LearnedRoute}
 use Rattle.label_defs.proofs.KeyLemmas.{fec_cmp_total, fec_cmp_exact, node_cmp_total}
 use Rattle.label_defs.proofs.SettleLemmas.{bind_some}
-use Rattle.edge_defs.specs.Edge.{VrfFlow, Upstream, Site, Remote, TakenRoute, Taken, Control}
-use Rattle.edge_defs.specs.Imported.{is_admitted, found_in, lsp_of, tunnel_by, inclusive_of, SelectiveRoute, selective_of, taken_from, imported_inclusive, ImportedSelective, imported_selective}
-use Rattle.edge_defs.specs.Keys.{Value, key_parts, key_cmp}
-use Rattle.edge_defs.specs.Place.{EdgePlace, OwnVrf, addr_of, own_vrfs}
-use Rattle.edge_defs.specs.Tunnels.{learned_route, learned_routes, inclusive_tunnels, flow_tunnels, flows_of, tunnels_of, leaves}
+use Rattle.network_defs.specs.edge_defs.Edge.{VrfFlow, Upstream, Site, Remote, TakenRoute, Taken, Control}
+use Rattle.network_defs.specs.edge_defs.Imported.{is_admitted, found_in, lsp_of, tunnel_by, inclusive_of, SelectiveRoute, selective_of, taken_from, imported_inclusive, ImportedSelective, imported_selective}
+use Rattle.network_defs.specs.edge_defs.Keys.{Value, key_parts, key_cmp}
+use Rattle.network_defs.specs.edge_defs.Place.{EdgePlace, OwnVrf, addr_of, own_vrfs}
+use Rattle.network_defs.specs.edge_defs.Tunnels.{learned_route, learned_routes, inclusive_tunnels, flow_tunnels, flows_of, tunnels_of, leaves}
 use Rattle.network_laws.specs.Sound.{IsSoundFec, SoundValue, SoundTaken, SoundControl}
 use Rattle.network_laws.proofs.LabelEntries.{each_entry}
 use Rattle.network_laws.proofs.Lists.{each_append, each_of, each_map, each_flat, each_filter}

@@ -11,7 +11,7 @@ use Rattle.mv_base.specs.Number.{◌>>?◌}
 use Rattle.mv_base.specs.declared.addr.Addr.{Addr}
 use Rattle.scenario_defs.specs.declared.scenario.Scenario.{Scenario}
 use Rattle.mv_base.specs.declared.ids.NodeId.{NodeId}
-use Rattle.mldp_msgs.proofs.Writings.{pdu_spelled}
+use Rattle.mldp.proofs.mldp_msgs.Writings.{pdu_spelled}
 use Rattle.label_defs.specs.declared.label_use.LabelUse.TheVariants as uses
 use Rattle.label_defs.specs.Keys.{fec_cmp, branch_cmp, node_cmp}
 use Rattle.label_defs.specs.LabelData.{Place, LabelData, fresh}
@@ -20,11 +20,11 @@ use Rattle.label_defs.specs.Steps.{Call, effect, told, numbered, label_step}
 use Rattle.label_defs.specs.declared.end.End.{End}
 use Rattle.label_defs.specs.declared.put.Put as labels
 use Rattle.label_defs.proofs.SettleLemmas.{bind_some}
-use Rattle.session_defs.specs.Message.{IsPut}
-use Rattle.session_defs.specs.System.{Put}
-use Rattle.edge_defs.specs.Place.{EdgePlace, addr_of, label_place}
-use Rattle.edge_defs.specs.Steps.{LabelStep, label_row, part_after}
-use Rattle.node_defs.specs.Puts.{label_put, label_puts}
+use Rattle.network_defs.specs.session_defs.Message.{IsPut}
+use Rattle.network_defs.specs.session_defs.System.{Put}
+use Rattle.network_defs.specs.edge_defs.Place.{EdgePlace, addr_of, label_place}
+use Rattle.network_defs.specs.edge_defs.Steps.{LabelStep, label_row, part_after}
+use Rattle.network_defs.specs.node_defs.Puts.{label_put, label_puts}
 use Rattle.network_laws.specs.Sound.{SoundScenario, SoundUse, SoundPart}
 use Rattle.network_laws.proofs.BgpOctets.{host_length, host_octets}
 use Rattle.network_laws.proofs.BgpPlaces.{addr_host}

@@ -4,11 +4,11 @@ use Rattle.std.specs.Int.{w16, w32, to_be_bytes}
 use Rattle.mv_base.specs.Address.{addr_octets}
 use Rattle.mv_base.specs.Octets.{IsOctets}
 use Rattle.mv_base.specs.declared.addr.Addr.{Addr}
-use Rattle.mldp_fec.specs.Spelling as fecs
-use Rattle.mldp_fec.specs.declared.fec.Fec.{Fec}
-use Rattle.mldp_msgs.specs.Spelling.{IsLabel, IsWritable, tlv, type_of, written_tlvs, written_body, written_message, written}
-use Rattle.mldp_msgs.specs.declared.message.LabelMessage.{LabelMessage}
-use Rattle.mldp_msgs.specs.declared.message.LabelMessage.TheVariants as messages
+use Rattle.mldp.specs.mldp_fec.Spelling as fecs
+use Rattle.mldp.specs.declared.mldp_fec.fec.Fec.{Fec}
+use Rattle.mldp.specs.mldp_msgs.Spelling.{IsLabel, IsWritable, tlv, type_of, written_tlvs, written_body, written_message, written}
+use Rattle.mldp.specs.declared.mldp_msgs.message.LabelMessage.{LabelMessage}
+use Rattle.mldp.specs.declared.mldp_msgs.message.LabelMessage.TheVariants as messages
 use Rattle.label_defs.specs.declared.put.Put.{Put}
 use Rattle.label_defs.specs.Steps.{Call, Taken, Want, Unwant, Raised, Noticed, Timers, Rerouted}
 use Rattle.network_laws.specs.Sound.{IsSoundFec}

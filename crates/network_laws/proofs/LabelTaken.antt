@@ -3,20 +3,20 @@ use Rattle.std.proofs.Common.{◌≡◌, ℕ, zero, suc, ◌+◌, ◌*◌, ◌^�
 use Rattle.std.specs.Int.{w16, to_be_bytes}
 use Rattle.std.specs.List.{AllByRecursion, Contains}
 use Rattle.mv_base.specs.Octets.{IsOctets}
-use Rattle.framing.specs.Parts.{ArePartsAfter}
-use Rattle.framing.specs.Units.{Spelled, AreUnits, octets_of, messages_of}
-use Rattle.framing.proofs.Cuts.{IsOctets-before, IsOctets-behind}
-use Rattle.mldp_fec.specs.Spelling as fecs
-use Rattle.mldp_fec.specs.declared.fec.Fec.{Fec}
-use Rattle.mldp_msgs.specs.Spelling.{IsLabel, SpellsTlv, IsNew, Carries, Means, SpellsMessage, SpellsPdu}
-use Rattle.mldp_msgs.specs.declared.message.LabelMessage.{LabelMessage}
-use Rattle.mldp_msgs.specs.declared.message.LabelMessage.TheVariants as messages
-use Rattle.bgp_attributes.specs.declared.update.Message.{Message}
-use Rattle.bgp_update.specs.Spelling as updates
+use Rattle.mv_base.specs.framing.Parts.{ArePartsAfter}
+use Rattle.mv_base.specs.framing.Units.{Spelled, AreUnits, octets_of, messages_of}
+use Rattle.mv_base.proofs.framing.Cuts.{IsOctets-before, IsOctets-behind}
+use Rattle.mldp.specs.mldp_fec.Spelling as fecs
+use Rattle.mldp.specs.declared.mldp_fec.fec.Fec.{Fec}
+use Rattle.mldp.specs.mldp_msgs.Spelling.{IsLabel, SpellsTlv, IsNew, Carries, Means, SpellsMessage, SpellsPdu}
+use Rattle.mldp.specs.declared.mldp_msgs.message.LabelMessage.{LabelMessage}
+use Rattle.mldp.specs.declared.mldp_msgs.message.LabelMessage.TheVariants as messages
+use Rattle.bgp_messages.specs.declared.bgp_attributes.update.Message.{Message}
+use Rattle.bgp_messages.specs.bgp_update.Spelling as updates
 use Rattle.scenario_defs.specs.declared.event.Kind.{Kind}
 use Rattle.scenario_defs.specs.declared.event.Kind.TheVariants as kinds
-use Rattle.session_defs.specs.Message.{SessionMessage, Bgp, Label, IsPut}
-use Rattle.session_defs.specs.Refined.{IsCarried}
+use Rattle.network_defs.specs.session_defs.Message.{SessionMessage, Bgp, Label, IsPut}
+use Rattle.network_defs.specs.session_defs.Refined.{IsCarried}
 use Rattle.network_laws.specs.Sound.{IsSoundFec}
 use Rattle.network_laws.proofs.Lists.{each_append, each_map, each_inner}
 use Rattle.network_laws.proofs.LabelSound.{IsSoundLabelMessage}

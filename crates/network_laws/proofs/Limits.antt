@@ -12,11 +12,11 @@ use Rattle.std.proofs.lemmas.Bool.{or_parts, leb-false, ltb-false}
 use Rattle.std.proofs.lemmas.Option.{none-some}
 use Rattle.mv_base.specs.Number.{◌>>?◌}
 use Rattle.mv_base.specs.declared.ids.NodeId.{NodeId}
-use Rattle.framing.specs.Feed.{fed}
-use Rattle.pim_defs.specs.Entries.{applied, are_too_many, entry_cmp, entry_limit}
-use Rattle.pim_defs.specs.declared.expiry.Expiry.{Expiry}
-use Rattle.pim_defs.proofs.KeyLemmas.{entry_cmp_total}
-use Rattle.pim_defs.specs.Expiry.{counts}
+use Rattle.mv_base.specs.framing.Feed.{fed}
+use Rattle.network_defs.specs.edge_defs.pim_defs.Entries.{applied, are_too_many, entry_cmp, entry_limit}
+use Rattle.network_defs.specs.edge_defs.pim_defs.declared.expiry.Expiry.{Expiry}
+use Rattle.network_defs.proofs.edge_defs.pim_defs.KeyLemmas.{entry_cmp_total}
+use Rattle.network_defs.specs.edge_defs.pim_defs.Expiry.{counts}
 use Rattle.scenario_defs.specs.Vpn.{edge_of}
 use Rattle.scenario_defs.specs.declared.event.Event.{Event}
 use Rattle.scenario_defs.specs.declared.event.Event.TheVariants as events
@@ -27,28 +27,28 @@ use Rattle.scenario_defs.specs.declared.report.Refusal.TheVariants as refusals
 use Rattle.scenario_defs.specs.declared.report.ReportLine.{ReportLine}
 use Rattle.scenario_defs.specs.declared.report.ReportLine.TheVariants as lines
 use Rattle.scenario_defs.specs.declared.scenario.Scenario.{Scenario}
-use Rattle.session_defs.specs.Message.{SessionMessage, Bgp, Label, same_direction, front_of}
-use Rattle.session_defs.specs.Octets as octets
-use Rattle.session_defs.specs.Octets.{OctetNetwork, OctetAct, with_step, all_taken, moved, octet_act, octet_run}
-use Rattle.session_defs.specs.System.{Put, Stepped, Behind, with_earlier}
-use Rattle.session_defs.specs.declared.direction.Direction.{Direction}
+use Rattle.network_defs.specs.session_defs.Message.{SessionMessage, Bgp, Label, same_direction, front_of}
+use Rattle.network_defs.specs.session_defs.Octets as octets
+use Rattle.network_defs.specs.session_defs.Octets.{OctetNetwork, OctetAct, with_step, all_taken, moved, octet_act, octet_run}
+use Rattle.network_defs.specs.session_defs.System.{Put, Stepped, Behind, with_earlier}
+use Rattle.network_defs.specs.declared.session_defs.direction.Direction.{Direction}
 use Rattle.label_defs.specs.LabelData.{LabelData}
 use Rattle.label_defs.specs.Steps as labels
 use Rattle.label_defs.specs.Steps.{label_step}
-use Rattle.edge_defs.specs.Edge as edges
-use Rattle.edge_defs.specs.Edge.{Control, EdgeData, Note, VrfPattern, Selected, no_control, note_cmp, pattern_cmp}
-use Rattle.edge_defs.specs.Steps as steps
-use Rattle.edge_defs.specs.Steps.{effect, control_step, refreshed, is_vrf_step, taken_change, with_update, is_used, with_selection, selections_run, selection_run}
-use Rattle.mvpn_model.specs.declared.message.Given.{Given}
+use Rattle.network_defs.specs.edge_defs.Edge as edges
+use Rattle.network_defs.specs.edge_defs.Edge.{Control, EdgeData, Note, VrfPattern, Selected, no_control, note_cmp, pattern_cmp}
+use Rattle.network_defs.specs.edge_defs.Steps as steps
+use Rattle.network_defs.specs.edge_defs.Steps.{effect, control_step, refreshed, is_vrf_step, taken_change, with_update, is_used, with_selection, selections_run, selection_run}
+use Rattle.network_defs.specs.mvpn_model.declared.message.Given.{Given}
 use Rattle.network_defs.specs.Acts.{Act, Tick, Timers, Move, Lose, Notice, RaiseFirst, RaiseSecond, Restart, At, Enter, Land, Drop, Tell, SetCost, Reroute, Acted, with_network, at_node, is_of_session, is_at, leads_to, is_from_peer, with_aged, act}
 use Rattle.network_defs.specs.Counts.{direction, all_nodes}
 use Rattle.network_defs.specs.Nodes.{NodeState, Edge, CoreNode, Nodes, is_edge, fresh_node, with_node, following, place_of, label_place_of}
-use Rattle.mvpn_model.specs.Refused.{is_ours, octets_refusal}
+use Rattle.network_defs.specs.mvpn_model.Refused.{is_ours, octets_refusal}
 use Rattle.std.specs.Option.{option_or}
 use Rattle.std.specs.Prelude.{if◌then◌else◌}
 use Rattle.mv_base.specs.declared.ids.VrfId.{VrfId}
 use Rattle.mv_base.specs.declared.pattern.Pattern.{Pattern}
-use Rattle.mvpn_model.specs.Messages.{message_of}
+use Rattle.network_defs.specs.mvpn_model.Messages.{message_of}
 use Rattle.network_defs.specs.Costs.{Cores}
 use Rattle.network_defs.specs.Events.{Happened, Done, one_act, row, cost_acts, at_edge, with_message, done}
 use Rattle.network_defs.specs.Run.{Traced, outcome, Runs}
@@ -56,15 +56,15 @@ use Rattle.network_defs.specs.Refusals.{refused_if, are_sessions_full, control_o
 use Rattle.network_defs.specs.System.{NodeCall, Own, Elapse, Reset, Price, Follow, edge_stepped, core_called, node_called, nodes_called, call_of, system}
 use Rattle.network_defs.specs.World.{World, scenario_of, clock_of, start}
 use Rattle.network_defs.proofs.Kept.{Gives, Comes, then_comes, one_comes, enter_keeps, land_keeps}
-use Rattle.edge_defs.specs.Place.{EdgePlace, addr_of}
-use Rattle.edge_defs.specs.Tunnels.{leaves}
-use Rattle.bgp_attributes.specs.declared.update.Message.{Message}
-use Rattle.bgp_update.specs.Table.{changes_of}
-use Rattle.selective_defs.specs.Selective.{free_number}
+use Rattle.network_defs.specs.edge_defs.Place.{EdgePlace, addr_of}
+use Rattle.network_defs.specs.edge_defs.Tunnels.{leaves}
+use Rattle.bgp_messages.specs.declared.bgp_attributes.update.Message.{Message}
+use Rattle.bgp_messages.specs.bgp_update.Table.{changes_of}
+use Rattle.network_defs.specs.edge_defs.selective_defs.Selective.{free_number}
 use Rattle.label_defs.specs.LabelData as parts
-use Rattle.node_defs.specs.Puts.{bgp_puts, label_puts}
+use Rattle.network_defs.specs.node_defs.Puts.{bgp_puts, label_puts}
 use Rattle.network_laws.specs.Limits.{IsWithin, AreWithin}
-use Rattle.edge_defs.proofs.KeyLemmas.{note_total, pattern_total}
+use Rattle.network_defs.proofs.edge_defs.KeyLemmas.{note_total, pattern_total}
 use Rattle.network_laws.proofs.SteadyEvents.{IsPlain, IsRoutine, routine_event}
 
 -- ---- lengths of maps
@@ -251,7 +251,7 @@ edge_within nodes n edge call all own room = by (steps.label_row place nodes.clo
 
     stepped : Option (List steps.LabelStep) → Option (Stepped Nodes)
     stepped o =
-        let rows : Option steps.EdgeStepped = (o >>? λ row. Some (record { edge = record { control = control; part = steps.part_after edge.part row }; row = row })) in
+        let rows : Option steps.EdgeStepped = (o >>? λ row. Some (record { edge = record { control = control; part = steps.part_after edge.part row; raised = steps.raised_after nodes.clock edge.raised call }; row = row })) in
         rows >>? λ new.
         Some (record {
           state = with_node nodes n (Edge new.edge);
@@ -260,7 +260,7 @@ edge_within nodes n edge call all own room = by (steps.label_row place nodes.clo
 
     by : (o : Option (List steps.LabelStep)) → StepWithin (stepped o)
     by None = tt
-    by (Some row) = changed_within nodes n (Edge (record { control = control; part = steps.part_after edge.part row })) all (control_within place nodes.clock edge.control call room own)
+    by (Some row) = changed_within nodes n (Edge (record { control = control; part = steps.part_after edge.part row; raised = steps.raised_after nodes.clock edge.raised call })) all (control_within place nodes.clock edge.control call room own)
 
 core_within : (nodes : Nodes) (n : NodeId) (part : LabelData) (o : Option labels.Call) → NodesWithin nodes → StepWithin (core_called nodes n part o)
 core_within nodes n part None all = all

@@ -3,7 +3,7 @@ use Rattle.std.proofs.Common.{◌≡◌, ℕ, zero, suc, Bool, true, false, cond
 use Rattle.std.specs.List.{AllByRecursion, list_any}
 use Rattle.std.proofs.lemmas.Bool.{or_cases}
 use Rattle.std.proofs.lemmas.Option.{same_Some, none-some}
-use Rattle.edge_defs.specs.Imported.{found_in, only_one}
+use Rattle.network_defs.specs.edge_defs.Imported.{found_in, only_one}
 
 module _ {X : Type 0} (P : X → Type 0) where
   pub each_append : (xs ys : List X) → AllByRecursion P xs → AllByRecursion P ys → AllByRecursion P (xs ++ ys)

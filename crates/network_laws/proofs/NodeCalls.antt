@@ -10,17 +10,17 @@ use Rattle.scenario_defs.specs.declared.scenario.Node.{Node}
 use Rattle.scenario_defs.specs.declared.scenario.Scenario.{Scenario}
 use Rattle.label_defs.specs.Keys.{node_cmp}
 use Rattle.label_defs.specs.LabelData as labels
-use Rattle.pim_defs.specs.Entries.{entry_cmp}
-use Rattle.pim_defs.specs.declared.expiry.Expiry.{Expiry}
-use Rattle.session_defs.specs.Message.{SessionMessage, Bgp, Label}
-use Rattle.edge_defs.specs.Edge.{Control, note_cmp, pattern_cmp, flow_cmp, no_control}
-use Rattle.edge_defs.specs.Edge as edges
-use Rattle.edge_defs.specs.Place.{EdgePlace}
-use Rattle.core_walks.specs.Topology.{HasCost}
+use Rattle.network_defs.specs.edge_defs.pim_defs.Entries.{entry_cmp}
+use Rattle.network_defs.specs.edge_defs.pim_defs.declared.expiry.Expiry.{Expiry}
+use Rattle.network_defs.specs.session_defs.Message.{SessionMessage, Bgp, Label}
+use Rattle.network_defs.specs.edge_defs.Edge.{Control, note_cmp, pattern_cmp, flow_cmp, no_control}
+use Rattle.network_defs.specs.edge_defs.Edge as edges
+use Rattle.network_defs.specs.edge_defs.Place.{EdgePlace}
+use Rattle.mv_base.specs.core_walks.Topology.{HasCost}
 use Rattle.network_defs.specs.Costs.{AreRepriced, Cores}
 use Rattle.network_defs.proofs.CostLemmas.{repriced_itself}
-use Rattle.edge_defs.specs.Steps as steps
-use Rattle.edge_defs.specs.Steps.{control_step}
+use Rattle.network_defs.specs.edge_defs.Steps as steps
+use Rattle.network_defs.specs.edge_defs.Steps.{control_step}
 use Rattle.network_defs.specs.Nodes.{NodeState, Edge, CoreNode, Nodes, is_edge, fresh_node, start_nodes, with_node}
 use Rattle.network_defs.specs.System.{call_of}
 use Rattle.network_laws.specs.Sound.{SoundScenario, SoundControl, SoundNode, IsBare, Sound}

@@ -10,17 +10,17 @@ use Rattle.label_defs.specs.LabelData.{Place, LabelData}
 use Rattle.label_defs.specs.Settling as settling
 use Rattle.label_defs.specs.Steps as labels
 use Rattle.label_defs.specs.Steps.{label_step}
-use Rattle.session_defs.specs.System.{Stepped}
-use Rattle.session_defs.specs.Refined.{Keeps, IsHonestWhile}
-use Rattle.edge_defs.specs.Edge.{Control, EdgeData}
-use Rattle.edge_defs.specs.Place.{EdgePlace, addr_of}
-use Rattle.edge_defs.specs.Steps as steps
-use Rattle.edge_defs.specs.Steps.{LabelStep, EdgeStepped, control_step, own_label_call, changed_leaves, one_call, label_row, part_after}
-use Rattle.edge_defs.specs.Tunnels.{leaves}
+use Rattle.network_defs.specs.session_defs.System.{Stepped}
+use Rattle.network_defs.specs.session_defs.Refined.{Keeps, IsHonestWhile}
+use Rattle.network_defs.specs.edge_defs.Edge.{Control, EdgeData}
+use Rattle.network_defs.specs.edge_defs.Place.{EdgePlace, addr_of}
+use Rattle.network_defs.specs.edge_defs.Steps as steps
+use Rattle.network_defs.specs.edge_defs.Steps.{LabelStep, EdgeStepped, control_step, own_label_call, changed_leaves, one_call, label_row, part_after, raised_after}
+use Rattle.network_defs.specs.edge_defs.Tunnels.{leaves}
 use Rattle.network_defs.specs.Costs.{AreRepriced}
 use Rattle.network_defs.proofs.CostLemmas.{repriced_more}
 use Rattle.network_defs.specs.Nodes.{NodeState, Edge, CoreNode, Nodes, fresh_node, with_node, following, place_of, label_place_of}
-use Rattle.node_defs.specs.Puts.{bgp_puts, label_puts}
+use Rattle.network_defs.specs.node_defs.Puts.{bgp_puts, label_puts}
 use Rattle.network_defs.specs.System.{Own, Elapse, Reset, Price, Follow, NodeCall, nodes_called, node_called, core_called, core_stepped, edge_stepped, call_of}
 use Rattle.network_laws.specs.Sound.{SoundScenario, SoundControl, SoundPart, SoundNode, IsBare, Sound}
 use Rattle.network_laws.specs.Honest.{IsSoundNodeCall, sound_system}
@@ -73,7 +73,7 @@ module _ (scenario : Scenario) (nodes : Nodes) (s : Sound scenario nodes) where
       }
 
       behind_row : List LabelStep → EdgeStepped
-      behind_row row = record { edge = record { control = control; part = part_after edge.part row }; row = row }
+      behind_row row = record { edge = record { control = control; part = part_after edge.part row; raised = raised_after nodes.clock edge.raised call }; row = row }
 
       by : (o : Option (List LabelStep)) → label_row place nodes.clock edge.part calls ≡ o → Keeps (Sound scenario) ((o >>? λ row. Some (behind_row row)) >>? λ new. Some (stepped new))
       by None e = tt
@@ -82,7 +82,7 @@ module _ (scenario : Scenario) (nodes : Nodes) (s : Sound scenario nodes) where
             each_append IsSpelledPut (bgp_puts place edge.control control) (flat_map (label_puts n (addr_of nodes.scenario n) (own_place n) nodes.clock) row)
                 (bgp_puts_are_put place edge.control control its_lines sound.0 control_is (is_within n lt))
                 (row_puts_are_put n (addr_of nodes.scenario n) (own_place n) nodes.clock row (router n lt) behind.1),
-            changed_node scenario nodes n (Edge (record { control = control; part = part_after edge.part row })) s (control_is, behind.0) (λ past. absurd (omega (arith, lt, past))),
+            changed_node scenario nodes n (Edge (record { control = control; part = part_after edge.part row; raised = raised_after nodes.clock edge.raised call })) s (control_is, behind.0) (λ past. absurd (omega (arith, lt, past))),
           )
 
   -- ---- a core node

@@ -4,18 +4,18 @@ use Rattle.std.proofs.Common.{◌≡◌, ◌<◌, ℕ, List, [], ◌∷◌, leng
 use Rattle.std.specs.Prelude.{Result, Ok, Err}
 use Rattle.mv_base.specs.Number.{◌>>?◌}
 use Rattle.mv_base.specs.declared.ids.NodeId.{NodeId}
-use Rattle.framing.specs.Feed.{fed}
+use Rattle.mv_base.specs.framing.Feed.{fed}
 use Rattle.scenario_defs.specs.declared.report.ReportLine.{ReportLine}
 use Rattle.scenario_defs.specs.declared.report.ReportLine.TheVariants as lines
 use Rattle.scenario_defs.specs.declared.scenario.Scenario.{Scenario}
-use Rattle.session_defs.specs.Message.{SessionMessage, front_of, same_direction}
-use Rattle.session_defs.specs.Octets as octets
-use Rattle.session_defs.specs.Octets.{OctetNetwork, OctetAct, with_step, all_taken, octet_run}
-use Rattle.session_defs.specs.Refined.{AreLines}
-use Rattle.session_defs.specs.System.{Behind, with_earlier}
-use Rattle.session_defs.specs.declared.direction.Direction.{Direction}
-use Rattle.session_defs.proofs.Runs.{run_refined_while}
-use Rattle.edge_defs.specs.Steps as steps
+use Rattle.network_defs.specs.session_defs.Message.{SessionMessage, front_of, same_direction}
+use Rattle.network_defs.specs.session_defs.Octets as octets
+use Rattle.network_defs.specs.session_defs.Octets.{OctetNetwork, OctetAct, with_step, all_taken, octet_run}
+use Rattle.network_defs.specs.session_defs.Refined.{AreLines}
+use Rattle.network_defs.specs.session_defs.System.{Behind, with_earlier}
+use Rattle.network_defs.specs.declared.session_defs.direction.Direction.{Direction}
+use Rattle.network_defs.proofs.session_defs.Runs.{run_refined_while}
+use Rattle.network_defs.specs.edge_defs.Steps as steps
 use Rattle.network_defs.specs.Acts.{Act, Tick, Timers, Move, Lose, Notice, RaiseFirst, RaiseSecond, Restart, At, Enter, Land, Drop, Tell, SetCost, Reroute, Acted, with_network, at_node, is_of_session, is_at, leads_to, is_from_peer, with_aged, act}
 use Rattle.network_defs.specs.Counts.{direction}
 use Rattle.network_defs.specs.Nodes.{Nodes}

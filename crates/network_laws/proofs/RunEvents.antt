@@ -7,7 +7,7 @@ use Rattle.mv_base.specs.declared.addr.Addr.{Addr}
 use Rattle.mv_base.specs.declared.ids.NodeId.{NodeId}
 use Rattle.mv_base.specs.declared.ids.SiteId.{SiteId}
 use Rattle.mv_base.specs.declared.ids.VrfId.{VrfId}
-use Rattle.core_walks.specs.Topology.{HasEnds}
+use Rattle.mv_base.specs.core_walks.Topology.{HasEnds}
 use Rattle.scenario_defs.specs.Vpn.{edge_of, entered}
 use Rattle.scenario_defs.specs.declared.event.Event.{Event}
 use Rattle.scenario_defs.specs.declared.event.Event.TheVariants as events
@@ -16,18 +16,18 @@ use Rattle.scenario_defs.specs.declared.event.Timed.{Timed}
 use Rattle.scenario_defs.specs.declared.report.Refusal.{Refusal}
 use Rattle.scenario_defs.specs.declared.report.ReportLine.TheVariants as lines
 use Rattle.scenario_defs.specs.declared.scenario.Scenario.{Scenario}
-use Rattle.mvpn_model.specs.Messages.{message_of}
-use Rattle.mvpn_model.specs.Packet.{packet}
-use Rattle.mvpn_model.specs.declared.message.Given.{Given}
-use Rattle.mvpn_model.specs.Sessions.{sessions}
-use Rattle.mvpn_model.specs.declared.session.Session.{Session}
-use Rattle.session_defs.specs.declared.direction.Direction.{Direction}
+use Rattle.network_defs.specs.mvpn_model.Messages.{message_of}
+use Rattle.network_defs.specs.mvpn_model.Packet.{packet}
+use Rattle.network_defs.specs.mvpn_model.declared.message.Given.{Given}
+use Rattle.network_defs.specs.mvpn_model.Sessions.{sessions}
+use Rattle.network_defs.specs.mvpn_model.declared.session.Session.{Session}
+use Rattle.network_defs.specs.declared.session_defs.direction.Direction.{Direction}
 use Rattle.network_defs.specs.Costs.{Cores}
-use Rattle.edge_defs.specs.Steps as steps
+use Rattle.network_defs.specs.edge_defs.Steps as steps
 use Rattle.network_defs.specs.Acts.{Act, Tick, Timers, Move, Lose, Notice, Restart, At, Enter, Land, Drop, Tell, Reroute, act}
 use Rattle.network_defs.specs.Counts.{all_nodes, directions, link_ways, is_joined, is_up}
 use Rattle.network_defs.specs.Events.{cost_acts, Happened, Outcome, Done, row, each, times, raise_acts, is_session_of, raises, notices, healed, turn, settled, landings, drain_round, sent, at_edge, with_message, done}
-use Rattle.mvpn_model.specs.Packets.{source_in, group_in}
+use Rattle.network_defs.specs.mvpn_model.Packets.{source_in, group_in}
 use Rattle.network_defs.specs.Refusals.{edge_of_vrf, refusal}
 use Rattle.network_defs.specs.Run.{Traced, outcome, Runs}
 use Rattle.network_defs.specs.World.{World, scenario_of, start}

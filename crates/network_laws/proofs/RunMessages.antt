@@ -3,13 +3,13 @@ use Rattle.std.proofs.Common.{◌≡◌, ℕ, List, [], ◌∷◌, ◌++◌, len
 use Rattle.std.specs.Prelude.{Result, Ok, Err}
 use Rattle.std.specs.Int.{w16, to_be_bytes}
 use Rattle.std.specs.List.{AllByRecursion}
-use Rattle.framing.proofs.Cuts.{IsOctets-before, IsOctets-behind}
+use Rattle.mv_base.proofs.framing.Cuts.{IsOctets-before, IsOctets-behind}
 use Rattle.mv_base.specs.Address.{addr_octets, IsAddr}
 use Rattle.mv_base.specs.Octets.{IsOctets}
 use Rattle.mv_base.specs.declared.addr.Addr.{Addr}
 use Rattle.mv_base.specs.declared.addr.Addr.TheVariants.{V4, V6}
 use Rattle.mv_base.specs.declared.ids.IfaceId.{IfaceId}
-use Rattle.mvpn_nlri.specs.Spelling.{IsMulticast}
+use Rattle.bgp_values.specs.mvpn_nlri.Spelling.{IsMulticast}
 use Rattle.pim_joinprune.specs.Fields.{AreAll}
 use Rattle.pim_joinprune.specs.Families.{family_octet, mask_len, family_of, IsOf}
 use Rattle.pim_joinprune.specs.Reading.{decoded}
@@ -23,14 +23,14 @@ use Rattle.pim_joinprune.specs.declared.source.SourceKind.{SourceKind}
 use Rattle.pim_joinprune.specs.declared.source.SourceKind.TheVariants as kinds
 use Rattle.pim_joinprune.proofs.Calls.{is_spelled}
 use Rattle.scenario_defs.specs.Rules.{group_of}
-use Rattle.pim_defs.specs.Mention.{entry_by, entry_of}
-use Rattle.pim_defs.specs.Single.{source_of, join_of, prune_of}
-use Rattle.mvpn_model.specs.Messages.{own_addr, read_at}
-use Rattle.mvpn_model.specs.declared.message.Given.{Given}
+use Rattle.network_defs.specs.edge_defs.pim_defs.Mention.{entry_by, entry_of}
+use Rattle.network_defs.specs.edge_defs.pim_defs.Single.{source_of, join_of, prune_of}
+use Rattle.network_defs.specs.mvpn_model.Messages.{own_addr, read_at}
+use Rattle.network_defs.specs.mvpn_model.declared.message.Given.{Given}
 use Rattle.scenario_defs.specs.declared.event.JoinEntry.{JoinEntry}
 use Rattle.scenario_defs.specs.declared.event.JoinEntry.TheVariants as entries
 use Rattle.scenario_defs.specs.declared.scenario.Scenario.{Scenario}
-use Rattle.bgp_update.specs.Written.{afi_of}
+use Rattle.bgp_messages.specs.bgp_update.Written.{afi_of}
 use Rattle.network_laws.specs.Honest.{SoundGroup, SoundMessage}
 use Rattle.network_laws.specs.Sound.{IsGroupAddr, SoundEntry}
 

@@ -7,15 +7,15 @@ use Rattle.std.proofs.lemmas.Option.{slice_get_within}
 use Rattle.mv_base.specs.declared.ids.IfaceId.{IfaceId}
 use Rattle.mv_base.specs.declared.ids.NodeId.{NodeId}
 use Rattle.mv_base.specs.declared.ids.VrfId.{VrfId}
-use Rattle.core_walks.specs.Topology.{HasEnds}
+use Rattle.mv_base.specs.core_walks.Topology.{HasEnds}
 use Rattle.scenario_defs.proofs.RuleLemmas.{vrf_rules_at}
 use Rattle.scenario_defs.specs.Vpn.{edge_of}
 use Rattle.scenario_defs.specs.declared.scenario.Iface.{Iface}
 use Rattle.scenario_defs.specs.declared.scenario.Node.{Node}
 use Rattle.scenario_defs.specs.declared.scenario.Scenario.{Scenario}
 use Rattle.scenario_defs.specs.declared.scenario.Vrf.{Vrf}
-use Rattle.mvpn_model.specs.Sessions.{sessions, edges, edges_from, bgp_session, bgp_sessions, ldp_session}
-use Rattle.mvpn_model.specs.declared.session.Session.{Session}
+use Rattle.network_defs.specs.mvpn_model.Sessions.{sessions, edges, edges_from, bgp_session, bgp_sessions, ldp_session}
+use Rattle.network_defs.specs.mvpn_model.declared.session.Session.{Session}
 use Rattle.network_defs.specs.Counts.{node_ids}
 use Rattle.network_defs.specs.Refusals.{edge_of_vrf}
 use Rattle.network_laws.specs.Sound.{SoundScenario}

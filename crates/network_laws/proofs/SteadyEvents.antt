@@ -9,14 +9,14 @@ use Rattle.scenario_defs.specs.Vpn.{edge_of, entered}
 use Rattle.scenario_defs.specs.declared.event.Event.{Event}
 use Rattle.scenario_defs.specs.declared.event.Event.TheVariants as events
 use Rattle.scenario_defs.specs.declared.event.Kind.{Kind}
-use Rattle.mvpn_model.specs.Messages.{message_of}
-use Rattle.mvpn_model.specs.Packet.{packet}
-use Rattle.mvpn_model.specs.Packets.{source_in, group_in}
-use Rattle.mvpn_model.specs.Sessions.{sessions}
-use Rattle.mvpn_model.specs.declared.message.Given.{Given}
-use Rattle.mvpn_model.specs.declared.session.Session.{Session}
-use Rattle.session_defs.specs.declared.direction.Direction.{Direction}
-use Rattle.edge_defs.specs.Steps as steps
+use Rattle.network_defs.specs.mvpn_model.Messages.{message_of}
+use Rattle.network_defs.specs.mvpn_model.Packet.{packet}
+use Rattle.network_defs.specs.mvpn_model.Packets.{source_in, group_in}
+use Rattle.network_defs.specs.mvpn_model.Sessions.{sessions}
+use Rattle.network_defs.specs.mvpn_model.declared.message.Given.{Given}
+use Rattle.network_defs.specs.mvpn_model.declared.session.Session.{Session}
+use Rattle.network_defs.specs.declared.session_defs.direction.Direction.{Direction}
+use Rattle.network_defs.specs.edge_defs.Steps as steps
 use Rattle.network_defs.specs.Acts.{Act, Tick, Timers, Move, Lose, Notice, RaiseFirst, RaiseSecond, Restart, At, Enter, Land, Drop, Tell, SetCost, Reroute, act}
 use Rattle.network_defs.specs.Counts.{directions, link_ways, all_nodes, is_joined, is_up}
 use Rattle.network_defs.specs.Events.{Done, row, each, times, raise_acts, is_session_of, raises, notices, healed, turn, settled, landings, drain_round, sent, at_edge, with_message, done}

@@ -2,7 +2,7 @@
 use Rattle.std.specs.Prelude.{◌≡◌, ◌<◌, length}
 use Rattle.mv_base.specs.declared.ids.NodeId.{NodeId}
 use Rattle.scenario_defs.specs.declared.scenario.Scenario.{Scenario}
-use Rattle.core_walks.specs.Core.{IsCoreOf}
+use Rattle.mv_base.specs.core_walks.Core.{IsCoreOf}
 use Rattle.network_defs.specs.Costs.{AreRepriced, Cores}
 use Rattle.network_defs.specs.Nodes.{Nodes, core_at}
 

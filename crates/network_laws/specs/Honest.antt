@@ -3,16 +3,16 @@ use Rattle.std.specs.Prelude.{◌<◌, ◌≤◌, ℕ, length}
 use Rattle.std.specs.List.{AllByRecursion}
 use Rattle.mv_base.specs.Octets.{IsOctets}
 use Rattle.mv_base.specs.declared.ids.NodeId.{NodeId}
-use Rattle.core_walks.specs.Walks.{IsLinked}
+use Rattle.mv_base.specs.core_walks.Walks.{IsLinked}
 use Rattle.pim_joinprune.specs.declared.group.Group.{Group}
 use Rattle.pim_joinprune.specs.declared.message.JoinPrune.{JoinPrune}
 use Rattle.pim_joinprune.specs.declared.source.JpSource.{JpSource}
-use Rattle.pim_defs.specs.Mention.{entry_of}
+use Rattle.network_defs.specs.edge_defs.pim_defs.Mention.{entry_of}
 use Rattle.scenario_defs.specs.declared.event.Event.{Event}
 use Rattle.scenario_defs.specs.declared.event.Event.TheVariants as events
 use Rattle.scenario_defs.specs.declared.scenario.Scenario.{Scenario}
-use Rattle.session_defs.specs.System.{System}
-use Rattle.edge_defs.specs.Steps as steps
+use Rattle.network_defs.specs.session_defs.System.{System}
+use Rattle.network_defs.specs.edge_defs.Steps as steps
 use Rattle.network_defs.specs.Nodes.{Nodes}
 use Rattle.network_defs.specs.System.{NodeCall, Own, Elapse, Reset, Price, Follow, system}
 use Rattle.network_laws.specs.Sound.{IsFlow, SoundEntry, SoundPattern}

@@ -1,3 +1,4 @@
+pub use Rattle.bgp_values.specs as bgp_values
 pub mod Sound
 pub mod Costs
 pub mod Limits

@@ -3,8 +3,8 @@ use Rattle.std.specs.Prelude.{◌≤◌}
 use Rattle.std.specs.FinMap as maps
 use Rattle.std.specs.FinSet as sets
 use Rattle.mv_base.specs.declared.ids.NodeId.{NodeId}
-use Rattle.pim_defs.specs.Entries.{entry_limit}
-use Rattle.edge_defs.specs.Edge.{Control}
+use Rattle.network_defs.specs.edge_defs.pim_defs.Entries.{entry_limit}
+use Rattle.network_defs.specs.edge_defs.Edge.{Control}
 use Rattle.network_defs.specs.Refusals.{control_of, note_limit, selection_limit}
 use Rattle.network_defs.specs.World.{World}
 

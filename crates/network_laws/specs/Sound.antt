@@ -10,13 +10,13 @@ use Rattle.mv_base.specs.declared.addr.Addr.{Addr}
 use Rattle.mv_base.specs.declared.addr.Addr.TheVariants.{V4, V6}
 use Rattle.mv_base.specs.declared.ids.NodeId.{NodeId}
 use Rattle.mv_base.specs.declared.pattern.Pattern.{Pattern}
-use Rattle.mldp_fec.specs.Spelling as fecs
-use Rattle.mldp_fec.specs.declared.fec.Fec.{Fec}
-use Rattle.mvpn_nlri.specs.Spelling.{IsMulticast, IsSource, IsGroup, IsAnyOr}
-use Rattle.mvpn_nlri.specs.declared.route.Route.TheVariants as routes
-use Rattle.route_targets.specs.declared.communities.ExtComm.{ExtComm}
-use Rattle.bgp_attributes.specs.declared.key.Key.{Key}
-use Rattle.bgp_attributes.specs.declared.key.Key.TheVariants.{Mcast, Unicast}
+use Rattle.mldp.specs.mldp_fec.Spelling as fecs
+use Rattle.mldp.specs.declared.mldp_fec.fec.Fec.{Fec}
+use Rattle.bgp_values.specs.mvpn_nlri.Spelling.{IsMulticast, IsSource, IsGroup, IsAnyOr}
+use Rattle.bgp_values.specs.declared.mvpn_nlri.route.Route.TheVariants as routes
+use Rattle.mv_base.specs.declared.route_targets.communities.ExtComm.{ExtComm}
+use Rattle.bgp_messages.specs.declared.bgp_attributes.key.Key.{Key}
+use Rattle.bgp_messages.specs.declared.bgp_attributes.key.Key.TheVariants.{Mcast, Unicast}
 use Rattle.scenario_defs.specs.Rules.{Rules}
 use Rattle.scenario_defs.specs.declared.event.IfaceEntry.{IfaceEntry}
 use Rattle.scenario_defs.specs.declared.event.JoinEntry.{JoinEntry}
@@ -26,10 +26,10 @@ use Rattle.label_defs.specs.LabelData.{LabelData}
 use Rattle.label_defs.specs.declared.branch.Branch.{Branch}
 use Rattle.label_defs.specs.declared.label_use.LabelUse.{LabelUse}
 use Rattle.label_defs.specs.declared.label_use.LabelUse.TheVariants as uses
-use Rattle.edge_defs.specs.Edge.{Note, VrfPattern, Selected, VrfFlow, Upstream, Remote, TakenRoute, Taken, Control}
-use Rattle.edge_defs.specs.Imported.{lsp_of}
-use Rattle.edge_defs.specs.Keys.{Value}
-use Rattle.bgp_update.specs.Written.{afi_of}
+use Rattle.network_defs.specs.edge_defs.Edge.{Note, VrfPattern, Selected, VrfFlow, Upstream, Remote, TakenRoute, Taken, Control}
+use Rattle.network_defs.specs.edge_defs.Imported.{lsp_of}
+use Rattle.network_defs.specs.edge_defs.Keys.{Value}
+use Rattle.bgp_messages.specs.bgp_update.Written.{afi_of}
 use Rattle.network_defs.specs.Costs.{AreRepriced}
 use Rattle.network_defs.specs.Nodes.{NodeState, Edge, CoreNode, Nodes}
 

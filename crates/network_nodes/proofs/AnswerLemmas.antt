@@ -1,16 +1,16 @@
 -- What a call of a node answers, by what its edge or its core node answers.
 use Rattle.std.proofs.Common.{◌≡◌, ◌∙◌, refl, sym, ap, subst, ℕ, Some, Result, Ok, Err, OnOk}
 use Rattle.mv_base.specs.declared.ids.NodeId.{NodeId}
-use Rattle.core_walks.specs.Core.{Core, IsCoreOf}
-use Rattle.core_walks.specs.Topology.{Topology}
+use Rattle.mv_base.specs.core_walks.Core.{Core, IsCoreOf}
+use Rattle.mv_base.specs.core_walks.Topology.{Topology}
 use Rattle.label_defs.specs.Node.{NodePlace, Spent, LacksLabel, LacksMemory}
 use Rattle.label_defs.specs.Steps as labels
 use Rattle.edge_defs.specs.Place.{EdgePlace}
 use Rattle.edge_defs.specs.Steps.{Call, own_label_call}
-use Rattle.edge_home.specs.Home as homes
-use Rattle.edge_home.specs.Home.{Home}
-use Rattle.node_defs.specs.EdgeState.{EdgeState, called}
-use Rattle.node_laws.specs.Places.{node_place}
+use Rattle.edge_core.specs.edge_routes.edge_home.Home as homes
+use Rattle.edge_core.specs.edge_routes.edge_home.Home.{Home}
+use Rattle.network_defs.specs.node_defs.EdgeState.{EdgeState, called}
+use Rattle.edge_core.specs.node_laws.Places.{node_place}
 use Rattle.network_defs.specs.Nodes.{Nodes, core_at, place_of}
 use Rattle.wire_laws.specs.AnyNodes as any
 use Rattle.wire_laws.specs.AnyNodes.{AnyNode, core_after, spent_of}
@@ -21,10 +21,10 @@ use Rattle.edge_core.specs.State.{IsIn, home_of}
 use Rattle.edge_core.specs.View.{EdgeView}
 use Rattle.edge_core.specs.declared.fault.EdgeFault.{EdgeFault}
 use Rattle.edge_core.specs.declared.fault.EdgeFault.TheVariants as faults
-use Rattle.core_node.specs.Answers as cores
-use Rattle.core_node.specs.View.{CoreView, state_of}
-use Rattle.core_node.specs.declared.fault.CoreFault.{CoreFault}
-use Rattle.core_node.specs.declared.fault.CoreFault.TheVariants as core_faults
+use Rattle.network_nodes.specs.core_node.Answers as cores
+use Rattle.network_nodes.specs.core_node.View.{CoreView, state_of}
+use Rattle.network_nodes.specs.declared.core_node.fault.CoreFault.{CoreFault}
+use Rattle.network_nodes.specs.declared.core_node.fault.CoreFault.TheVariants as core_faults
 use Rattle.network_nodes.specs.Answers.{Answers, NodeStep, Stands, after, fault_as, told_as}
 use Rattle.network_nodes.specs.NodeView.{IsNode}
 use Rattle.network_nodes.specs.declared.node.NetworkNode.TheVariants as nodes
@@ -47,7 +47,7 @@ module _ (core : Topology) (now : ℕ) (step : EdgeStep) (old new : EdgeView) (r
   -- where the edge stands in the network
   there : (network : Nodes) (n : NodeId) → Stands network n core now (nodes.Edge old) → (state : EdgeState)
       → own_step (core_at network n) state ≡ step (place_of network n) network.clock state
-  there network n stands state = λ i. step (homes.place_of (stands.placed i) (core_at network n)) (sym stands.clock i) state
+  there network n stands state = λ i. step (homes.place_of (stands.placed.0 i) (core_at network n)) (sym stands.clock i) state
 
   pub edge_made : (whole : NodeStep) → ((network : Nodes) (n : NodeId) (state : EdgeState) → whole network n (any.Edge state) ≡ of_edge step network n (any.Edge state))
       → edges.Makes core own_step old new → (network : Nodes) (n : NodeId) → Stands network n core now (nodes.Edge old) → (state : AnyNode)
@@ -75,11 +75,12 @@ pub edge_answers : (core : Topology) (now : ℕ) (step : EdgeStep) (whole : Node
     → edges.Answers core (λ own state. step (homes.place_of (home_of old) own) now state) old new result
     → Answers core now whole (nodes.Edge old) (nodes.Edge new) result
 edge_answers core now step whole old new result same row = record {
-  placed = λ scenario n at. row.home ∙ at;
+  placed = λ scenario n at. (row.home ∙ at.0, at.1);
   before = λ spent e. ((row.before spent e).0, ap (λ (v : EdgeView). nodes.Edge v) (row.before spent e).1);
   unspent = row.unspent;
   made = on_ok result (edge_made core now step old new result whole same) row.made;
   goes_on = row.goes_on;
+  toward = row.toward;
   lacks = λ e none. edge_lacks core now step old new result whole same (row.lacks e none);
   spends = row.spends;
 }
@@ -151,6 +152,7 @@ core_answers core now step whole old new (Ok done) same row = record {
   unspent = row.unspent;
   made = core_made core now step whole old new same row.made;
   goes_on = row.goes_on;
+  toward = row.toward;
   lacks = λ e. absurd cc;
   spends = λ fault e. absurd cc;
 }
@@ -160,6 +162,7 @@ core_answers core now step whole old new (Err fault) same row = record {
   unspent = tt;
   made = tt;
   goes_on = tt;
+  toward = row.toward;
   lacks = λ e none. core_lacks core now step whole old new same
       (row.lacks (ap (λ (f : CoreFault). Err f) (lacking fault (one_fault (fault_as fault) faults.NoLabel e))) none);
   spends = λ other e none. row.spends fault refl none ∙ (spent_told fault ∙ ap spent_by (one_fault (fault_as fault) other e));
@@ -172,3 +175,8 @@ pub core_call : (core : Topology) (now : ℕ) (call : Call) (own : labels.Call) 
 core_call core now call own old new result is row =
     core_answers core now (λ place known clock state. core_called place known clock state own) (after call) old new result
     (λ network n state i. any.CoreNode (core_after network n state (is i))) row
+
+-- what holds where a core node answers Ok holds where the node does
+pub told_ok : (P : Type 0) (result : Result (Unit {0}) CoreFault) → OnOk result P → OnOk (told_as result) P
+told_ok P (Ok done) p = p
+told_ok P (Err fault) p = tt

@@ -5,27 +5,27 @@ use Rattle.std.proofs.lemmas.List.Elements.{All-get_or}
 use Rattle.mv_base.specs.declared.addr.Addr.{Addr}
 use Rattle.mv_base.specs.declared.addr.Addr.TheVariants.{V4, V6}
 use Rattle.mv_base.specs.declared.ids.NodeId.{NodeId}
-use Rattle.core_walks.specs.Core.{Core}
+use Rattle.mv_base.specs.core_walks.Core.{Core}
 use Rattle.scenario_defs.specs.Rules.{IsIpv4, Rules}
 use Rattle.scenario_defs.specs.declared.event.Kind.{Kind}
 use Rattle.scenario_defs.specs.declared.scenario.Node.{Node}
 use Rattle.scenario_defs.specs.declared.scenario.Scenario.{Scenario}
-use Rattle.mldp_msgs.specs.Spelling.{IsRouter}
+use Rattle.mldp.specs.mldp_msgs.Spelling.{IsRouter}
 use Rattle.mldp_node.specs.Standing.{IsPlace}
 use Rattle.label_defs.specs.LabelData as labels
 use Rattle.label_defs.specs.LabelData.{LabelData, Place, branches_of, use_of}
 use Rattle.label_defs.specs.Node.{Spent, place_in}
-use Rattle.mldp_fec.specs.declared.fec.Fec.{Fec}
+use Rattle.mldp.specs.declared.mldp_fec.fec.Fec.{Fec}
 use Rattle.edge_defs.specs.Datagrams as datagrams
 use Rattle.edge_defs.specs.Datagrams.{discarded, tree_of}
 use Rattle.edge_defs.specs.Due as edges
 use Rattle.edge_defs.specs.Place.{addr_of}
-use Rattle.edge_home.specs.Home as homes
-use Rattle.edge_home.specs.Home.{Home, home_of}
-use Rattle.control_laws.proofs.Parts.{no_core}
+use Rattle.edge_core.specs.edge_routes.edge_home.Home as homes
+use Rattle.edge_core.specs.edge_routes.edge_home.Home.{Home, home_of}
+use Rattle.edge_core.proofs.control_laws.Parts.{no_core}
 use Rattle.edge_streams.specs.Kept.{session}
-use Rattle.node_defs.specs.EdgeState.{EdgeState, handed, handed_out, handed_unless}
-use Rattle.node_laws.proofs.PlaceLemmas.{one_addr, one_place}
+use Rattle.network_defs.specs.node_defs.EdgeState.{EdgeState, handed, handed_out, handed_unless}
+use Rattle.edge_core.proofs.node_laws.PlaceLemmas.{one_addr, one_place}
 use Rattle.network_defs.specs.Counts.{node_due}
 use Rattle.network_defs.specs.Nodes as world
 use Rattle.network_defs.specs.Nodes.{NodeState, Nodes, core_at, label_place_of, place_of}
@@ -35,7 +35,7 @@ use Rattle.edge_core.specs.State as states
 use Rattle.edge_core.specs.declared.fate.Fate.{Fate}
 use Rattle.edge_core.specs.State.{IsFate, IsIn, data_of}
 use Rattle.edge_core.specs.View.{EdgeView}
-use Rattle.core_node.specs.View.{CoreView}
+use Rattle.network_nodes.specs.core_node.View.{CoreView}
 use Rattle.network_nodes.specs.Network.{core_fate}
 use Rattle.network_nodes.specs.NodeView.{IsNode, IsPlacedAt, data_in, handed_by, waiting_in}
 use Rattle.network_nodes.specs.declared.node.NetworkNode.TheVariants as nodes
@@ -107,7 +107,7 @@ pub edge_due : (edge : EdgeView) (now count : ℕ) (network : Nodes) (n : NodeId
     → IsPlacedAt network.scenario n (nodes.Edge edge) → network.node n ≡ data_in (nodes.Edge edge) → network.clock ≡ now → count ≡ min (node_due network n) most
 edge_due edge now count network n counted placed is clock =
     counted (core_at network n)
-    ∙ ((λ i. min (edges.due (homes.place_of (placed i) (core_at network n)) (sym clock i) (data_of edge)) most) ∙ sym (ap (λ (s : NodeState). min (due_of network n s) most) is))
+    ∙ ((λ i. min (edges.due (homes.place_of (placed.0 i) (core_at network n)) (sym clock i) (data_of edge)) most) ∙ sym (ap (λ (s : NodeState). min (due_of network n s) most) is))
 
 pub core_due : (core : CoreView) (now count : ℕ) (network : Nodes) (n : NodeId)
     → ((walks : Core) → count ≡ labels.due (place_in core.labels.place walks) now core.labels.node.part) → count ≤ most

@@ -2,20 +2,20 @@
 use Rattle.std.proofs.Common.{◌≡◌, refl, ap, subst, ℕ, inl, inr, List, [], ◌∷◌, ◌⊎◌, Result, Ok, Err}
 use Rattle.mv_base.specs.Lists.{Among}
 use Rattle.mv_base.specs.declared.ids.NodeId.{NodeId}
-use Rattle.core_walks.specs.Topology.{Topology}
+use Rattle.mv_base.specs.core_walks.Topology.{Topology}
 use Rattle.scenario_defs.specs.declared.event.Kind.{Kind}
 use Rattle.scenario_defs.specs.declared.event.Kind.TheVariants as kinds
-use Rattle.node_defs.specs.EdgeState.{took}
+use Rattle.network_defs.specs.node_defs.EdgeState.{took}
 use Rattle.wire_laws.specs.CoreNodes.{core_took}
 use Rattle.wire_laws.specs.Edges.{session_with}
 use Rattle.edge_core.specs.Taking as edges
 use Rattle.edge_core.specs.View.{EdgeView}
 use Rattle.edge_core.specs.declared.fault.EdgeFault.{EdgeFault}
 use Rattle.edge_core.specs.declared.fault.EdgeFault.TheVariants as faults
-use Rattle.core_node.specs.Taking as cores
-use Rattle.core_node.specs.View.{CoreView}
-use Rattle.core_node.specs.declared.fault.CoreFault.{CoreFault}
-use Rattle.core_node.specs.declared.fault.CoreFault.TheVariants as core_faults
+use Rattle.network_nodes.specs.core_node.Taking as cores
+use Rattle.network_nodes.specs.core_node.View.{CoreView}
+use Rattle.network_nodes.specs.declared.core_node.fault.CoreFault.{CoreFault}
+use Rattle.network_nodes.specs.declared.core_node.fault.CoreFault.TheVariants as core_faults
 use Rattle.network_nodes.specs.Answers.{AnswersOctets, IsSessionFault, fault_as, taking, told_as}
 use Rattle.network_nodes.specs.declared.node.NetworkNode.TheVariants as nodes
 use Rattle.network_nodes.proofs.AnswerLemmas.{CoreStep, EdgeStep, core_answers, core_made, edge_answers, edge_made}

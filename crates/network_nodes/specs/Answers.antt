@@ -2,8 +2,8 @@
 use Rattle.std.specs.Prelude.{◌≡◌, ◌⊎◌, ℕ, List, [], ◌∷◌, None, Some, Result, Ok, Err, OnOk}
 use Rattle.mv_base.specs.Lists.{Among}
 use Rattle.mv_base.specs.declared.ids.NodeId.{NodeId}
-use Rattle.core_walks.specs.Core.{IsCoreOf}
-use Rattle.core_walks.specs.Topology.{Topology}
+use Rattle.mv_base.specs.core_walks.Core.{IsCoreOf}
+use Rattle.mv_base.specs.core_walks.Topology.{Topology}
 use Rattle.label_defs.specs.Node.{Spent, LacksLabel}
 use Rattle.scenario_defs.specs.declared.event.Kind.{Kind}
 use Rattle.scenario_defs.specs.declared.scenario.Scenario.{Scenario}
@@ -16,9 +16,10 @@ use Rattle.edge_core.specs.Answers.{fault_of, spent_by}
 use Rattle.edge_core.specs.View.{EdgeView}
 use Rattle.edge_core.specs.declared.fault.EdgeFault.{EdgeFault}
 use Rattle.edge_core.specs.declared.fault.EdgeFault.TheVariants as faults
-use Rattle.core_node.specs.declared.fault.CoreFault.{CoreFault}
-use Rattle.core_node.specs.declared.fault.CoreFault.TheVariants as core_faults
-use Rattle.network_nodes.specs.NodeView.{IsNode, IsPlacedAt, spent_in, stream_fault}
+use Rattle.network_nodes.specs.declared.core_node.fault.CoreFault.{CoreFault}
+use Rattle.network_nodes.specs.declared.core_node.fault.CoreFault.TheVariants as core_faults
+use Rattle.mldp_node.specs.NodeData.{KeepsWaitingTowardRoots}
+use Rattle.network_nodes.specs.NodeView.{IsNode, IsPlacedAt, labels_in, spent_in, stream_fault}
 use Rattle.network_nodes.specs.declared.node.NetworkNode.{NetworkNode}
 use Rattle.network_nodes.specs.declared.node.NetworkNode.TheVariants as nodes
 
@@ -51,7 +52,8 @@ Lacks core now step old =
     spent_of (step network n state) ≡ Some LacksLabel
 
 -- What a call answers and leaves. A spent node answers the same as before, and stays. Otherwise a node that answers Ok made the step.
--- `NoLabel` comes only where there is none; of want of memory no more is said than that the node is spent.
+-- `NoLabel` comes only where there is none; of want of memory no more is said than that the node is spent. Where each tree that waits for a
+-- label did so towards its root, it does so still.
 pub record Answers (core : Topology) (now : ℕ) (step : NodeStep) (old new : NetworkNode) (result : Result (Unit {0}) EdgeFault)
     : Type 0 where
   pub placed : (scenario : Scenario) (n : NodeId) → IsPlacedAt scenario n old → IsPlacedAt scenario n new
@@ -59,6 +61,7 @@ pub record Answers (core : Topology) (now : ℕ) (step : NodeStep) (old new : Ne
   pub unspent : OnOk result (spent_in old ≡ None)
   pub made : OnOk result (Makes core now step old new)
   pub goes_on : OnOk result (spent_in new ≡ None)
+  pub toward : spent_in new ≡ None → KeepsWaitingTowardRoots core (labels_in old) (labels_in new)
   pub lacks : result ≡ Err faults.NoLabel → spent_in old ≡ None → Lacks core now step old
   pub spends : (fault : EdgeFault) → result ≡ Err fault → spent_in old ≡ None → spent_in new ≡ spent_by fault
 

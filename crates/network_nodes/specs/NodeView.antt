@@ -7,12 +7,12 @@ use Rattle.label_defs.specs.Node.{Spent, waiting_for}
 use Rattle.scenario_defs.specs.declared.event.Kind.{Kind}
 use Rattle.scenario_defs.specs.declared.event.Kind.TheVariants as kinds
 use Rattle.scenario_defs.specs.declared.scenario.Scenario.{Scenario}
-use Rattle.session_defs.specs.Message.{SessionFault}
-use Rattle.session_defs.specs.PeerSession.{fault_at}
-use Rattle.edge_home.specs.Home.{home_of}
-use Rattle.edge_control.specs.Places.{is_own_iface, is_own_vrf}
-use Rattle.node_defs.specs.EdgeState.{fresh_state, handed_out, waiting_at}
-use Rattle.node_laws.specs.Places.{node_place}
+use Rattle.network_defs.specs.session_defs.Message.{SessionFault}
+use Rattle.network_defs.specs.session_defs.PeerSession.{fault_at}
+use Rattle.edge_core.specs.edge_routes.edge_home.Home.{home_of}
+use Rattle.edge_core.specs.edge_control.Places.{is_own_iface, is_own_vrf}
+use Rattle.network_defs.specs.node_defs.EdgeState.{fresh_state, handed_out, waiting_at}
+use Rattle.edge_core.specs.node_laws.Places.{node_place}
 use Rattle.network_defs.specs.Nodes as world
 use Rattle.network_defs.specs.Nodes.{NodeState, is_edge}
 use Rattle.wire_laws.specs.AnyNodes as any
@@ -21,7 +21,8 @@ use Rattle.wire_laws.specs.CoreNodes.{core_handed_out, fresh_core, ldp_with}
 use Rattle.wire_laws.specs.Edges.{session_with}
 use Rattle.edge_core.specs.State as edges
 use Rattle.edge_core.specs.State.{IsIn, data_of}
-use Rattle.core_node.specs.View.{state_of}
+use Rattle.mldp_node.specs.NodeData.{NodeData}
+use Rattle.network_nodes.specs.core_node.View.{state_of}
 use Rattle.network_nodes.specs.declared.node.NetworkNode.{NetworkNode}
 use Rattle.network_nodes.specs.declared.node.NetworkNode.TheVariants as nodes
 
@@ -30,9 +31,9 @@ abbrev pub spent_in : NetworkNode → Option Spent
 spent_in (nodes.Edge edge) = edge.spent
 spent_in (nodes.CoreNode core) = core.labels.node.spent
 
--- the node is that of the number in the scenario
+-- the node is that of the number in the scenario, an edge exactly where the scenario has one
 abbrev pub IsPlacedAt : Scenario → NodeId → NetworkNode → Type 0
-IsPlacedAt scenario n (nodes.Edge edge) = edges.home_of edge ≡ home_of scenario n
+IsPlacedAt scenario n (nodes.Edge edge) = (edges.home_of edge ≡ home_of scenario n) × (is_edge scenario n ≡ true)
 IsPlacedAt scenario n (nodes.CoreNode core) = (core.labels.place ≡ node_place scenario n) × (is_edge scenario n ≡ false)
 
 -- how many nodes its scenario has
@@ -50,6 +51,11 @@ IsNode state node = ⊥
 abbrev pub data_in : NetworkNode → NodeState
 data_in (nodes.Edge edge) = world.Edge (data_of edge)
 data_in (nodes.CoreNode core) = world.CoreNode core.labels.node.part
+
+-- its label part
+abbrev pub labels_in : NetworkNode → NodeData
+labels_in (nodes.Edge edge) = edge.labels
+labels_in (nodes.CoreNode core) = core.labels
 
 -- the node of that number before anything has happened
 abbrev pub first_node : Scenario → NodeId → AnyNode

@@ -1,5 +1,5 @@
 //! The calls of sessions, of timers and of costs.
-ghost use Rattle.std.specs.Prelude.{◌≡◌, ◌<◌, ◌^◌, [], true, false, length, None};
+ghost use Rattle.std.specs.Prelude.{◌≡◌, ◌<◌, ◌^◌, [], true, false, length, None, OnOk};
 ghost use Rattle.edge_defs.specs.Steps.{Noticed, Raised, Rerouted, Timers};
 ghost use Rattle.edge_streams.specs.Kept.{session};
 ghost use Rattle.edge_core.specs.Answers.{IsOneOf};
@@ -7,7 +7,8 @@ ghost use Rattle.edge_core.specs.State.{home_of, is_up};
 ghost use Rattle.edge_core.specs.Taking.{AnswersOctets as EdgeOctets};
 ghost use Rattle.network_defs.specs.Counts.{is_end_up};
 ghost use Rattle.network_nodes.specs.Answers.{Answers, AnswersOctets, after};
-ghost use Rattle.network_nodes.specs.NodeView.{MayBePeer, count_around, data_in, spent_in};
+ghost use Rattle.mldp_node.specs.NodeData.{WaitsTowardRootsOf};
+ghost use Rattle.network_nodes.specs.NodeView.{MayBePeer, count_around, data_in, labels_in, spent_in};
 
 use crate::node::{NetworkNode, told};
 use core_paths::Core;
@@ -112,11 +113,12 @@ impl NetworkNode {
         }
     }
 
-    /// Costs of links changed: the node knows the core by them from now on.
+    /// Costs of links changed: the node knows the core by them from now on, and each tree that waits for a label does so by them.
     pub fn rerouted(&mut self, now: u64, core: &Core) -> Result<(), EdgeFault>
         requires nodes { core.now.nodes ≡ count_around self.old }
         requires now { now < 2 ^ 63 }
         ensures answers { Answers core.now now (after Rerouted) self.old self.new result }
+        ensures toward { OnOk result (WaitsTowardRootsOf core.now (labels_in self.new)) }
         ensures only { IsOneOf [] result }
     {
         match self {

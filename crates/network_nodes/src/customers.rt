@@ -1,12 +1,12 @@
 //! The calls of customers and of the operator, at an edge (RFC 7761 section 4.5, RFC 6514 sections 12.1 and 14).
 ghost use Rattle.std.specs.Prelude.{◌≡◌, ◌<◌, ◌^◌, ℕ, [], ◌∷◌, false, true, Err, None};
-ghost use Rattle.core_walks.specs.Topology.{Topology};
+ghost use Rattle.mv_base.specs.core_walks.Topology.{Topology};
 ghost use Rattle.std.specs.FinMap as maps;
-ghost use Rattle.bgp_update.specs.Written.{afi_of};
-ghost use Rattle.mvpn_nlri.specs.Spelling.{IsAnyOr, IsGroup};
+ghost use Rattle.edge_core.specs.bgp_messages.bgp_update.Written.{afi_of};
+ghost use Rattle.bgp_values.specs.mvpn_nlri.Spelling.{IsAnyOr, IsGroup};
 ghost use Rattle.edge_defs.specs.Originated.{afi_by};
 ghost use Rattle.edge_defs.specs.Steps.{Active, Idle, Select, Unselect};
-ghost use Rattle.edge_control.specs.Places.{is_note_too_many, is_selection_too_many};
+ghost use Rattle.edge_core.specs.edge_control.Places.{is_note_too_many, is_selection_too_many};
 ghost use Rattle.edge_core.specs.Answers.{IsOneOf, OnTaken};
 ghost use Rattle.edge_core.specs.Pim.{AnswersPim};
 ghost use Rattle.edge_core.specs.declared.fault.EdgeFault.TheVariants as EdgeFault;

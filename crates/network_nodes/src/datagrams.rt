@@ -12,8 +12,8 @@ ghost use Rattle.network_nodes.specs.Answers.{Stands};
 ghost use Rattle.network_nodes.specs.Network.{core_fate, landing_fate};
 ghost use Rattle.network_nodes.specs.NodeView.{HasVrf, count_around, data_in, spent_in};
 
+use crate::core_node::CoreNode;
 use crate::node::NetworkNode;
-use core_node::CoreNode;
 use core_paths::Core;
 use edge_core::{Fate, branches_along};
 use label_forwarding::Datagram;

@@ -1,14 +1,15 @@
 //! A node, as its callers have it.
 ghost use Rattle.std.specs.Prelude.{◌≡◌, ◌<◌, length, IfOk, None};
+ghost use Rattle.std.specs.FinMap as maps;
 ghost use Rattle.scenario_defs.specs.Rules.{Rules};
-ghost use Rattle.core_node.specs.View.{state_of};
-ghost use Rattle.node_laws.specs.Places.{node_place};
+ghost use Rattle.network_nodes.specs.core_node.View.{state_of};
+ghost use Rattle.edge_core.specs.node_laws.Places.{node_place};
 ghost use Rattle.network_defs.specs.Nodes.{is_edge};
 ghost use Rattle.wire_laws.specs.CoreNodes.{fresh_core};
 ghost use Rattle.network_nodes.specs.Answers.{told_as};
-ghost use Rattle.network_nodes.specs.NodeView.{IsNode, IsPlacedAt, first_node, spent_in};
+ghost use Rattle.network_nodes.specs.NodeView.{IsNode, IsPlacedAt, first_node, labels_in, spent_in};
 
-use core_node::{CoreFault, CoreNode};
+use crate::core_node::{CoreFault, CoreNode};
 use edge_core::{Edge, EdgeFault, addrs_of};
 use mv_base::{NoMemory, NodeId};
 use scenario_defs::Scenario;
@@ -61,6 +62,7 @@ fn first_core(alloc: Global, scenario: &Scenario, n: NodeId) -> Result<CoreNode,
     requires within { n.0 < length scenario.now.nodes }
     ensures placed { IfOk result (λ core. core.labels.place ≡ node_place scenario.now n) }
     ensures fresh { IfOk result (λ core. state_of core ≡ fresh_core scenario.now.labels) }
+    ensures waits { IfOk result (λ core. core.labels.awaited ≡ maps.empty) }
 {
     let addrs = addrs_of(alloc, scenario.nodes.as_slice())?;
     CoreNode::of(alloc, n, &addrs, scenario.labels, scenario.life)
@@ -74,6 +76,7 @@ impl NetworkNode {
         ensures placed { IfOk result (IsPlacedAt scenario.now n) }
         ensures unspent { IfOk result (λ node. spent_in node ≡ None) }
         ensures is { IfOk result (IsNode (first_node scenario.now n)) }
+        ensures waits { IfOk result (λ node. (labels_in node).awaited ≡ maps.empty) }
     {
         if is_edge(scenario, n) {
             Ok(NetworkNode::Edge(Edge::of(alloc, scenario, n)?))

@@ -5,7 +5,9 @@ ghost use Rattle.label_defs.specs.Node.{Spent};
 ghost use Rattle.scenario_defs.specs.declared.event.Kind.{Kind};
 ghost use Rattle.scenario_defs.specs.declared.scenario.Scenario.{Scenario};
 ghost use Rattle.wire_laws.specs.AnyNodes.{AnyNode};
-ghost use Rattle.network_nodes.specs.NodeView.{IsNode, IsPlacedAt, MayBePeer, handed_by, spent_in, waiting_in};
+ghost use Rattle.mv_base.specs.core_walks.Core.{Core};
+ghost use Rattle.mldp_node.specs.NodeData.{IsWaitingTowardRoots};
+ghost use Rattle.network_nodes.specs.NodeView.{IsNode, IsPlacedAt, MayBePeer, handed_by, labels_in, spent_in, waiting_in};
 
 use crate::node::NetworkNode;
 use mv_base::{Bytes, NodeId};
@@ -21,6 +23,7 @@ impl NetworkNode {
         ensures stays { spent_in self.new ≡ spent_in self.old }
         ensures peers { (other : Kind) (whom : NodeId) → MayBePeer self.old other whom → MayBePeer self.new other whom }
         ensures placed { (scenario : Scenario) (n : NodeId) → IsPlacedAt scenario n self.old → IsPlacedAt scenario n self.new }
+        ensures waits { (own : Core) → IsWaitingTowardRoots own (labels_in self.old) → IsWaitingTowardRoots own (labels_in self.new) }
     {
         match self {
             NetworkNode::Edge(edge) => edge.take_out(kind, peer),

@@ -5,27 +5,27 @@ use Rattle.std.specs.FinMap as maps
 use Rattle.std.specs.FinMap.{FinMap}
 use Rattle.std.proofs.lemmas.Option.{same_Some}
 use Rattle.mv_base.specs.declared.ids.NodeId.{NodeId}
-use Rattle.bgp_attributes.specs.declared.key.Key.{Key}
-use Rattle.table_defs.specs.declared.change.Change.{Change}
+use Rattle.edge_defs.specs.bgp_messages.declared.bgp_attributes.key.Key.{Key}
+use Rattle.mv_base.specs.declared.table_defs.change.Change.{Change}
 use Rattle.scenario_defs.specs.declared.event.Kind.TheVariants as kinds
 use Rattle.label_defs.specs.LabelData.{LabelData}
-use Rattle.label_defs.specs.Node.{LacksLabel, LabelNode}
+use Rattle.label_defs.specs.Node.{LacksLabel, LabelNode, one_more, raises_of}
 use Rattle.label_defs.proofs.SettleLemmas.{bind_some}
-use Rattle.session_defs.specs.PeerSession.{PeerSession, peer_cmp}
+use Rattle.network_defs.specs.session_defs.PeerSession.{PeerSession, peer_cmp}
 use Rattle.edge_defs.specs.Edge.{Control, EdgeData}
 use Rattle.edge_defs.specs.Held.{put_to}
 use Rattle.edge_defs.specs.Keys.{Value}
 use Rattle.edge_defs.specs.Place.{EdgePlace, addr_of, label_place}
 use Rattle.edge_defs.specs.Steps.{Call, Update, Label, Pim, Active, Idle, Select, Unselect, Raised, Noticed, Timers, Rerouted}
-use Rattle.edge_defs.specs.Steps.{EdgeStepped, LabelStep, edge_step, control_step, own_label_call, changed_leaves, label_row, part_after}
+use Rattle.edge_defs.specs.Steps.{EdgeStepped, LabelStep, edge_step, control_step, own_label_call, changed_leaves, label_row, part_after, raised_after}
 use Rattle.edge_defs.specs.Tunnels.{leaves}
-use Rattle.mvpn_model.specs.Sessions.{edges}
-use Rattle.node_defs.specs.EdgeState.{EdgeState, behind, called, called_unless, edge_puts, prepared, stepped_unless, waiting_at, with_puts}
-use Rattle.node_defs.specs.Puts.{bgp_put, bgp_puts, label_puts, update_unit}
+use Rattle.network_defs.specs.mvpn_model.Sessions.{edges}
+use Rattle.network_defs.specs.node_defs.EdgeState.{EdgeState, behind, called, called_unless, edge_puts, prepared, stepped_unless, waiting_at, with_puts}
+use Rattle.network_defs.specs.node_defs.Puts.{bgp_put, bgp_puts, label_puts, update_unit}
 use Rattle.node_laws.specs.Places.{AreLabelOctets, label_session, node_place}
 use Rattle.node_laws.specs.Rows.{IsLabelNode, all_called, label_calls}
 use Rattle.node_laws.proofs.OctetLemmas.{lost_waits, waiting_less, waiting_then}
-use Rattle.node_laws.proofs.RowLemmas.{changes_notice_none, lacks_behind, octets_from, part_behind, prepared_by, puts_again, then_none}
+use Rattle.node_laws.proofs.RowLemmas.{changes_notice_none, lacks_behind, octets_from, part_behind, prepared_by, puts_again, raises_behind, then_none}
 
 -- ---- what precedes a step
 
@@ -70,6 +70,22 @@ edge_waits (Noticed kinds.Ldp peer) old node same = lost_waits old.waiting node.
 edge_waits Timers old node same = same
 edge_waits Rerouted old node same = same
 
+-- a raise of an LDP session is counted at the edge as at its label node
+edge_raises : (call : Call) (old : EdgeState) (node : LabelNode) → node.raises ≡ old.raises → (prepared_by (own_label_call call) node).raises ≡ (prepared call old).raises
+edge_raises (Update peer message) old node same = same
+edge_raises (Label neighbour message) old node same = same
+edge_raises (Pim iface message) old node same = same
+edge_raises (Active iface source group) old node same = same
+edge_raises (Idle iface source group) old node same = same
+edge_raises (Select vrf pattern) old node same = same
+edge_raises (Unselect vrf pattern) old node same = same
+edge_raises (Raised kinds.Bgp peer) old node same = same
+edge_raises (Raised kinds.Ldp peer) old node same = λ i. maps.insert (same i) peer (one_more (raises_of (same i) peer))
+edge_raises (Noticed kinds.Bgp peer) old node same = same
+edge_raises (Noticed kinds.Ldp peer) old node same = same
+edge_raises Timers old node same = same
+edge_raises Rerouted old node same = same
+
 -- ---- what is put to BGP peers
 
 module _ (me : NodeId) where
@@ -108,7 +124,7 @@ module _ (place : EdgePlace) (now : ℕ) (call : Call) where
       ∙ (λ i. record (prepared call old) { edge = new.edge; waiting = with_puts (edge_puts place now (edge_data call old i) new) (prepared call old).waiting })
 
   abbrev pub made_by : EdgeState → List LabelStep → EdgeStepped
-  made_by old row = record { edge = record { control = control_step place now old.edge.control call; part = part_after old.edge.part row }; row = row }
+  made_by old row = record { edge = record { control = control_step place now old.edge.control call; part = part_after old.edge.part row; raised = raised_after now old.edge.raised call }; row = row }
 
   pub node_behind : (old : EdgeState) (node : LabelNode) (new : EdgeStepped) → IsLabelNode old node → old.spent ≡ None → edge_step place now old.edge call ≡ Some new
       → IsLabelNode (called place now old call) (all_called (node_place place.scenario place.me) place.core now node (label_calls place now old.edge.control call))
@@ -130,6 +146,8 @@ module _ (place : EdgePlace) (now : ℕ) (call : Call) where
       (subst (λ (x : EdgeStepped). IsLabelNode (after old x) behind_calls) (same_Some (made_by old row) new made.2) (record {
         part = there.part ∙ ap (λ (p : LabelData). part_after p row) is.part;
         waiting = subst (λ (w : FinMap peer_cmp (List ℕ)). AreLabelOctets w behind_calls.waiting) (sym (puts_again bgp told (prepared call old).waiting)) own;
+        raises = raises_behind place now node (own_label_call call) (leaves place old.edge.control) (leaves place (control_step place now old.edge.control call)) unspent
+            ∙ edge_raises call old node is.raises;
         spent = there.unspent ∙ sym (edge_spent call old ∙ e);
       }))
 

@@ -10,15 +10,15 @@ use Rattle.std.specs.FinMap as maps
 use Rattle.std.specs.FinMap.{FinMap}
 use Rattle.mv_base.specs.declared.addr.Addr.{Addr}
 use Rattle.mv_base.specs.declared.ids.NodeId.{NodeId}
-use Rattle.mldp_msgs.specs.Spelling as pdus
+use Rattle.mldp.specs.mldp_msgs.Spelling as pdus
 use Rattle.scenario_defs.specs.declared.event.Kind.TheVariants as kinds
 use Rattle.label_defs.specs.Keys.{node_cmp}
 use Rattle.label_defs.specs.Node.{waiting_for, with_pdus}
 use Rattle.label_defs.specs.Steps.{Numbered}
 use Rattle.label_defs.proofs.KeyLemmas.{node_cmp_total}
-use Rattle.session_defs.specs.PeerSession.{PeerSession, kind_number, peer_cmp}
-use Rattle.node_defs.specs.EdgeState.{waiting_at, with_puts}
-use Rattle.node_defs.specs.Puts.{label_put}
+use Rattle.network_defs.specs.session_defs.PeerSession.{PeerSession, kind_number, peer_cmp}
+use Rattle.network_defs.specs.node_defs.EdgeState.{waiting_at, with_puts}
+use Rattle.network_defs.specs.node_defs.Puts.{label_put}
 use Rattle.node_laws.specs.Places.{AreLabelOctets, label_session}
 
 pub peer_total : IsTotalOrder peer_cmp

@@ -1,26 +1,27 @@
 -- An edge whose parts are kept apart, behind a call.
 use Rattle.std.proofs.Common.{◌≡◌, ◌≢◌, ◌∙◌, refl, sym, ap, subst, ℕ, List, ◌++◌, Option, None, Some}
 use Rattle.std.proofs.lemmas.Option.{none-some, same_Some}
+use Rattle.std.specs.FinMap as maps
 use Rattle.mv_base.specs.Lists.{Among}
 use Rattle.mv_base.specs.declared.ids.NodeId.{NodeId}
 use Rattle.label_defs.specs.Node.{LabelNode, LacksLabel}
 use Rattle.label_defs.proofs.SettleLemmas.{bind_some}
-use Rattle.mvpn_model.specs.Sessions.{edges}
+use Rattle.network_defs.specs.mvpn_model.Sessions.{edges}
 use Rattle.mv_base.specs.Number.{◌>>?◌}
 use Rattle.label_defs.specs.LabelData.{LabelData}
 use Rattle.label_defs.specs.Steps.{Call as Step}
 use Rattle.edge_defs.specs.Edge.{Control, EdgeData}
 use Rattle.edge_defs.specs.Held.{put_to}
 use Rattle.edge_defs.specs.Place.{EdgePlace}
-use Rattle.edge_defs.specs.Steps.{Call, EdgeStepped, LabelStep, control_step, edge_step, label_row, part_after}
+use Rattle.edge_defs.specs.Steps.{Call, EdgeStepped, LabelStep, control_step, edge_step, label_row, part_after, raised_after}
 use Rattle.edge_defs.specs.Tunnels.{leaves}
 use Rattle.edge_defs.proofs.LeafSteps.{leaves_follow}
-use Rattle.node_defs.specs.EdgeState.{EdgeState, called, waiting_at}
+use Rattle.network_defs.specs.node_defs.EdgeState.{EdgeState, called, waiting_at}
 use Rattle.node_laws.specs.Parts.{HasParts}
 use Rattle.node_laws.specs.Places.{node_place}
 use Rattle.node_laws.specs.Rows.{IsLabelNode, all_called, label_calls}
 use Rattle.node_laws.specs.Waits.{bgp_session, kept_for, update_octets}
-use Rattle.node_laws.proofs.EdgeLemmas.{both_lack, edge_after, made_by, node_behind}
+use Rattle.node_laws.proofs.EdgeLemmas.{both_lack, edge_after, edge_called, made_by, node_behind}
 use Rattle.node_laws.proofs.PeerLemmas.{step_waits}
 use Rattle.node_laws.proofs.RowLemmas.{lacks_behind, part_behind}
 
@@ -29,6 +30,17 @@ module _ (place : EdgePlace) (now : ℕ) (call : Call) (state : EdgeState) where
   step_control new h =
       let made = bind_some (label_row place now state.edge.part (label_calls place now state.edge.control call)) (λ row. Some (made_by place now call state row)) new h in
       ap (λ (x : EdgeStepped). x.edge.control) (sym (same_Some (made_by place now call state made.0) new made.2))
+
+  -- when the ends of BGP sessions came up is told by the step
+  pub raises_made : state.spent ≡ None → (called place now state call).spent ≡ None → (called place now state call).edge.raised ≡ raised_after now state.edge.raised call
+  raises_made unspent still = by (edge_step place now state.edge call) refl
+    where
+      by : (o : Option EdgeStepped) → edge_step place now state.edge call ≡ o → (called place now state call).edge.raised ≡ raised_after now state.edge.raised call
+      by None e = absurd (none-some LacksLabel (sym still ∙ ap (λ (x : EdgeState). x.spent) (edge_called place now call state None unspent e)))
+      by (Some new) e =
+          let made = bind_some (label_row place now state.edge.part (label_calls place now state.edge.control call)) (λ row. Some (made_by place now call state row)) new e in
+          ap (λ (x : EdgeState). x.edge.raised) (edge_after place now call state new unspent e)
+          ∙ ap (λ (x : EdgeStepped). x.edge.raised) (sym (same_Some (made_by place now call state made.0) new made.2))
 
   module _ (control : Control) (node : LabelNode) (waiting : NodeId → List ℕ) (has : HasParts place state control node waiting) where
     calls_are : (c : Control) → state.edge.control ≡ c
@@ -90,13 +102,13 @@ leaves_made place now call control node new_node e same made unspent = by (label
     calls = label_calls place now control call
 
     «data» : EdgeData
-    «data» = record { control = control; part = node.part }
+    «data» = record { control = control; part = node.part; raised = maps.empty }
 
     by : (o : Option (List LabelStep)) → label_row place now node.part calls ≡ o → new_node.part.leaves ≡ leaves place (control_step place now control call)
     by None h = absurd (none-some LacksLabel (sym unspent ∙ (ap (λ (n : LabelNode). n.spent) made ∙ lacks_behind place now node calls e h)))
     by (Some row) h =
-        let stepped : EdgeStepped = record { edge = record { control = control_step place now control call; part = part_after node.part row }; row = row } in
+        let stepped : EdgeStepped = record { edge = record { control = control_step place now control call; part = part_after node.part row; raised = raised_after now maps.empty call }; row = row } in
         let step : edge_step place now «data» call ≡ Some stepped =
-        ap (λ (o : Option (List LabelStep)). o >>? λ (row : List LabelStep). Some (record { edge = record { control = control_step place now control call; part = part_after node.part row }; row = row })) h in
+        ap (λ (o : Option (List LabelStep)). o >>? λ (row : List LabelStep). Some (record { edge = record { control = control_step place now control call; part = part_after node.part row; raised = raised_after now maps.empty call }; row = row })) h in
         let part : new_node.part ≡ part_after node.part row = ap (λ (n : LabelNode). n.part) made ∙ (part_behind place now node calls row e h).part in
         ap (λ (p : LabelData). p.leaves) part ∙ leaves_follow place now «data» call stepped same step

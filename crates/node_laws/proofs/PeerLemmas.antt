@@ -11,23 +11,23 @@ use Rattle.std.proofs.lemmas.List.{append-nil, append_assoc}
 use Rattle.mv_base.specs.Lists.{Among}
 use Rattle.mv_base.specs.declared.addr.Addr.{Addr}
 use Rattle.mv_base.specs.declared.ids.NodeId.{NodeId}
-use Rattle.bgp_attributes.specs.declared.key.Key.{Key}
-use Rattle.table_defs.specs.declared.change.Change.{Change}
+use Rattle.edge_defs.specs.bgp_messages.declared.bgp_attributes.key.Key.{Key}
+use Rattle.mv_base.specs.declared.table_defs.change.Change.{Change}
 use Rattle.scenario_defs.specs.declared.event.Kind.TheVariants as kinds
 use Rattle.scenario_defs.specs.declared.scenario.Node.{Node}
 use Rattle.label_defs.specs.LabelData.{Place}
 use Rattle.label_defs.specs.Steps.{step_puts}
-use Rattle.session_defs.specs.PeerSession.{peer_cmp}
-use Rattle.session_defs.specs.System.{Put}
+use Rattle.network_defs.specs.session_defs.PeerSession.{peer_cmp}
+use Rattle.network_defs.specs.session_defs.System.{Put}
 use Rattle.edge_defs.specs.Edge.{Control}
 use Rattle.edge_defs.specs.Held.{put_to}
 use Rattle.edge_defs.specs.Keys.{Value}
 use Rattle.edge_defs.specs.Place.{EdgePlace, addr_of, label_place}
 use Rattle.edge_defs.specs.Steps.{Call, Update, Label, Pim, Active, Idle, Select, Unselect, Raised, Noticed, Timers, Rerouted}
 use Rattle.edge_defs.specs.Steps.{EdgeStepped, LabelStep, edge_step}
-use Rattle.mvpn_model.specs.Sessions.{edges, edges_from}
-use Rattle.node_defs.specs.EdgeState.{EdgeState, called, prepared, waiting_at, with_puts}
-use Rattle.node_defs.specs.Puts.{bgp_put, bgp_puts, label_puts, update_unit}
+use Rattle.network_defs.specs.mvpn_model.Sessions.{edges, edges_from}
+use Rattle.network_defs.specs.node_defs.EdgeState.{EdgeState, called, prepared, waiting_at, with_puts}
+use Rattle.network_defs.specs.node_defs.Puts.{bgp_put, bgp_puts, label_puts, update_unit}
 use Rattle.node_laws.specs.Places.{label_session}
 use Rattle.node_laws.specs.Waits.{bgp_session, kept_for, update_octets}
 use Rattle.node_laws.proofs.EdgeLemmas.{edge_after, each_stays}

@@ -6,7 +6,7 @@ use Rattle.mv_base.specs.Number.{◌>>?◌}
 use Rattle.mv_base.specs.declared.addr.Addr.{Addr}
 use Rattle.mv_base.specs.declared.addr.Addr.TheVariants.{V4}
 use Rattle.mv_base.specs.declared.ids.NodeId.{NodeId}
-use Rattle.core_walks.specs.Core.{Core}
+use Rattle.mv_base.specs.core_walks.Core.{Core}
 use Rattle.scenario_defs.specs.declared.scenario.Node.{Node}
 use Rattle.scenario_defs.specs.declared.scenario.Scenario.{Scenario}
 use Rattle.label_defs.specs.Node.{is_p2mp, addr_in, place_in}

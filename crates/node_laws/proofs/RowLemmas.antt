@@ -7,19 +7,19 @@ use Rattle.std.specs.FinSet as sets
 use Rattle.std.specs.FinSet.{FinSet}
 use Rattle.std.proofs.lemmas.Option.{same_Some, none-some}
 use Rattle.mv_base.specs.Number.{◌>>?◌}
-use Rattle.mldp_fec.specs.declared.fec.Fec.{Fec}
+use Rattle.mldp.specs.declared.mldp_fec.fec.Fec.{Fec}
 use Rattle.label_defs.specs.Keys.{fec_cmp}
 use Rattle.label_defs.specs.Node.{Spent, LacksLabel, LabelNode, prepared, behind, called, called_unless, with_pdus}
 use Rattle.label_defs.specs.Members.{in_order}
 use Rattle.label_defs.specs.Settling.{Stepped}
 use Rattle.label_defs.specs.Steps.{Call, Taken, Want, Unwant, Raised, Noticed, Timers, Rerouted, label_step, step_puts}
 use Rattle.label_defs.proofs.SettleLemmas.{bind_some}
-use Rattle.session_defs.specs.PeerSession.{peer_cmp}
-use Rattle.session_defs.specs.System.{Put}
+use Rattle.network_defs.specs.session_defs.PeerSession.{peer_cmp}
+use Rattle.network_defs.specs.session_defs.System.{Put}
 use Rattle.edge_defs.specs.Place.{EdgePlace, addr_of, label_place}
 use Rattle.edge_defs.specs.Steps.{LabelStep, changed_leaves, label_row, one_call}
-use Rattle.node_defs.specs.EdgeState.{session_of, waiting_at, with_puts}
-use Rattle.node_defs.specs.Puts.{label_puts}
+use Rattle.network_defs.specs.node_defs.EdgeState.{session_of, waiting_at, with_puts}
+use Rattle.network_defs.specs.node_defs.Puts.{label_puts}
 use Rattle.node_laws.specs.Places.{AreLabelOctets, node_place}
 use Rattle.node_laws.specs.Rows.{IsBehindRow, all_called, is_noticed, without_lost}
 use Rattle.node_laws.proofs.OctetLemmas.{all_wait, lost_waits}
@@ -85,6 +85,11 @@ none_noticed new (fec ∷ more) = (λ i. leaf_notices_none (sets.contains new fe
 
 pub changes_notice_none : (old new : FinSet fec_cmp) → list_any is_noticed (changed_leaves old new) ≡ false
 changes_notice_none old new = none_noticed new (filter (λ fec. not (sets.contains old fec && sets.contains new fec)) (in_order (sets.union old new)))
+
+-- each of these calls keeps how often the ends of sessions came up
+leaf_raises : (b : Bool) (fec : Fec) (node : LabelNode) → (prepared (cond b (Want fec) (Unwant fec)) node).raises ≡ node.raises
+leaf_raises true fec node = refl
+leaf_raises false fec node = refl
 
 -- ---- lists
 
@@ -204,6 +209,36 @@ module _ (place : EdgePlace) (now : ℕ) where
   own_waits None calls none node row waiting e h same = row_waits calls none node row waiting e h same
   own_waits (Some call) calls none node row waiting e h same = first_waits call calls (row_waits calls none) node row waiting e h same
 
+  -- ---- raises
+
+  -- what precedes a call counts a raise, and nothing else does
+  at_raises : (node : LabelNode) (call : Call) → node.spent ≡ None → (at node call).raises ≡ (prepared call node).raises
+  at_raises node call e =
+      (λ i. (called_unless (e i) (addr_of place.scenario place.me) (label_place place.scenario place.core place.me) now node call).raises)
+      ∙ by (label_step (label_place place.scenario place.core place.me) now node.part call)
+    where
+      by : (o : Option Stepped) → (behind (addr_of place.scenario place.me) (label_place place.scenario place.core place.me) now (prepared call node) call o).raises ≡ (prepared call node).raises
+      by None = refl
+      by (Some new) = refl
+
+  kept_raises : (node : LabelNode) (call : Call) → (prepared call node).raises ≡ node.raises → (at node call).raises ≡ node.raises
+  kept_raises node call same = by node.spent refl
+    where
+      by : (s : Option Spent) → node.spent ≡ s → (at node call).raises ≡ node.raises
+      by None e = at_raises node call e ∙ same
+      by (Some cause) e = λ i. (called_unless (e i) (addr_of place.scenario place.me) (label_place place.scenario place.core place.me) now node call).raises
+
+  leaves_raises : (new : FinSet fec_cmp) (fecs : List Fec) (node : LabelNode) → (all_at node (map (λ fec. cond (sets.contains new fec) (Want fec) (Unwant fec)) fecs)).raises ≡ node.raises
+  leaves_raises new [] node = refl
+  leaves_raises new (fec ∷ more) node =
+      let call : Call = cond (sets.contains new fec) (Want fec) (Unwant fec) in
+      leaves_raises new more (at node call) ∙ kept_raises node call (leaf_raises (sets.contains new fec) fec node)
+
+  own_raises : (own : Option Call) (old new : FinSet fec_cmp) (node : LabelNode) → node.spent ≡ None → (all_at node (one_call own ++ changed_leaves old new)).raises ≡ (prepared_by own node).raises
+  own_raises None old new node e = leaves_raises new (filter (λ fec. not (sets.contains old fec && sets.contains new fec)) (in_order (sets.union old new))) node
+  own_raises (Some call) old new node e =
+      leaves_raises new (filter (λ fec. not (sets.contains old fec && sets.contains new fec)) (in_order (sets.union old new))) (at node call) ∙ at_raises node call e
+
   -- ---- the label node of the place
 
   same_called : (node : LabelNode) (call : Call) → called (node_place place.scenario place.me) place.core now node call ≡ at node call
@@ -220,6 +255,10 @@ module _ (place : EdgePlace) (now : ℕ) where
   pub lacks_behind : (node : LabelNode) (calls : List Call) → node.spent ≡ None → label_row place now node.part calls ≡ None
       → (all_called (node_place place.scenario place.me) place.core now node calls).spent ≡ Some LacksLabel
   lacks_behind node calls e h = ap (λ (n : LabelNode). n.spent) (same_row calls node) ∙ row_lacks calls node e h
+
+  pub raises_behind : (node : LabelNode) (own : Option Call) (old new : FinSet fec_cmp) → node.spent ≡ None
+      → (all_called (node_place place.scenario place.me) place.core now node (one_call own ++ changed_leaves old new)).raises ≡ (prepared_by own node).raises
+  raises_behind node own old new e = ap (λ (n : LabelNode). n.raises) (same_row (one_call own ++ changed_leaves old new) node) ∙ own_raises own old new node e
 
   pub octets_from : (node : LabelNode) (own : Option Call) (calls : List Call) (row : List LabelStep) (waiting : FinMap peer_cmp (List ℕ)) → list_any is_noticed calls ≡ false → node.spent ≡ None
       → label_row place now node.part (one_call own ++ calls) ≡ Some row → AreLabelOctets waiting (prepared_by own node).waiting

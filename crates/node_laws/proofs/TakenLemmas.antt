@@ -8,11 +8,11 @@ use Rattle.mv_base.specs.declared.ids.NodeId.{NodeId}
 use Rattle.scenario_defs.specs.declared.event.Kind.{Kind}
 use Rattle.scenario_defs.specs.declared.event.Kind.TheVariants as kinds
 use Rattle.label_defs.specs.Node.{Spent}
-use Rattle.session_defs.specs.Message.{SessionMessage, Bgp, Label}
-use Rattle.session_defs.specs.PeerSession.{PeerSession, kind_number, peer_cmp}
+use Rattle.network_defs.specs.session_defs.Message.{SessionMessage, Bgp, Label}
+use Rattle.network_defs.specs.session_defs.PeerSession.{PeerSession, kind_number, peer_cmp}
 use Rattle.edge_defs.specs.Place.{EdgePlace}
 use Rattle.edge_defs.specs.Steps.{Call, EdgeStepped, edge_step}
-use Rattle.node_defs.specs.EdgeState.{EdgeState, all_taken, behind, call_of, called, called_unless, handed, handed_out, handed_unless, prepared, stepped, stepped_unless, waiting_at}
+use Rattle.network_defs.specs.node_defs.EdgeState.{EdgeState, all_taken, behind, call_of, called, called_unless, handed, handed_out, handed_unless, prepared, stepped, stepped_unless, waiting_at}
 use Rattle.node_laws.proofs.EdgeLemmas.{edge_called}
 use Rattle.node_laws.proofs.OctetLemmas.{peer_total, waiting_less}
 

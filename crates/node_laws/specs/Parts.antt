@@ -3,10 +3,10 @@ use Rattle.std.specs.Prelude.{◌≡◌, ◌≢◌, ℕ, List, None}
 use Rattle.mv_base.specs.Lists.{Among}
 use Rattle.mv_base.specs.declared.ids.NodeId.{NodeId}
 use Rattle.label_defs.specs.Node.{LabelNode}
-use Rattle.mvpn_model.specs.Sessions.{edges}
+use Rattle.network_defs.specs.mvpn_model.Sessions.{edges}
 use Rattle.edge_defs.specs.Edge.{Control}
 use Rattle.edge_defs.specs.Place.{EdgePlace}
-use Rattle.node_defs.specs.EdgeState.{EdgeState, waiting_at}
+use Rattle.network_defs.specs.node_defs.EdgeState.{EdgeState, waiting_at}
 use Rattle.node_laws.specs.Rows.{IsLabelNode}
 use Rattle.node_laws.specs.Waits.{bgp_session}
 

@@ -6,8 +6,8 @@ use Rattle.scenario_defs.specs.declared.event.Kind.TheVariants as kinds
 use Rattle.scenario_defs.specs.declared.scenario.Scenario.{Scenario}
 use Rattle.label_defs.specs.Keys.{node_cmp}
 use Rattle.label_defs.specs.Node.{NodePlace, waiting_for}
-use Rattle.session_defs.specs.PeerSession.{PeerSession, peer_cmp}
-use Rattle.node_defs.specs.EdgeState.{waiting_at}
+use Rattle.network_defs.specs.session_defs.PeerSession.{PeerSession, peer_cmp}
+use Rattle.network_defs.specs.node_defs.EdgeState.{waiting_at}
 
 -- the place of the node of that number
 abbrev pub node_place : Scenario → NodeId → NodePlace

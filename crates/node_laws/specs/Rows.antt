@@ -2,17 +2,17 @@
 use Rattle.std.specs.Prelude.{◌≡◌, ℕ, Bool, true, false, List, [], ◌∷◌, ◌++◌, Option, Some, None}
 use Rattle.std.specs.FinMap as maps
 use Rattle.std.specs.FinMap.{FinMap}
-use Rattle.core_walks.specs.Core.{Core}
+use Rattle.mv_base.specs.core_walks.Core.{Core}
 use Rattle.label_defs.specs.LabelData.{LabelData}
 use Rattle.label_defs.specs.Node.{LabelNode, NodePlace, called}
 use Rattle.label_defs.specs.Steps.{Call, Noticed}
-use Rattle.session_defs.specs.PeerSession.{peer_cmp}
+use Rattle.network_defs.specs.session_defs.PeerSession.{peer_cmp}
 use Rattle.edge_defs.specs.Edge.{Control}
 use Rattle.edge_defs.specs.Place.{EdgePlace}
 use Rattle.edge_defs.specs.Steps as steps
 use Rattle.edge_defs.specs.Steps.{LabelStep, changed_leaves, control_step, one_call, own_label_call, part_after}
 use Rattle.edge_defs.specs.Tunnels.{leaves}
-use Rattle.node_defs.specs.EdgeState.{EdgeState}
+use Rattle.network_defs.specs.node_defs.EdgeState.{EdgeState}
 use Rattle.node_laws.specs.Places.{AreLabelOctets, label_session}
 
 -- the node behind calls, one after another
@@ -37,11 +37,12 @@ without_lost other waiting = waiting
 
 -- ---- a step of an edge
 
--- The label part of the edge is that of the label node, what waits for its LDP sessions is what waits there, and each is spent as the
--- other is.
+-- The label part of the edge is that of the label node, what waits for its LDP sessions is what waits there, their ends came up as often,
+-- and each is spent as the other is.
 pub record IsLabelNode (edge : EdgeState) (node : LabelNode) : Type 0 where
   pub part : node.part ≡ edge.edge.part
   pub waiting : AreLabelOctets edge.waiting node.waiting
+  pub raises : node.raises ≡ edge.raises
   pub spent : node.spent ≡ edge.spent
 
 -- the calls of its label node that a call of an edge makes, by what the edge keeps before it

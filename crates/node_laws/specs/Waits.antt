@@ -2,11 +2,11 @@
 use Rattle.std.specs.Prelude.{ℕ, ◌==◌, List, [], if◌then◌else◌}
 use Rattle.std.specs.List.{flat_map}
 use Rattle.mv_base.specs.declared.ids.NodeId.{NodeId}
-use Rattle.bgp_attributes.specs.declared.key.Key.{Key}
-use Rattle.bgp_update.specs.Written.{written}
-use Rattle.table_defs.specs.declared.change.Change.{Change}
+use Rattle.edge_defs.specs.bgp_messages.declared.bgp_attributes.key.Key.{Key}
+use Rattle.edge_defs.specs.bgp_messages.bgp_update.Written.{written}
+use Rattle.mv_base.specs.declared.table_defs.change.Change.{Change}
 use Rattle.scenario_defs.specs.declared.event.Kind.TheVariants as kinds
-use Rattle.session_defs.specs.PeerSession.{PeerSession}
+use Rattle.network_defs.specs.session_defs.PeerSession.{PeerSession}
 use Rattle.edge_defs.specs.Keys.{Value}
 use Rattle.edge_defs.specs.Messages.{as_update}
 use Rattle.edge_defs.specs.Steps.{Call, Noticed}

@@ -1,6 +1,6 @@
 //! Packets that were spelled by hand.
 use label_forwarding::{Branch, Fib, read_packet};
-use mldp_fec::{Fec, FecKind, Opaque};
+use mldp::mldp_fec::{Fec, FecKind, Opaque};
 use mv_base::{Addr, NodeId};
 use std::test::*;
 

@@ -1,12 +1,12 @@
 //! Label nodes that hand octets to each other: E1 is the root of a tree, E2 a leaf, and C is between them.
 ghost use Rattle.std.specs.Prelude.{◌≡◌, ◌<◌, IfOk, IfSome};
-ghost use Rattle.core_walks.specs.Topology.{IsTopology};
+ghost use Rattle.mv_base.specs.core_walks.Topology.{IsTopology};
 ghost use Rattle.mldp_node.specs.Parts.{IsSpelled};
 ghost use Rattle.node_rows.specs.Sites.{three_addrs, IsTree};
 
 use core_paths::Core;
-use mldp_fec::{Fec, FecKind, decode};
-use mldp_msgs::{LabelMessage, Stream};
+use mldp::mldp_fec::{Fec, FecKind, decode};
+use mldp::mldp_msgs::{LabelMessage, Stream};
 use mldp_node::{Addrs, LdpNode};
 use mv_base::{Addr, Bytes, Link, NoMemory, NodeId, Seq};
 use std::alloc::Global;
@@ -167,11 +167,11 @@ impl Site {
     }
 
     fn want(&mut self, now: u64) -> bool {
-        self.me.0 != 0 && self.node.want(&self.tree, now, &self.core).is_ok()
+        self.me.0 != 0 && self.node.want(self.tree, now, &self.core).is_ok()
     }
 
     fn unwant(&mut self, now: u64) -> bool {
-        self.node.unwant(&self.tree, now, &self.core).is_ok()
+        self.node.unwant(self.tree, now, &self.core).is_ok()
     }
 
     fn act(&mut self, act: Act, now: u64) -> bool {
@@ -193,7 +193,7 @@ impl Site {
     fn take_message(&mut self, from: NodeId, message: &LabelMessage, now: u64) -> bool {
         match of_tree(message, &self.tree) {
             None => false,
-            Some(own) => now < 1000 && self.node.take(from, &own, now, &self.core).is_ok(),
+            Some(own) => now < 1000 && self.node.take(from, own, now, &self.core).is_ok(),
         }
     }
 

@@ -1,6 +1,6 @@
 //! The labels of a node, from a mapping to a release and a loss.
-use label_uses::LabelUses;
-use mldp_fec::{Fec, FecKind, Opaque};
+use label_trees::label_uses::LabelUses;
+use mldp::mldp_fec::{Fec, FecKind, Opaque};
 use mv_base::{Addr, NodeId};
 use std::process::Abort;
 use std::test::*;

@@ -1,5 +1,5 @@
 //! A small core.
-use core_walks::is_connected;
+use mv_base::core_walks::is_connected;
 use mv_base::{Link, NodeId};
 use std::test::*;
 

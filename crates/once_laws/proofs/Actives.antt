@@ -15,13 +15,13 @@ use Rattle.mv_base.specs.declared.ids.IfaceId.{IfaceId}
 use Rattle.mv_base.specs.declared.ids.NodeId.{NodeId}
 use Rattle.mv_base.specs.declared.ids.VrfId.{VrfId}
 use Rattle.mv_base.specs.declared.rd.Rd.{Rd}
-use Rattle.mvpn_nlri.specs.declared.route.Afi.{Afi}
-use Rattle.mvpn_nlri.specs.declared.route.Route.TheVariants as routes
-use Rattle.bgp_attributes.specs.declared.key.Key.{Key}
-use Rattle.bgp_attributes.specs.declared.key.Key.TheVariants.{Mcast}
+use Rattle.bgp_values.specs.declared.mvpn_nlri.route.Afi.{Afi}
+use Rattle.bgp_values.specs.declared.mvpn_nlri.route.Route.TheVariants as routes
+use Rattle.bgp_messages.specs.declared.bgp_attributes.key.Key.{Key}
+use Rattle.bgp_messages.specs.declared.bgp_attributes.key.Key.TheVariants.{Mcast}
 use Rattle.mvpn_model.specs.Past as pasts
 use Rattle.mvpn_model.specs.Past.{Past, is_noted, is_active_at}
-use Rattle.route_targets.specs.Targets.{same}
+use Rattle.mv_base.specs.route_targets.Targets.{same}
 use Rattle.scenario_defs.specs.Vpn.{is_of_vrf, same_vpn, targets_of, ifaces_where}
 use Rattle.scenario_defs.specs.declared.scenario.Iface.{Iface}
 use Rattle.scenario_defs.specs.declared.scenario.Scenario.{Scenario}
@@ -34,20 +34,20 @@ use Rattle.edge_defs.specs.Edge.{Note, note_cmp, TakenRoute, Taken, Control}
 use Rattle.edge_defs.specs.Flows.{noted_flow, active_from, active_flows, same_flow, is_active}
 use Rattle.edge_defs.specs.Imported.{FlowRoute, active_of, imported_active, taken_from, is_admitted}
 use Rattle.edge_defs.specs.Keys.{Value}
-use Rattle.bgp_update.specs.Written.{afi_of}
+use Rattle.bgp_messages.specs.bgp_update.Written.{afi_of}
 use Rattle.edge_defs.specs.Originated.{is_iface_of, notes_of, active_key, plain_value, target_comms, unicast_routes, selective_routes, active_routes}
 use Rattle.edge_defs.specs.Place.{EdgePlace, OwnVrf, own_vrfs}
 use Rattle.network_defs.specs.Costs.{Cores}
 use Rattle.edge_defs.proofs.KeyLemmas.{note_total, note_exact, key_total, key_exact}
-use Rattle.edge_laws.specs.Network.{EdgeNetwork, place_of}
-use Rattle.calm_laws.specs.Calm.{AreOfOneVpn}
-use Rattle.calm_laws.proofs.Entries.{IsHeld, OfInclusive, OfUnicast, OfSelective, OfActive, OfJoin, is_held, kind_of, unicast_kind, selective_kind, join_kind, own_held}
-use Rattle.calm_laws.proofs.Lists.{passes, among_front, among_behind, among_either, among_map, map_among, among_flat_map, flat_map_among, filter_among, among_filter, any_from, any_among, among_found, found_among}
-use Rattle.calm_laws.proofs.Maps.{entry_get, get_entry}
-use Rattle.calm_laws.proofs.Tables.{taken_is, held_taken, taken_held, among_peers, far_up}
-use Rattle.calm_laws.proofs.Targets.{same_itself, same_back, shares_by, admitted_target, among_comms, vpn_admits}
-use Rattle.calm_laws.proofs.Upstreams.{chained}
-use Rattle.calm_laws.proofs.Vrfs.{own_at, own_edge, own_rules, one_rd, one_vpn, shared_vpn}
+use Rattle.edge_words.specs.edge_laws.Network.{EdgeNetwork, place_of}
+use Rattle.edge_words.specs.calm_laws.Calm.{AreOfOneVpn}
+use Rattle.edge_words.proofs.calm_laws.Entries.{IsHeld, OfInclusive, OfUnicast, OfSelective, OfActive, OfJoin, is_held, kind_of, unicast_kind, selective_kind, join_kind, own_held}
+use Rattle.edge_words.proofs.calm_laws.Lists.{passes, among_front, among_behind, among_either, among_map, map_among, among_flat_map, flat_map_among, filter_among, among_filter, any_from, any_among, among_found, found_among}
+use Rattle.edge_words.proofs.calm_laws.Maps.{entry_get, get_entry}
+use Rattle.edge_words.proofs.calm_laws.Tables.{taken_is, held_taken, taken_held, among_peers, far_up}
+use Rattle.edge_words.proofs.calm_laws.Targets.{same_itself, same_back, shares_by, admitted_target, among_comms, vpn_admits}
+use Rattle.edge_words.proofs.calm_laws.Upstreams.{chained}
+use Rattle.edge_words.proofs.calm_laws.Vrfs.{own_at, own_edge, own_rules, one_rd, one_vpn, shared_vpn}
 use Rattle.rule_laws.proofs.Vpns.{targets_at}
 use Rattle.network_defs.specs.Nodes.{is_edge}
 use Rattle.network_defs.specs.World.{World, scenario_of}

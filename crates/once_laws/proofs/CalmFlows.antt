@@ -28,11 +28,11 @@ use Rattle.edge_defs.specs.Place.{EdgePlace, OwnVrf, own_vrfs}
 use Rattle.network_defs.specs.Costs.{Cores}
 use Rattle.edge_defs.specs.Upstream.{upstream_for}
 use Rattle.edge_defs.proofs.KeyLemmas.{flow_total}
-use Rattle.edge_laws.specs.Network.{EdgeNetwork, place_of}
-use Rattle.calm_laws.proofs.Lists.{among_front, among_behind, among_map, among_flat_map, among_filter, any_from, any_among, among_found}
-use Rattle.calm_laws.proofs.Maps.{some_found, get_entry}
-use Rattle.calm_laws.proofs.Upstreams.{is_flow_of}
-use Rattle.calm_laws.proofs.Vrfs.{one_number}
+use Rattle.edge_words.specs.edge_laws.Network.{EdgeNetwork, place_of}
+use Rattle.edge_words.proofs.calm_laws.Lists.{among_front, among_behind, among_map, among_flat_map, among_filter, any_from, any_among, among_found}
+use Rattle.edge_words.proofs.calm_laws.Maps.{some_found, get_entry}
+use Rattle.edge_words.proofs.calm_laws.Upstreams.{is_flow_of}
+use Rattle.edge_words.proofs.calm_laws.Vrfs.{one_number}
 use Rattle.delivery_laws.specs.Leaving.{passes, is_iface_of_vrf}
 use Rattle.network_defs.specs.Nodes.{NodeState, is_edge}
 use Rattle.network_defs.specs.Refusals.{control_of}

@@ -11,8 +11,8 @@ use Rattle.mv_base.specs.Number.{◌>>?◌}
 use Rattle.mv_base.specs.declared.addr.Addr.{Addr}
 use Rattle.mv_base.specs.declared.core_link.Link.{Link}
 use Rattle.mv_base.specs.declared.ids.NodeId.{NodeId}
-use Rattle.mldp_fec.specs.declared.fec.Fec.{Fec}
-use Rattle.mldp_msgs.specs.declared.message.LabelMessage.{LabelMessage}
+use Rattle.mldp.specs.declared.mldp_fec.fec.Fec.{Fec}
+use Rattle.mldp.specs.declared.mldp_msgs.message.LabelMessage.{LabelMessage}
 use Rattle.scenario_defs.specs.Rules.{Rules}
 use Rattle.scenario_defs.specs.declared.event.Kind.TheVariants as kinds
 use Rattle.scenario_defs.specs.declared.scenario.Node.{Node}
@@ -27,13 +27,13 @@ use Rattle.label_defs.proofs.KeyLemmas.{branch_cmp_total, branch_cmp_exact, same
 use Rattle.label_defs.proofs.SetLemmas.{passing_member}
 use Rattle.label_laws.specs.Rule as phases
 use Rattle.label_laws.specs.Rule.{Kind, PhaseIs, Phase, Kept, is_of_owner, is_release_of, branch_trees}
-use Rattle.session_defs.specs.Message.{SessionMessage}
-use Rattle.session_defs.specs.Refined.{Carried, IsLine, AreLines, seen}
-use Rattle.session_defs.specs.declared.direction.Direction.{Direction}
+use Rattle.network_defs.specs.session_defs.Message.{SessionMessage}
+use Rattle.network_defs.specs.session_defs.Refined.{Carried, IsLine, AreLines, seen}
+use Rattle.network_defs.specs.declared.session_defs.direction.Direction.{Direction}
 use Rattle.edge_defs.specs.Place.{addr_of, node_with}
-use Rattle.core_walks.specs.Core.{Core, IsCoreOf}
+use Rattle.mv_base.specs.core_walks.Core.{Core, IsCoreOf}
 use Rattle.network_defs.specs.Counts.{direction}
-use Rattle.core_walks.specs.Topology.{HasCost, HasEnds}
+use Rattle.mv_base.specs.core_walks.Topology.{HasCost, HasEnds}
 use Rattle.network_defs.specs.Nodes.{Nodes, core_at, label_place_of, part_of}
 use Rattle.network_laws.specs.Costs.{KnowCosts}
 use Rattle.network_defs.specs.World.{World, Datagram, scenario_of}

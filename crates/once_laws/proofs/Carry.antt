@@ -9,7 +9,7 @@ use Rattle.mv_base.specs.declared.ids.SiteId.{SiteId}
 use Rattle.mv_base.specs.declared.ids.VrfId.{VrfId}
 use Rattle.mv_base.specs.declared.ids.IfaceId.{IfaceId}
 use Rattle.mv_base.specs.Number.{◌>>?◌}
-use Rattle.framing.specs.Feed.{fed, unfed}
+use Rattle.mv_base.specs.framing.Feed.{fed, unfed}
 use Rattle.pim_joinprune.specs.declared.message.JoinPrune.{JoinPrune}
 use Rattle.scenario_defs.specs.Vpn.{edge_of, entered}
 use Rattle.scenario_defs.specs.declared.event.Event.{Event}
@@ -25,12 +25,12 @@ use Rattle.mvpn_model.specs.declared.message.Given.{Given}
 use Rattle.mvpn_model.specs.Sessions.{sessions}
 use Rattle.mvpn_model.specs.declared.session.Session.{Session}
 use Rattle.label_defs.specs.declared.branch.Branch.{Branch}
-use Rattle.session_defs.specs.Message.{SessionMessage, front_of, same_direction}
-use Rattle.session_defs.proofs.Lines.{direction_is}
-use Rattle.session_defs.specs.Octets as octets
-use Rattle.session_defs.specs.Octets.{Stream, OctetNetwork, OctetAct, with_step, all_taken, moved, octet_act, octet_run}
-use Rattle.session_defs.specs.System.{Put, Stepped, Behind, with_earlier}
-use Rattle.session_defs.specs.declared.direction.Direction.{Direction}
+use Rattle.network_defs.specs.session_defs.Message.{SessionMessage, front_of, same_direction}
+use Rattle.network_defs.proofs.session_defs.Lines.{direction_is}
+use Rattle.network_defs.specs.session_defs.Octets as octets
+use Rattle.network_defs.specs.session_defs.Octets.{Stream, OctetNetwork, OctetAct, with_step, all_taken, moved, octet_act, octet_run}
+use Rattle.network_defs.specs.session_defs.System.{Put, Stepped, Behind, with_earlier}
+use Rattle.network_defs.specs.declared.session_defs.direction.Direction.{Direction}
 use Rattle.edge_defs.specs.Datagrams.{entering_fate}
 use Rattle.edge_defs.specs.Steps as steps
 use Rattle.network_defs.specs.Acts.{Act, Tick, Timers, Move, Lose, Notice, RaiseFirst, RaiseSecond, Restart, At, Enter, Land, Drop, Tell, SetCost, Reroute, Acted, act, with_network, at_node, is_of_session, is_at, leads_to, is_from_peer, with_aged, with_branches, copy_on, fate_at, with_ttl, landed, landing, without_copy, enters_at, entering, datagram_at}
@@ -47,7 +47,7 @@ use Rattle.delivery_laws.proofs.Copies.{all_at}
 use Rattle.delivery_laws.proofs.Outcomes.{Leads, Gives, then_leads, row_leads, times_leads}
 use Rattle.delivery_laws.proofs.Silent.{any_lines}
 use Rattle.delivery_laws.proofs.Delivery.{came}
-use Rattle.ready_laws.proofs.Ends.{Holds}
+use Rattle.network_laws.proofs.ready_laws.Ends.{Holds}
 use Rattle.once_laws.proofs.Rests.{Rests, fed_rests, unfed_rests}
 use Rattle.network_laws.proofs.Lists.{each_append}
 

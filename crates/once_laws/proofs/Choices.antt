@@ -15,9 +15,9 @@ use Rattle.mv_base.specs.declared.ids.SiteId.{SiteId}
 use Rattle.mv_base.specs.declared.ids.VrfId.{VrfId}
 use Rattle.mv_base.specs.declared.prefix.Prefix.{Prefix}
 use Rattle.mv_base.specs.declared.rd.Rd.{Rd}
-use Rattle.route_targets.specs.Targets.{same}
-use Rattle.bgp_attributes.specs.declared.key.Key.{Key}
-use Rattle.bgp_attributes.specs.declared.key.Key.TheVariants.{Mcast, Unicast}
+use Rattle.mv_base.specs.route_targets.Targets.{same}
+use Rattle.bgp_messages.specs.declared.bgp_attributes.key.Key.{Key}
+use Rattle.bgp_messages.specs.declared.bgp_attributes.key.Key.TheVariants.{Mcast, Unicast}
 use Rattle.scenario_defs.specs.Home.{routes, local_routes, home}
 use Rattle.scenario_defs.specs.Vpn.{is_of_site, is_of_vrf, is_attached, is_attached_at, same_vpn, targets_of}
 use Rattle.scenario_defs.specs.declared.scenario.Iface.{Iface}
@@ -41,17 +41,17 @@ use Rattle.edge_defs.specs.Place.{EdgePlace, OwnVrf, own_vrfs, vrfs_from, addr_o
 use Rattle.network_defs.specs.Costs.{Cores}
 use Rattle.edge_defs.specs.Upstream.{costs_of, known_route, known_from, known_routes, upstream_by, upstream_for}
 use Rattle.edge_defs.proofs.KeyLemmas.{key_total, key_exact}
-use Rattle.edge_laws.specs.Network.{EdgeNetwork, place_of}
-use Rattle.calm_laws.specs.Calm.{AreOfOneVpn}
-use Rattle.calm_laws.proofs.Comms.{joins_by}
-use Rattle.calm_laws.proofs.Entries.{IsHeld, OfInclusive, OfUnicast, OfSelective, OfActive, OfJoin, is_held, kind_of, selective_kind, active_kind, join_kind, own_held}
-use Rattle.calm_laws.proofs.Lists.{passes, among_choice, among_front, among_behind, among_either, among_map, map_among, among_flat_map, flat_map_among, any_from, any_among, among_found, found_among}
-use Rattle.calm_laws.proofs.Maps.{entry_get, get_entry}
-use Rattle.calm_laws.proofs.Originated.{unicast_held}
-use Rattle.calm_laws.proofs.Tables.{taken_is, held_taken, taken_held, among_peers, far_up}
-use Rattle.calm_laws.proofs.Targets.{same_itself, same_back, vpn_admits}
-use Rattle.calm_laws.proofs.Upstreams.{chained, admitted_unicast}
-use Rattle.calm_laws.proofs.Vrfs.{own_at, own_rules, one_rd, one_vpn}
+use Rattle.edge_words.specs.edge_laws.Network.{EdgeNetwork, place_of}
+use Rattle.edge_words.specs.calm_laws.Calm.{AreOfOneVpn}
+use Rattle.edge_words.proofs.calm_laws.Comms.{joins_by}
+use Rattle.edge_words.proofs.calm_laws.Entries.{IsHeld, OfInclusive, OfUnicast, OfSelective, OfActive, OfJoin, is_held, kind_of, selective_kind, active_kind, join_kind, own_held}
+use Rattle.edge_words.proofs.calm_laws.Lists.{passes, among_choice, among_front, among_behind, among_either, among_map, map_among, among_flat_map, flat_map_among, any_from, any_among, among_found, found_among}
+use Rattle.edge_words.proofs.calm_laws.Maps.{entry_get, get_entry}
+use Rattle.edge_words.proofs.calm_laws.Originated.{unicast_held}
+use Rattle.edge_words.proofs.calm_laws.Tables.{taken_is, held_taken, taken_held, among_peers, far_up}
+use Rattle.edge_words.proofs.calm_laws.Targets.{same_itself, same_back, vpn_admits}
+use Rattle.edge_words.proofs.calm_laws.Upstreams.{chained, admitted_unicast}
+use Rattle.edge_words.proofs.calm_laws.Vrfs.{own_at, own_rules, one_rd, one_vpn}
 use Rattle.rule_laws.proofs.Vpns.{targets_at}
 use Rattle.network_defs.specs.Nodes.{is_edge}
 use Rattle.network_defs.specs.World.{World, scenario_of}

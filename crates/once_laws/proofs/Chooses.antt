@@ -21,7 +21,7 @@ use Rattle.selective_defs.specs.Selective.{Among}
 use Rattle.edge_defs.specs.Edge.{Control, EdgeData}
 use Rattle.edge_defs.specs.Place.{EdgePlace, OwnVrf}
 use Rattle.edge_defs.specs.Upstream.{known_routes}
-use Rattle.calm_laws.proofs.Targets.{same_itself}
+use Rattle.edge_words.proofs.calm_laws.Targets.{same_itself}
 use Rattle.edge_words.specs.Known.{AreNodes}
 use Rattle.edge_words.proofs.Known.{of_edges, chosen_is, local_is}
 use Rattle.network_defs.specs.Costs.{Cores}

@@ -6,11 +6,11 @@ use Rattle.std.proofs.lemmas.Bool.{cases_Bool, cases_eq, lt-ltb, ltb-true}
 use Rattle.mv_base.specs.declared.ids.NodeId.{NodeId}
 use Rattle.std.proofs.lemmas.List.Elements.{All-contains}
 use Rattle.mv_base.specs.declared.core_link.Link.{Link}
-use Rattle.core_walks.specs.Topology.{HasCost, HasEnds}
-use Rattle.core_walks.specs.Walks.{IsLinked, IsToward}
+use Rattle.mv_base.specs.core_walks.Topology.{HasCost, HasEnds}
+use Rattle.mv_base.specs.core_walks.Walks.{IsLinked, IsToward}
 use Rattle.scenario_defs.specs.Rules.{Rules}
 use Rattle.scenario_defs.specs.declared.scenario.Scenario.{Scenario}
-use Rattle.core_walks.specs.Core.{Core, IsCoreOf}
+use Rattle.mv_base.specs.core_walks.Core.{Core, IsCoreOf}
 use Rattle.network_defs.specs.Costs.{AreRepriced}
 use Rattle.network_defs.specs.Counts.{node_ids, all_nodes}
 use Rattle.label_defs.proofs.MemberLemmas.{count-cons}

@@ -18,21 +18,21 @@ use Rattle.mvpn_model.specs.Sessions.{edges, edges_from, bgp_session, bgp_sessio
 use Rattle.mvpn_model.specs.declared.session.Session.{Session}
 use Rattle.label_defs.specs.LabelData as labels
 use Rattle.selective_defs.specs.Selective.{Among, IsDue}
-use Rattle.session_defs.specs.Refined.{Carried, IsLine, seen}
-use Rattle.session_defs.specs.declared.direction.Direction.{Direction}
+use Rattle.network_defs.specs.session_defs.Refined.{Carried, IsLine, seen}
+use Rattle.network_defs.specs.declared.session_defs.direction.Direction.{Direction}
 use Rattle.edge_defs.specs.Due as dues
 use Rattle.edge_defs.specs.Due.{is_selection_due}
 use Rattle.edge_defs.specs.Edge.{VrfPattern, pattern_cmp, Selected, EdgeData}
 use Rattle.edge_defs.specs.Flows.{flows_at}
 use Rattle.network_defs.specs.Costs.{Cores}
 use Rattle.edge_defs.proofs.KeyLemmas.{pattern_exact}
-use Rattle.edge_laws.specs.Network.{EdgeNetwork}
-use Rattle.edge_laws.specs.Rule.{Rule}
-use Rattle.calm_laws.specs.Calm.{NoneDue, FlowsStand}
-use Rattle.calm_laws.specs.Calm as calm
-use Rattle.calm_laws.proofs.Flows.{fresh_stands}
-use Rattle.calm_laws.proofs.Lists.{among_map}
-use Rattle.calm_laws.proofs.Maps.{get_entry}
+use Rattle.edge_words.specs.edge_laws.Network.{EdgeNetwork}
+use Rattle.edge_words.specs.edge_laws.Rule.{Rule}
+use Rattle.edge_words.specs.calm_laws.Calm.{NoneDue, FlowsStand}
+use Rattle.edge_words.specs.calm_laws.Calm as calm
+use Rattle.edge_words.proofs.calm_laws.Flows.{fresh_stands}
+use Rattle.edge_words.proofs.calm_laws.Lists.{among_map}
+use Rattle.edge_words.proofs.calm_laws.Maps.{get_entry}
 use Rattle.network_defs.specs.Counts.{direction, node_ids, node_due}
 use Rattle.network_defs.specs.Nodes.{NodeState, Edge, CoreNode, is_edge, place_of, label_place_of}
 use Rattle.network_defs.specs.Refusals.{control_of}

@@ -10,10 +10,10 @@ use Rattle.std.specs.FinSet as sets
 use Rattle.std.specs.Ordering.{eq_by_cmp}
 use Rattle.std.proofs.lemmas.Bool.{cases_Bool, cond_both, true≢false}
 use Rattle.mv_base.specs.declared.ids.NodeId.{NodeId}
-use Rattle.mldp_fec.specs.declared.fec.Fec.{Fec}
-use Rattle.bgp_attributes.specs.declared.update.Message.{Message}
-use Rattle.mldp_msgs.specs.declared.message.LabelMessage.{LabelMessage}
-use Rattle.mldp_msgs.specs.declared.message.LabelMessage.TheVariants as messages
+use Rattle.mldp.specs.declared.mldp_fec.fec.Fec.{Fec}
+use Rattle.bgp_messages.specs.declared.bgp_attributes.update.Message.{Message}
+use Rattle.mldp.specs.declared.mldp_msgs.message.LabelMessage.{LabelMessage}
+use Rattle.mldp.specs.declared.mldp_msgs.message.LabelMessage.TheVariants as messages
 use Rattle.scenario_defs.specs.declared.event.Event.{Event}
 use Rattle.scenario_defs.specs.declared.event.Event.TheVariants as events
 use Rattle.scenario_defs.specs.declared.event.Kind.TheVariants as kinds
@@ -28,19 +28,19 @@ use Rattle.label_defs.specs.Steps.{effect, label_step, released, taken, with_rel
 use Rattle.label_defs.specs.Settling.{with_use}
 use Rattle.label_defs.specs.declared.label_use.LabelUse.{LabelUse}
 use Rattle.label_defs.proofs.WithdrawLemmas.{same_leaves}
-use Rattle.session_defs.specs.System.{Stepped}
-use Rattle.session_defs.specs.declared.direction.Direction.{Direction}
+use Rattle.network_defs.specs.session_defs.System.{Stepped}
+use Rattle.network_defs.specs.declared.session_defs.direction.Direction.{Direction}
 use Rattle.edge_defs.specs.Edge as edges
 use Rattle.edge_defs.specs.Edge.{Taken, Control, EdgeData}
 use Rattle.edge_defs.specs.Flows.{flows_at}
 use Rattle.edge_defs.specs.Place.{EdgePlace}
 use Rattle.network_defs.specs.Costs.{Cores}
 use Rattle.edge_defs.specs.Steps as steps
-use Rattle.edge_defs.specs.Steps.{EdgeStepped, LabelStep, edge_step, own_label_call, changed_leaves, one_call, control_step, label_row, part_after}
-use Rattle.bgp_update.specs.Table.{changes_of}
+use Rattle.edge_defs.specs.Steps.{EdgeStepped, LabelStep, edge_step, own_label_call, changed_leaves, one_call, control_step, label_row, part_after, raised_after}
+use Rattle.bgp_messages.specs.bgp_update.Table.{changes_of}
 use Rattle.edge_defs.specs.Tunnels.{leaves}
 use Rattle.edge_defs.proofs.LeafSteps.{fresh_leaves, leaves_follow}
-use Rattle.calm_laws.proofs.Flows.{Stands, fresh_stands, later_stands, step_stands}
+use Rattle.edge_words.proofs.calm_laws.Flows.{Stands, fresh_stands, later_stands, step_stands}
 use Rattle.network_defs.specs.Nodes.{NodeState, Edge, CoreNode, Nodes, is_edge, start_nodes, fresh_node, with_node, following, label_place_of, place_of}
 use Rattle.network_defs.specs.Run.{Traced, Runs}
 use Rattle.network_defs.specs.System.{NodeCall, Own, Elapse, Reset, Price, Follow, node_called, core_called, nodes_called}
@@ -50,12 +50,12 @@ use Rattle.mvpn_model.specs.Sessions.{sessions, edges_from, bgp_session, bgp_ses
 use Rattle.scenario_defs.specs.declared.scenario.Node.{Node}
 use Rattle.label_defs.specs.Keys.{node_cmp}
 use Rattle.label_defs.proofs.KeyLemmas.{node_cmp_total, node_cmp_exact, node_equal, node_itself}
-use Rattle.ready_laws.proofs.Ends.{Holds}
+use Rattle.network_laws.proofs.ready_laws.Ends.{Holds}
 use Rattle.once_laws.specs.Facts.{EdgeFact, NodeFact, NodesFact, FitEnd}
 use Rattle.network_laws.proofs.Lists.{each_map, each_weaker, each_append}
 use Rattle.once_laws.proofs.Carry.{IsOfSession, AreFit, EventMay, runs_hold}
 use Rattle.once_laws.proofs.Rests.{Rests, unfed_rests}
-use Rattle.ready_laws.proofs.Ends.{holds_from, holds_then}
+use Rattle.network_laws.proofs.ready_laws.Ends.{holds_from, holds_then}
 
 -- ---- calls
 
@@ -140,7 +140,7 @@ edge_fact nodes n edge call w same fits stands =
     let IsNew : EdgeStepped → Type 0 = λ new. new.edge.control ≡ control in
     let Leafs : EdgeStepped → Type 0 = λ new. new.edge.part.leaves ≡ leaves place new.edge.control in
     let row = label_row place nodes.clock edge.part (one_call (own_label_call call) ++ changed_leaves (leaves place edge.control) (leaves place control)) in
-    let controls : Holds IsNew (edge_step place nodes.clock edge call) = holds_then (λ (r : List LabelStep). ⊤) IsNew row (λ r. Some (record { edge = record { control = control; part = part_after edge.part r }; row = r })) (holds_from (λ (r : List LabelStep). ⊤) row (λ r e. tt)) (λ r t. refl) in
+    let controls : Holds IsNew (edge_step place nodes.clock edge call) = holds_then (λ (r : List LabelStep). ⊤) IsNew row (λ r. Some (record { edge = record { control = control; part = part_after edge.part r; raised = raised_after nodes.clock edge.raised call }; row = r })) (holds_from (λ (r : List LabelStep). ⊤) row (λ r e. tt)) (λ r t. refl) in
     let leafs : Holds Leafs (edge_step place nodes.clock edge call) = holds_from Leafs (edge_step place nodes.clock edge call) (λ new e. leaves_follow place nodes.clock edge call new same e) in
     by (edge_step place nodes.clock edge call) (holds_both IsNew Leafs (edge_step place nodes.clock edge call) controls leafs)
   where

@@ -15,7 +15,7 @@ use Rattle.scenario_defs.specs.declared.event.Timed.{Timed}
 use Rattle.pim_defs.specs.Entries.{entry_cmp, expiry_at}
 use Rattle.pim_defs.specs.Expiry.{counts}
 use Rattle.pim_defs.specs.declared.expiry.Expiry.{Expiry}
-use Rattle.bgp_update.specs.Written.{afi_of}
+use Rattle.bgp_messages.specs.bgp_update.Written.{afi_of}
 use Rattle.delivery_laws.specs.Once.{past_of}
 use Rattle.network_defs.specs.Costs.{Cores}
 use Rattle.network_defs.specs.Nodes.{NodeState, Edge, CoreNode}

@@ -12,8 +12,8 @@ use Rattle.mv_base.specs.Address.{same_addr, same_addr_equiv, same_addr_equal}
 use Rattle.mv_base.specs.declared.addr.Addr.{Addr}
 use Rattle.mv_base.specs.declared.ids.IfaceId.{IfaceId}
 use Rattle.mv_base.specs.declared.ids.NodeId.{NodeId}
-use Rattle.bgp_attributes.specs.declared.update.Message.{Message}
-use Rattle.bgp_update.specs.Table.{changes_of}
+use Rattle.bgp_messages.specs.declared.bgp_attributes.update.Message.{Message}
+use Rattle.bgp_messages.specs.bgp_update.Table.{changes_of}
 use Rattle.mvpn_model.specs.Past.{is_accepted, is_of_edge, is_flow_at, noted_by, noted_after}
 use Rattle.mvpn_model.specs.Report.{refused_lines}
 use Rattle.mvpn_model.specs.Sessions.{sessions}
@@ -32,7 +32,7 @@ use Rattle.label_defs.specs.Settling as settling
 use Rattle.label_defs.specs.Steps as label_steps
 use Rattle.label_defs.specs.Steps.{label_step}
 use Rattle.label_defs.proofs.KeyLemmas.{node_equal, ties}
-use Rattle.session_defs.specs.System.{Stepped}
+use Rattle.network_defs.specs.session_defs.System.{Stepped}
 use Rattle.edge_defs.specs.Edge as edges
 use Rattle.edge_defs.specs.Edge.{Note, note_cmp, Taken, Control}
 use Rattle.edge_defs.specs.Place.{EdgePlace}
@@ -50,7 +50,7 @@ use Rattle.network_defs.specs.World.{World, start, scenario_of}
 use Rattle.delivery_laws.proofs.Accepted.{TellsAccepted, accepts, tells_accepted}
 use Rattle.delivery_laws.proofs.Outcomes.{Leads, then_leads, one_leads, leads_as}
 use Rattle.delivery_laws.proofs.Silent.{any_lines}
-use Rattle.ready_laws.proofs.Ends.{Holds, holds_from, holds_then}
+use Rattle.network_laws.proofs.ready_laws.Ends.{Holds, holds_from, holds_then}
 use Rattle.rule_laws.proofs.Rows.{IsEdgeNode}
 use Rattle.once_laws.specs.Told.{NotesAreTold}
 use Rattle.once_laws.proofs.Carry.{IsOfSession, EventMay, event_holds}

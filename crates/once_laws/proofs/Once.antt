@@ -22,7 +22,7 @@ use Rattle.scenario_defs.specs.declared.scenario.Scenario.{Scenario}
 use Rattle.scenario_defs.specs.declared.scenario.Vrf.{Vrf}
 use Rattle.selective_defs.specs.Selective.{Among}
 use Rattle.network_defs.specs.Costs.{Cores}
-use Rattle.calm_laws.proofs.Lists.{any_from, any_among}
+use Rattle.edge_words.proofs.calm_laws.Lists.{any_from, any_among}
 use Rattle.delivery_laws.specs.Choice.{serves_by, serves_from, is_served, CalmChoice}
 use Rattle.delivery_laws.specs.Once.{receives_by, past_of}
 use Rattle.delivery_laws.proofs.OnceLemmas.{calm_choices_once}

@@ -6,8 +6,8 @@ use Rattle.std.proofs.lemmas.Bool.{cases_Bool, and_parts}
 use Rattle.std.proofs.lemmas.List.Elements.{All-from_recursion, All-contains, recursion_from_All}
 use Rattle.mv_base.specs.declared.core_link.Link.{Link}
 use Rattle.mv_base.specs.declared.ids.NodeId.{NodeId}
-use Rattle.core_walks.specs.Topology.{HasEnds}
-use Rattle.core_walks.specs.Walks.{IsLinked}
+use Rattle.mv_base.specs.core_walks.Topology.{HasEnds}
+use Rattle.mv_base.specs.core_walks.Walks.{IsLinked}
 use Rattle.label_defs.specs.LabelData.{is_ready}
 use Rattle.label_defs.proofs.KeyLemmas.{node_equal}
 use Rattle.label_defs.proofs.MemberLemmas.{count-cons}
@@ -16,7 +16,7 @@ use Rattle.mvpn_model.specs.declared.session.Session.{Session}
 use Rattle.scenario_defs.specs.Rules.{Rules}
 use Rattle.scenario_defs.specs.declared.event.Kind.TheVariants as kinds
 use Rattle.scenario_defs.specs.declared.scenario.Scenario.{Scenario}
-use Rattle.session_defs.specs.declared.direction.Direction.{Direction}
+use Rattle.network_defs.specs.declared.session_defs.direction.Direction.{Direction}
 use Rattle.network_defs.specs.Counts as counts
 use Rattle.network_defs.specs.Counts.{direction, directions_of}
 use Rattle.network_defs.specs.Nodes.{part_of}

@@ -12,7 +12,7 @@ use Rattle.mv_base.specs.declared.ids.IfaceId.{IfaceId}
 use Rattle.mv_base.specs.declared.ids.NodeId.{NodeId}
 use Rattle.mv_base.specs.declared.ids.SiteId.{SiteId}
 use Rattle.mv_base.specs.declared.ids.VrfId.{VrfId}
-use Rattle.mldp_fec.specs.declared.fec.Fec.{Fec}
+use Rattle.mldp.specs.declared.mldp_fec.fec.Fec.{Fec}
 use Rattle.mvpn_model.specs.Past as pasts
 use Rattle.mvpn_model.specs.Past.{Past}
 use Rattle.mvpn_model.proofs.ListLemmas.{passes-from_find, none-from_find}
@@ -37,12 +37,12 @@ use Rattle.edge_defs.specs.Tunnels.{transmit_tunnel, is_joined_in, leaves}
 use Rattle.edge_defs.specs.Flows.{is_asking}
 use Rattle.edge_defs.specs.Upstream.{upstream_for}
 use Rattle.choice_defs.specs.declared.known_route.KnownRoute.{KnownRoute}
-use Rattle.edge_laws.specs.Network.{EdgeNetwork, place_of}
-use Rattle.calm_laws.proofs.Leaves.{calm_flow}
-use Rattle.calm_laws.proofs.Lists.{any_from, any_among}
-use Rattle.calm_laws.proofs.Maps.{entry_get}
-use Rattle.calm_laws.proofs.Targets.{same_itself, same_back, same_through}
-use Rattle.calm_laws.proofs.Vrfs.{own_at, own_edge, one_rd}
+use Rattle.edge_words.specs.edge_laws.Network.{EdgeNetwork, place_of}
+use Rattle.edge_words.proofs.calm_laws.Leaves.{calm_flow}
+use Rattle.edge_words.proofs.calm_laws.Lists.{any_from, any_among}
+use Rattle.edge_words.proofs.calm_laws.Maps.{entry_get}
+use Rattle.edge_words.proofs.calm_laws.Targets.{same_itself, same_back, same_through}
+use Rattle.edge_words.proofs.calm_laws.Vrfs.{own_at, own_edge, one_rd}
 use Rattle.label_defs.proofs.KeyLemmas.{node_cmp_total}
 use Rattle.label_defs.proofs.MemberLemmas.{count-cons}
 use Rattle.rule_laws.proofs.Vpns.{one_addr, addr_at}

@@ -11,7 +11,7 @@ use Rattle.mv_base.specs.declared.ids.NodeId.{NodeId}
 use Rattle.mv_base.specs.declared.ids.SiteId.{SiteId}
 use Rattle.mv_base.specs.declared.ids.VrfId.{VrfId}
 use Rattle.mv_base.specs.declared.rd.Rd.{Rd}
-use Rattle.mldp_fec.specs.declared.fec.Fec.{Fec}
+use Rattle.mldp.specs.declared.mldp_fec.fec.Fec.{Fec}
 use Rattle.scenario_defs.specs.Rules.{Rules}
 use Rattle.scenario_defs.specs.Vpn.{is_of_vrf, edge_of}
 use Rattle.scenario_defs.specs.declared.scenario.Iface.{Iface}
@@ -28,12 +28,12 @@ use Rattle.edge_defs.specs.Place.{OwnVrf, own_vrfs, own_addr, addr_of, lsp, tunn
 use Rattle.network_defs.specs.Costs.{Cores}
 use Rattle.edge_defs.specs.Tunnels.{transmit_tunnel, is_joined_in, leaves, selections_of, number_by, tunnels_of}
 use Rattle.edge_defs.specs.Upstream.{upstream_for}
-use Rattle.edge_laws.specs.Network.{EdgeNetwork, place_of}
-use Rattle.calm_laws.specs.Calm.{AreOfOneVpn}
-use Rattle.calm_laws.proofs.Leaves.{wants_inclusive, wants_selective}
-use Rattle.calm_laws.proofs.Lists.{any_among}
-use Rattle.calm_laws.proofs.Maps.{entry_get}
-use Rattle.calm_laws.proofs.Vrfs.{one_number, one_in_vpn}
+use Rattle.edge_words.specs.edge_laws.Network.{EdgeNetwork, place_of}
+use Rattle.edge_words.specs.calm_laws.Calm.{AreOfOneVpn}
+use Rattle.edge_words.proofs.calm_laws.Leaves.{wants_inclusive, wants_selective}
+use Rattle.edge_words.proofs.calm_laws.Lists.{any_among}
+use Rattle.edge_words.proofs.calm_laws.Maps.{entry_get}
+use Rattle.edge_words.proofs.calm_laws.Vrfs.{one_number, one_in_vpn}
 use Rattle.rule_laws.proofs.Vpns.{one_addr, addr_at}
 use Rattle.delivery_laws.specs.Choice.{serves_near, sends_on, serves_far, serves_by, serves_from, is_served}
 use Rattle.delivery_laws.specs.Leaving.{passes, is_iface_of_vrf, asks_at, takes_from}

@@ -38,9 +38,9 @@ use Rattle.scenario_defs.specs.declared.scenario.Vrf.{Vrf}
 use Rattle.scenario_defs.proofs.RuleLemmas.{vrf_rules_at}
 use Rattle.label_defs.specs.LabelData as labels
 use Rattle.label_defs.proofs.KeyLemmas.{node_equal}
-use Rattle.session_defs.specs.Octets.{OctetNetwork, with_step}
-use Rattle.session_defs.specs.System.{Stepped, with_earlier}
-use Rattle.session_defs.specs.declared.direction.Direction.{Direction}
+use Rattle.network_defs.specs.session_defs.Octets.{OctetNetwork, with_step}
+use Rattle.network_defs.specs.session_defs.System.{Stepped, with_earlier}
+use Rattle.network_defs.specs.declared.session_defs.direction.Direction.{Direction}
 use Rattle.edge_defs.specs.Edge as edges
 use Rattle.edge_defs.specs.Edge.{Control}
 use Rattle.network_defs.specs.Costs.{Cores}
@@ -54,7 +54,7 @@ use Rattle.network_defs.specs.Run.{Traced, Runs, outcome, report_of}
 use Rattle.network_defs.specs.System.{NodeCall, Own, node_called, nodes_called}
 use Rattle.network_defs.specs.World.{World, start, scenario_of, clock_of}
 use Rattle.delivery_laws.proofs.Accepted.{TellsAccepted, accepts, tells_accepted}
-use Rattle.ready_laws.proofs.Ends.{Holds}
+use Rattle.network_laws.proofs.ready_laws.Ends.{Holds}
 use Rattle.delivery_laws.proofs.Outcomes.{Leads, Gives, then_leads, one_leads, leads_as}
 use Rattle.delivery_laws.proofs.Silent.{any_lines}
 use Rattle.rule_laws.proofs.Rows.{IsEdgeNode}
@@ -62,7 +62,7 @@ use Rattle.once_laws.specs.Told.{kept_at_edge, AsksAreTold, EntriesAreTold}
 use Rattle.once_laws.proofs.Carry.{IsOfSession, AreFit, EventMay, event_holds}
 use Rattle.once_laws.proofs.Rests.{Rests, unfed_rests}
 use Rattle.once_laws.proofs.Stands.{Alike, Told, kept_of, Stands, MayStand, remaining_twice, counts_by, alike_later, alike_after, edge_control, one_stands, step}
-use Rattle.ready_laws.proofs.Ends.{holds_then}
+use Rattle.network_laws.proofs.ready_laws.Ends.{holds_then}
 
 abbrev pub Any : List ReportLine → Type 0
 Any all = ⊤

@@ -6,8 +6,8 @@ use Rattle.std.specs.FinMap as maps
 use Rattle.std.proofs.lemmas.Bool.{cases_lt, cond_both, true≢false, lt-ltb, ltb-true}
 use Rattle.mv_base.specs.declared.ids.IfaceId.{IfaceId}
 use Rattle.mv_base.specs.declared.ids.NodeId.{NodeId}
-use Rattle.bgp_attributes.specs.declared.update.Message.{Message}
-use Rattle.bgp_update.specs.Table.{changes_of}
+use Rattle.bgp_messages.specs.declared.bgp_attributes.update.Message.{Message}
+use Rattle.bgp_messages.specs.bgp_update.Table.{changes_of}
 use Rattle.pim_defs.specs.Entries.{Entries, expiry_at}
 use Rattle.pim_defs.specs.Expiry.{is_after, counts, later, extended, remaining}
 use Rattle.pim_defs.specs.Mention.{joined_after, rpt_after, expiry_after}
@@ -25,18 +25,18 @@ use Rattle.label_defs.specs.Settling as settling
 use Rattle.label_defs.specs.Steps as label_steps
 use Rattle.label_defs.specs.Steps.{label_step}
 use Rattle.label_defs.proofs.KeyLemmas.{node_equal}
-use Rattle.session_defs.specs.System.{Stepped}
+use Rattle.network_defs.specs.session_defs.System.{Stepped}
 use Rattle.edge_defs.specs.Edge.{Taken, Control, EdgeData}
 use Rattle.edge_defs.specs.Place.{EdgePlace}
 use Rattle.edge_defs.specs.Steps as steps
-use Rattle.edge_defs.specs.Steps.{EdgeStepped, LabelStep, edge_step, own_label_call, changed_leaves, one_call, control_step, label_row, part_after}
+use Rattle.edge_defs.specs.Steps.{EdgeStepped, LabelStep, edge_step, own_label_call, changed_leaves, one_call, control_step, label_row, part_after, raised_after}
 use Rattle.edge_defs.specs.Tunnels.{leaves}
 use Rattle.network_defs.specs.Nodes.{NodeState, Edge, CoreNode, Nodes, is_edge, with_node, place_of, label_place_of, following}
 use Rattle.network_defs.specs.Refusals.{control_of}
 use Rattle.network_defs.specs.System.{NodeCall, Own, Elapse, Reset, Price, Follow, node_called, core_called, nodes_called}
-use Rattle.ready_laws.proofs.Ends.{Holds}
+use Rattle.network_laws.proofs.ready_laws.Ends.{Holds}
 use Rattle.rule_laws.proofs.Rows.{IsEdgeNode}
-use Rattle.ready_laws.proofs.Ends.{holds_from, holds_then}
+use Rattle.network_laws.proofs.ready_laws.Ends.{holds_from, holds_then}
 
 -- ---- expiries
 
@@ -177,7 +177,7 @@ pub edge_control : (place : EdgePlace) (now : ℕ) (edge : EdgeData) (call : ste
 edge_control place now edge call =
     let control : Control = control_step place now edge.control call in
     let row = label_row place now edge.part (one_call (own_label_call call) ++ changed_leaves (leaves place edge.control) (leaves place control)) in
-    holds_then (λ (r : List LabelStep). ⊤) (λ (new : EdgeStepped). new.edge.control ≡ control) row (λ r. Some (record { edge = record { control = control; part = part_after edge.part r }; row = r })) (holds_from (λ (r : List LabelStep). ⊤) row (λ r e. tt)) (λ r t. refl)
+    holds_then (λ (r : List LabelStep). ⊤) (λ (new : EdgeStepped). new.edge.control ≡ control) row (λ r. Some (record { edge = record { control = control; part = part_after edge.part r; raised = raised_after now edge.raised call }; row = r })) (holds_from (λ (r : List LabelStep). ⊤) row (λ r e. tt)) (λ r t. refl)
 
 -- one node becomes another, which keeps what is told
 pub one_stands : (scenario : Scenario) (clock : ℕ) (old told : Told) (nodes : Nodes) (at : NodeId) (new : NodeState) → Stands scenario clock old nodes → (IsEdgeNode (nodes.node at) → IsEdgeNode new)

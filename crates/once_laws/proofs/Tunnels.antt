@@ -8,8 +8,8 @@ use Rattle.mv_base.specs.Address.{same_addr, same_addr_equal}
 use Rattle.mv_base.specs.Number.{◌>>?◌, only_if}
 use Rattle.mv_base.specs.declared.addr.Addr.{Addr}
 use Rattle.mv_base.specs.declared.ids.NodeId.{NodeId}
-use Rattle.mldp_fec.specs.declared.fec.Fec.{Fec}
-use Rattle.bgp_attributes.specs.declared.key.Key.{Key}
+use Rattle.mldp.specs.declared.mldp_fec.fec.Fec.{Fec}
+use Rattle.bgp_messages.specs.declared.bgp_attributes.key.Key.{Key}
 use Rattle.scenario_defs.specs.declared.scenario.Scenario.{Scenario}
 use Rattle.scenario_defs.specs.declared.scenario.Vrf.{Vrf}
 use Rattle.scenario_defs.proofs.RuleLemmas.{vrf_rules_at}
@@ -26,13 +26,13 @@ use Rattle.edge_defs.specs.Place.{EdgePlace, OwnVrf, own_vrfs, addr_of, lsp, tun
 use Rattle.network_defs.specs.Costs.{Cores}
 use Rattle.edge_defs.specs.Tunnels.{inclusive_tunnels, flow_tunnels, flows_of, tunnels_of, learned_route, learned_routes, transmit_tunnel, selections_of, number_by}
 use Rattle.edge_defs.proofs.KeyLemmas.{key_total}
-use Rattle.edge_laws.specs.Network.{EdgeNetwork, place_of}
-use Rattle.calm_laws.specs.Calm.{AreOfOneVpn}
-use Rattle.calm_laws.proofs.InStep.{admitted_vpn}
-use Rattle.calm_laws.proofs.Lists.{among_either, map_among, flat_map_among, filter_among, any_from, any_among, found_among}
-use Rattle.calm_laws.proofs.Maps.{empty_entries, entry_get, get_entry}
-use Rattle.calm_laws.proofs.Tables.{taken_is}
-use Rattle.calm_laws.proofs.Upstreams.{chained}
+use Rattle.edge_words.specs.edge_laws.Network.{EdgeNetwork, place_of}
+use Rattle.edge_words.specs.calm_laws.Calm.{AreOfOneVpn}
+use Rattle.edge_words.proofs.calm_laws.InStep.{admitted_vpn}
+use Rattle.edge_words.proofs.calm_laws.Lists.{among_either, map_among, flat_map_among, filter_among, any_from, any_among, found_among}
+use Rattle.edge_words.proofs.calm_laws.Maps.{empty_entries, entry_get, get_entry}
+use Rattle.edge_words.proofs.calm_laws.Tables.{taken_is}
+use Rattle.edge_words.proofs.calm_laws.Upstreams.{chained}
 use Rattle.rule_laws.specs.Labels.{is_own_tunnel}
 use Rattle.rule_laws.specs.Honest.{IsTunnelRoute}
 use Rattle.rule_laws.proofs.Vpns.{own_passes, own_tunnel, one_vrf, number_small}

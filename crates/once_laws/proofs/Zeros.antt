@@ -6,14 +6,14 @@ use Rattle.std.proofs.lemmas.List.Sums.{sum_by-cons}
 use Rattle.mvpn_model.specs.Sessions.{sessions}
 use Rattle.mvpn_model.specs.declared.session.Session.{Session}
 use Rattle.scenario_defs.specs.declared.report.ReportLine.TheVariants as lines
-use Rattle.session_defs.specs.declared.direction.Direction.{Direction}
+use Rattle.network_defs.specs.declared.session_defs.direction.Direction.{Direction}
 use Rattle.network_defs.specs.Counts.{directions, all_nodes, node_due, octets_in_transit, due_timers, unready, state_line, is_ready}
 use Rattle.network_defs.specs.World.{World, scenario_of}
 use Rattle.once_laws.specs.Zeros.{Zeros}
-use Rattle.calm_laws.proofs.Maps.{none_of_length}
+use Rattle.edge_words.proofs.calm_laws.Maps.{none_of_length}
 use Rattle.label_defs.proofs.MemberLemmas.{count-cons}
 use Rattle.network_laws.proofs.Lists.{each_weaker}
-use Rattle.mldp_msgs.proofs.Fronts.{not_false}
+use Rattle.mldp.proofs.mldp_msgs.Fronts.{not_false}
 
 pub each_zero : {X : Type 0} (f : X → ℕ) (xs : List X) → sum_by f xs ≡ 0 → AllByRecursion (λ x. f x ≡ 0) xs
 each_zero f [] e = tt

@@ -4,7 +4,7 @@ ghost use Rattle.mv_base.specs.declared.addr.Addr.{Addr};
 ghost use Rattle.mv_base.specs.declared.ids.NodeId.{NodeId};
 ghost use Rattle.mv_base.specs.declared.ids.SiteId.{SiteId};
 ghost use Rattle.mv_base.specs.declared.ids.VrfId.{VrfId};
-ghost use Rattle.mldp_fec.specs.declared.fec.Fec.{Fec};
+ghost use Rattle.mldp.specs.declared.mldp_fec.fec.Fec.{Fec};
 ghost use Rattle.scenario_defs.specs.Home.{home};
 ghost use Rattle.scenario_defs.specs.Rules.{Rules, Rises};
 ghost use Rattle.scenario_defs.specs.declared.event.Script.{Script};

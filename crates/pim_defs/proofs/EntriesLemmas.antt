@@ -8,8 +8,8 @@ use Rattle.std.proofs.lemmas.Bool.{or_left, or_right, or_cases, or_parts, false_
 use Rattle.std.proofs.lemmas.Bool.Decides.{nat_tests}
 use Rattle.std.proofs.lemmas.List.{map-append}
 use Rattle.std.proofs.lemmas.List.Folds.{list_any-append}
-use Rattle.mv_base.specs.declared.ids.IfaceId.{IfaceId}
-use Rattle.mv_base.specs.declared.addr.Addr.{Addr}
+use Rattle.scenario_defs.specs.mv_base.declared.ids.IfaceId.{IfaceId}
+use Rattle.scenario_defs.specs.mv_base.declared.addr.Addr.{Addr}
 use Rattle.scenario_defs.specs.declared.event.JoinEntry.{JoinEntry}
 use Rattle.scenario_defs.specs.declared.event.JoinEntry.TheVariants.{Star, Source, Rpt}
 use Rattle.pim_joinprune.specs.declared.source.JpSource.{JpSource}

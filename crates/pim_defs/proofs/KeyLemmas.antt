@@ -9,9 +9,9 @@ use Rattle.std.proofs.lemmas.Cmp.{on_total}
 use Rattle.std.proofs.lemmas.Bool.{and_parts}
 use Rattle.std.proofs.lemmas.Bool.Decides.{nat_tests}
 use Rattle.std.proofs.lemmas.List.{append-nil}
-use Rattle.mv_base.specs.declared.addr.Addr.{Addr}
-use Rattle.mv_base.specs.Address.{addr_front, same_addr, same_addr_equiv, same_addr_equal}
-use Rattle.mv_base.proofs.AddressLemmas.{addr_fronts}
+use Rattle.scenario_defs.specs.mv_base.declared.addr.Addr.{Addr}
+use Rattle.scenario_defs.specs.mv_base.Address.{addr_front, same_addr, same_addr_equiv, same_addr_equal}
+use Rattle.scenario_defs.proofs.mv_base.AddressLemmas.{addr_fronts}
 use Rattle.scenario_defs.specs.declared.event.JoinEntry.{JoinEntry}
 use Rattle.scenario_defs.specs.declared.event.JoinEntry.TheVariants.{Star, Source, Rpt}
 use Rattle.scenario_defs.specs.declared.event.IfaceEntry.{IfaceEntry}

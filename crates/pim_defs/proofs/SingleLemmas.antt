@@ -1,8 +1,8 @@
 -- A message of one entry is spelled, in the family of its neighbour.
 use Rattle.std.proofs.Common.{List, [], arith}
-use Rattle.mv_base.specs.Address.{IsAddr}
-use Rattle.mv_base.specs.declared.addr.Addr.{Addr}
-use Rattle.mv_base.specs.declared.addr.Addr.TheVariants.{V4, V6}
+use Rattle.scenario_defs.specs.mv_base.Address.{IsAddr}
+use Rattle.scenario_defs.specs.mv_base.declared.addr.Addr.{Addr}
+use Rattle.scenario_defs.specs.mv_base.declared.addr.Addr.TheVariants.{V4, V6}
 use Rattle.pim_joinprune.specs.Families.{IsOf, family_of}
 use Rattle.pim_joinprune.specs.Spelling.{IsMulticast, IsSource, AreSources, IsJoinPrune}
 use Rattle.pim_joinprune.specs.declared.source.JpSource.{JpSource}

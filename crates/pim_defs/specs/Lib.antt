@@ -1,3 +1,4 @@
+pub use Rattle.pim_joinprune.specs as pim_joinprune
 pub mod Expiry
 pub mod Mention
 pub mod Asking

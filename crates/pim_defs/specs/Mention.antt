@@ -1,8 +1,8 @@
 -- What a Join/Prune message makes of an entry (RFC 7761 sections 4.5.1 to 4.5.3).
 use Rattle.std.specs.Prelude.{ℕ, ◌&&◌, not, Bool, false, List, Option, None, if◌then◌else◌}
 use Rattle.std.specs.List.{list_any}
-use Rattle.mv_base.specs.declared.addr.Addr.{Addr}
-use Rattle.mv_base.specs.Address.{same_addr}
+use Rattle.scenario_defs.specs.mv_base.declared.addr.Addr.{Addr}
+use Rattle.scenario_defs.specs.mv_base.Address.{same_addr}
 use Rattle.scenario_defs.specs.declared.event.JoinEntry.{JoinEntry}
 use Rattle.scenario_defs.specs.declared.event.JoinEntry.TheVariants.{Star, Source, Rpt}
 use Rattle.scenario_defs.specs.Rules.{group_of}

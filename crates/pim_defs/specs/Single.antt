@@ -1,6 +1,6 @@
 -- Messages of one entry, as a customer router sends them (RFC 7761 sections 4.9.5 and 4.11).
 use Rattle.std.specs.Prelude.{List, [], ◌∷◌}
-use Rattle.mv_base.specs.declared.addr.Addr.{Addr}
+use Rattle.scenario_defs.specs.mv_base.declared.addr.Addr.{Addr}
 use Rattle.scenario_defs.specs.declared.event.JoinEntry.{JoinEntry}
 use Rattle.scenario_defs.specs.declared.event.JoinEntry.TheVariants.{Star, Source, Rpt}
 use Rattle.pim_joinprune.specs.declared.source.SourceKind.TheVariants as kinds

@@ -3,9 +3,9 @@ ghost use Rattle.std.specs.Prelude.{◌≡◌};
 ghost use Rattle.scenario_defs.specs.Rules.{group_of};
 ghost use Rattle.pim_defs.specs.Mention.{entry_of, same_entry};
 
-use mv_base::Addr;
 use pim_joinprune::{JpSource, SourceKind};
 use scenario_defs::JoinEntry;
+use scenario_defs::of_mv_base::Addr;
 
 /// The entry that a source of a group in a message names (RFC 7761 section 4.9.1).
 pub fn entry_of(group: Addr, source: &JpSource) -> JoinEntry

@@ -1,7 +1,7 @@
 //! Laws of entries.
 ghost use Rattle.std.specs.Prelude.{◌≡◌, ℕ};
 ghost use Rattle.std.specs.FinMap.{get};
-ghost use Rattle.mv_base.specs.declared.ids.IfaceId.{IfaceId};
+ghost use Rattle.scenario_defs.specs.mv_base.declared.ids.IfaceId.{IfaceId};
 ghost use Rattle.pim_joinprune.specs.declared.message.JoinPrune.{JoinPrune};
 ghost use Rattle.scenario_defs.specs.declared.event.IfaceEntry.{IfaceEntry};
 ghost use Rattle.pim_defs.specs.Expiry.{remaining};

@@ -5,9 +5,9 @@ ghost use Rattle.pim_defs.specs.Mention.{entry_of, same_entry, lists, joins, pru
 
 use crate::entry::{entry_of, group_of, same_entry};
 use crate::expiry::{Expiry, extended};
-use mv_base::Addr;
 use pim_joinprune::{JoinPrune, JpSource};
 use scenario_defs::JoinEntry;
+use scenario_defs::of_mv_base::Addr;
 
 /// What a message says of an entry.
 #[derive(Clone, Copy, PartialEq, Eq)]

@@ -1,14 +1,14 @@
 //! Messages of one entry.
 ghost use Rattle.std.specs.Prelude.{◌≡◌, IfOk};
-ghost use Rattle.mv_base.specs.Address.{IsAddr};
+ghost use Rattle.scenario_defs.specs.mv_base.Address.{IsAddr};
 ghost use Rattle.scenario_defs.specs.Rules.{IsEntry, AreOfOneFamily, group_of};
 ghost use Rattle.pim_joinprune.specs.Spelling.{IsJoinPrune};
 ghost use Rattle.pim_defs.specs.Single.{source_of, one_source, message_with, join_of, prune_of};
 
 use crate::entry::group_of;
-use mv_base::{Addr, NoMemory, Seq};
 use pim_joinprune::{Group, JoinPrune, JpSource, JpSources, SourceKind};
 use scenario_defs::JoinEntry;
+use scenario_defs::of_mv_base::{Addr, NoMemory, Seq};
 use std::alloc::Global;
 
 /// The holdtime of the messages of `join` and `prune` (RFC 7761 section 4.11: 3.5 times 60 seconds).

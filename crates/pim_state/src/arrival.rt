@@ -9,7 +9,8 @@ ghost use Rattle.scenario_defs.specs.declared.event.IfaceEntry.{IfaceEntry};
 ghost use Rattle.pim_defs.specs.Mention.{lists};
 ghost use Rattle.pim_defs.specs.Entries.{applied};
 ghost use Rattle.pim_state.specs.Changes.{changed_by};
-ghost use Rattle.pim_state.specs.Plan.{is_among, is_at, is_named, is_shared, may_end, ends_among, mention_in, then_of, told_at, Tells};
+ghost use Rattle.pim_state.specs.Plan.{is_among, is_at, is_entry, is_named, is_shared, may_end, ends_among, mention_in};
+ghost use Rattle.pim_state.specs.Plan.{then_of, told_at, Tells};
 
 use crate::changes::Changes;
 use indexmap::{IndexMap, IndexSet};
@@ -18,6 +19,33 @@ use pim_defs::{Expiry, Mention, entry_of, expiry_after, group_of};
 use pim_joinprune::{Group, JoinPrune, JpSource};
 use scenario_defs::{IfaceEntry, JoinEntry};
 use std::alloc::Global;
+
+/// So many entries are compared one by one in less time than one is hashed.
+const FEW: usize = 4;
+
+/// Whether both are one entry.
+fn is_same(own: &JoinEntry, other: &JoinEntry) -> bool
+    ensures { result ≡ is_entry own.now other.now }
+{
+    own == other
+}
+
+/// Whether the entry is one of these.
+fn is_one_of(entries: &[JoinEntry], entry: &JoinEntry) -> bool
+    ensures { result ≡ is_among entries.now entry.now }
+{
+    entries.iter().any(|other| is_same(entry, other))
+}
+
+/// Whether the entry is in the set. Most messages name one entry or two, and these are not hashed.
+fn has(entries: &IndexSet<JoinEntry>, entry: &JoinEntry) -> bool
+    ensures { result ≡ is_among entries.now.keys entry.now }
+{
+    if entries.len() > FEW {
+        return entries.contains(entry);
+    }
+    is_one_of(entries.as_slice(), entry)
+}
 
 /// Adds the entries that the sources of a group name.
 fn add_named(
@@ -97,9 +125,9 @@ impl Arrival {
             group: group_of(entry),
         };
         Mention {
-            joined: self.joins.contains(entry),
-            pruned: self.prunes.contains(entry),
-            shared: self.joins.contains(&shared),
+            joined: has(&self.joins, entry),
+            pruned: has(&self.prunes, entry),
+            shared: has(&self.joins, &shared),
         }
     }
 
@@ -166,7 +194,7 @@ impl Arrival {
     {
         match at.entry {
             JoinEntry::Rpt { source: _, group } => {
-                at.iface == self.iface && self.joins.contains(&JoinEntry::Star { group })
+                at.iface == self.iface && has(&self.joins, &JoinEntry::Star { group })
             }
             _ => false,
         }

@@ -1,14 +1,14 @@
 //! Calls that take memory, where there is some, and octets that come in pieces.
 ghost use Rattle.std.specs.Prelude.{IfOk};
-ghost use Rattle.bgp_attributes.specs.Spelling.{AreComms};
-ghost use Rattle.bgp_update.specs.Written.{IsWritable, IsWritableKey};
+ghost use Rattle.bgp_messages.specs.bgp_attributes.Spelling.{AreComms};
+ghost use Rattle.bgp_messages.specs.bgp_update.Written.{IsWritable, IsWritableKey};
 
-use bgp_update::{Advert, Change, Comms, EncodeFault, Key, Message, Stream, encode};
+use bgp_messages::bgp_update::{Advert, Change, Comms, EncodeFault, Key, Message, Stream, encode};
+use bgp_values::mvpn_nlri::{Afi, Route};
+use edge_routes::route_order::{TableKey, TableValue};
 use edge_tables::EdgeTables;
+use mv_base::route_targets::ExtComm;
 use mv_base::{Addr, NodeId, Rd, Seq};
-use mvpn_nlri::{Afi, Route};
-use route_order::{TableKey, TableValue};
-use route_targets::ExtComm;
 use std::alloc::{AllocError, Global};
 use std::test::*;
 

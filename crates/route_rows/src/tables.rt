@@ -1,7 +1,7 @@
 //! A table that is kept in step with a peer.
-use rib_sync::{Inbox, Outbox};
+use edge_tables::rib_sync::{Inbox, Outbox};
+use mv_base::table_defs::Change;
 use std::test::*;
-use table_defs::Change;
 
 /// A peer is told what changed since it was told last, withdrawals first, and all anew once it is back.
 #[test]

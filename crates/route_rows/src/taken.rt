@@ -1,15 +1,15 @@
 //! Routes that are taken from a peer: each call that takes memory.
 ghost use Rattle.std.specs.Prelude.{◌≡◌};
-ghost use Rattle.bgp_update.specs.Written.{IsWritableKey};
+ghost use Rattle.bgp_messages.specs.bgp_update.Written.{IsWritableKey};
 
-use bgp_attributes::Key;
+use bgp_messages::bgp_attributes::Key;
+use bgp_values::mvpn_nlri::{Afi, Route};
+use edge_routes::route_order::TableKey;
+use edge_tables::taken_tables::{RouteValue, TakenTables};
+use mv_base::route_targets::ExtComm;
 use mv_base::{Addr, NoMemory, NodeId, Rd, Seq};
-use mvpn_nlri::{Afi, Route};
-use route_order::TableKey;
-use route_targets::ExtComm;
 use std::alloc::Global;
 use std::test::*;
-use taken_tables::{RouteValue, TakenTables};
 
 const ACTIVE: Route = Route::Active {
     rd: Rd([0, 0, 0xfd, 0xe8, 0, 0, 0, 1]),

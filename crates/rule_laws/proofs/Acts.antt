@@ -5,7 +5,7 @@ use Rattle.std.proofs.lemmas.Option.{same_Some}
 use Rattle.mv_base.specs.declared.addr.Addr.{Addr}
 use Rattle.mv_base.specs.declared.ids.NodeId.{NodeId}
 use Rattle.mv_base.specs.declared.ids.VrfId.{VrfId}
-use Rattle.framing.specs.Feed.{unfed}
+use Rattle.mv_base.specs.framing.Feed.{unfed}
 use Rattle.scenario_defs.specs.declared.event.Kind.{Kind}
 use Rattle.scenario_defs.specs.declared.event.Kind.TheVariants as kinds
 use Rattle.scenario_defs.specs.declared.report.ReportLine.{ReportLine}
@@ -14,14 +14,14 @@ use Rattle.scenario_defs.specs.declared.scenario.Scenario.{Scenario}
 use Rattle.scenario_defs.specs.declared.scenario.Vrf.{Vrf}
 use Rattle.label_defs.specs.LabelData.{use_of, is_up, branches_of}
 use Rattle.label_defs.specs.declared.branch.Branch.{Branch}
-use Rattle.session_defs.specs.Message.{SessionMessage}
-use Rattle.session_defs.specs.Octets as octets
-use Rattle.session_defs.specs.Octets.{OctetNetwork, octet_run}
-use Rattle.session_defs.specs.Refined.{AreLines, seen}
-use Rattle.session_defs.specs.System.{Stepped, Behind, with_messages}
-use Rattle.session_defs.specs.declared.direction.Direction.{Direction}
-use Rattle.session_defs.proofs.Lines.{line_lost, line_forgotten}
-use Rattle.mldp_fec.specs.declared.fec.Fec.{Fec}
+use Rattle.network_defs.specs.session_defs.Message.{SessionMessage}
+use Rattle.network_defs.specs.session_defs.Octets as octets
+use Rattle.network_defs.specs.session_defs.Octets.{OctetNetwork, octet_run}
+use Rattle.network_defs.specs.session_defs.Refined.{AreLines, seen}
+use Rattle.network_defs.specs.session_defs.System.{Stepped, Behind, with_messages}
+use Rattle.network_defs.specs.declared.session_defs.direction.Direction.{Direction}
+use Rattle.network_defs.proofs.session_defs.Lines.{line_lost, line_forgotten}
+use Rattle.mldp.specs.declared.mldp_fec.fec.Fec.{Fec}
 use Rattle.edge_defs.specs.Datagrams.{Fate, is_from_site, is_outside}
 use Rattle.edge_defs.specs.Flows.{asking_ifaces}
 use Rattle.edge_defs.specs.Edge.{EdgeData}
@@ -47,9 +47,9 @@ use Rattle.rule_laws.proofs.Numbers.{HasRoom}
 use Rattle.network_defs.specs.Refusals.{control_of}
 use Rattle.rule_laws.proofs.Octets.{OctetsGood, BehindGood, earlier_good, called_good, move_good}
 use Rattle.std.specs.FinMap as maps
-use Rattle.edge_laws.specs.Acts as edge_acts
+use Rattle.edge_words.specs.edge_laws.Acts as edge_acts
 use Rattle.rule_laws.proofs.EdgeCalls.{IsEdgeFit}
-use Rattle.core_walks.specs.Costs.{with_cost}
+use Rattle.mv_base.specs.core_walks.Costs.{with_cost}
 use Rattle.rule_laws.proofs.Reroutes.{price_good, follow_good}
 use Rattle.rule_laws.proofs.Sessions.{lose_good, restart_good, young_copies, tick_good}
 

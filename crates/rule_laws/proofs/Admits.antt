@@ -14,9 +14,9 @@ use Rattle.mv_base.specs.declared.ids.NodeId.{NodeId}
 use Rattle.mv_base.specs.declared.ids.SiteId.{SiteId}
 use Rattle.mv_base.specs.declared.ids.VrfId.{VrfId}
 use Rattle.mv_base.proofs.CutLemmas.{if_some}
-use Rattle.mldp_fec.specs.declared.fec.Fec.{Fec}
-use Rattle.bgp_attributes.specs.declared.key.Key.{Key}
-use Rattle.route_targets.specs.Targets.{same, shares}
+use Rattle.mldp.specs.declared.mldp_fec.fec.Fec.{Fec}
+use Rattle.bgp_messages.specs.declared.bgp_attributes.key.Key.{Key}
+use Rattle.mv_base.specs.route_targets.Targets.{same, shares}
 use Rattle.scenario_defs.proofs.RuleLemmas.{vrf_rules_at, apart_at, iface_rules_at}
 use Rattle.scenario_defs.specs.Rules.{Rules}
 use Rattle.scenario_defs.specs.Vpn.{targets_of, same_vpn, is_of_site, is_of_vrf, vrf_of_site, is_attached_at, ifaces_where}
@@ -29,11 +29,11 @@ use Rattle.label_defs.proofs.SettleLemmas.{bind_some}
 use Rattle.mvpn_model.proofs.ListLemmas.{passes-from_find, any-from_at}
 use Rattle.mvpn_model.proofs.VpnLemmas.{EntersAt, enters-at, vpn_of_site, admits-vpn, admits-entered}
 use Rattle.mvpn_model.specs.Safe.{IsAdmitted}
-use Rattle.calm_laws.proofs.Lists.{any_among}
-use Rattle.calm_laws.proofs.Maps.{entry_get}
-use Rattle.calm_laws.proofs.Tables.{peer_table}
-use Rattle.calm_laws.proofs.Targets.{same_itself, same_back, same_through, shares_by, shares_back, admitted_target, among_comms}
-use Rattle.calm_laws.proofs.Vrfs.{own_at, not_apart}
+use Rattle.edge_words.proofs.calm_laws.Lists.{any_among}
+use Rattle.edge_words.proofs.calm_laws.Maps.{entry_get}
+use Rattle.edge_words.proofs.calm_laws.Tables.{peer_table}
+use Rattle.edge_words.proofs.calm_laws.Targets.{same_itself, same_back, same_through, shares_by, shares_back, admitted_target, among_comms}
+use Rattle.edge_words.proofs.calm_laws.Vrfs.{own_at, not_apart}
 use Rattle.edge_defs.proofs.KeyLemmas.{key_total}
 use Rattle.edge_defs.specs.Datagrams.{is_tunnel, selective_fec, is_route_of, is_imported_from, is_from_edge, is_outside, outs_from, outs_at, outs_of}
 use Rattle.edge_defs.specs.Edge.{TakenRoute, Taken, Control, EdgeData}
@@ -47,7 +47,7 @@ use Rattle.network_defs.specs.LabelRule.{IsTunnelOf, IsTunnelFor}
 use Rattle.network_defs.specs.Nodes.{place_of}
 use Rattle.network_defs.specs.World.{World, Datagram, scenario_of}
 use Rattle.network_laws.proofs.Lists.{each_flat, each_filter, each_weaker}
-use Rattle.route_targets.specs.declared.communities.Target.{Target}
+use Rattle.mv_base.specs.declared.route_targets.communities.Target.{Target}
 use Rattle.rule_laws.specs.Labels.{is_own_tunnel}
 use Rattle.rule_laws.specs.Honest.{HonestValue}
 use Rattle.rule_laws.proofs.Vpns.{targets_at, own_passes, own_tunnel, one_vrf}

@@ -4,26 +4,27 @@ use Rattle.std.specs.Cmp.{tied_itself}
 use Rattle.std.specs.Ordering.{eq_by_cmp, is_eq}
 use Rattle.std.proofs.lemmas.Bool.{or_cases, or_left, or_right, and_from, cond-true, false_from_ne_true}
 use Rattle.mv_base.specs.declared.ids.NodeId.{NodeId}
-use Rattle.bgp_attributes.specs.declared.key.Key.{Key}
+use Rattle.bgp_messages.specs.declared.bgp_attributes.key.Key.{Key}
 use Rattle.scenario_defs.specs.declared.event.Kind.TheVariants as kinds
 use Rattle.scenario_defs.specs.declared.scenario.Scenario.{Scenario}
-use Rattle.table_defs.specs.Changes.{key_of, value_of, values_at}
-use Rattle.table_defs.specs.declared.change.Change.{Change}
+use Rattle.mv_base.specs.table_defs.Changes.{key_of, value_of, values_at}
+use Rattle.mv_base.specs.declared.table_defs.change.Change.{Change}
 use Rattle.label_defs.proofs.KeyLemmas.{node_itself, node_apart}
 use Rattle.label_laws.specs.Network.{LabelNetwork}
-use Rattle.label_laws.specs.Rule.{Kept}
-use Rattle.session_defs.specs.Message.{SessionMessage}
-use Rattle.session_defs.specs.System.{Stepped, MessageNetwork, with_messages}
-use Rattle.session_defs.specs.declared.direction.Direction as sessions
+use Rattle.label_laws.specs.Rule.{Kept, LabelRule}
+use Rattle.label_laws.proofs.Full.{label_rule}
+use Rattle.network_defs.specs.session_defs.Message.{SessionMessage}
+use Rattle.network_defs.specs.session_defs.System.{Stepped, MessageNetwork, with_messages}
+use Rattle.network_defs.specs.declared.session_defs.direction.Direction as sessions
 use Rattle.edge_defs.proofs.KeyLemmas.{key_total}
 use Rattle.edge_defs.specs.Edge.{Control}
 use Rattle.edge_defs.specs.Keys.{Value, key_cmp}
 use Rattle.edge_defs.specs.Steps as steps
 use Rattle.edge_defs.specs.Steps.{control_step}
-use Rattle.edge_laws.specs.Acts as acts
-use Rattle.edge_laws.specs.Acts.{is_up, stepped, with_joined}
-use Rattle.edge_laws.specs.Network.{EdgeNetwork, behind}
-use Rattle.edge_laws.specs.Rule.{Rule}
+use Rattle.edge_words.specs.edge_laws.Acts as acts
+use Rattle.edge_words.specs.edge_laws.Acts.{is_up, stepped, with_joined}
+use Rattle.edge_words.specs.edge_laws.Network.{EdgeNetwork, behind}
+use Rattle.edge_words.specs.edge_laws.Rule.{Rule}
 use Rattle.rule_laws.proofs.Honest.{EdgeRule, act_both}
 use Rattle.network_defs.specs.Acts.{is_of_session}
 use Rattle.label_defs.specs.Between.{is_between}
@@ -121,6 +122,13 @@ module _ (scenario : Scenario) (network : MessageNetwork Nodes) (copies : Copies
 
     parts : CalledRow state a (state.node a) (steps.Raised kinds.Bgp b) new × Base scenario middle × AllKept middle copies datagrams
     parts = call_parts scenario first copies datagrams base_first a (steps.Raised kinds.Bgp b) new called is tt sound up_a kept_first
+
+    -- The label rule holds between the two acts as well.
+    pub bgp_middle_rule : LabelRule (label_network middle copies (datagrams ++ []))
+    bgp_middle_rule = label_rule (label_network middle copies (datagrams ++ [])) (parts.2 []).rule
+
+    pub bgp_middle_alike : (u n : NodeId) → u ≢ n → middle.joined (direction kinds.Ldp u n) ≡ middle.joined (direction kinds.Ldp n u)
+    bgp_middle_alike u n apart = ((parts.2 []).rule.session u n apart).alike
 
     abbrev after_a : Control
     after_a = control_behind state a (state.node a) (steps.Raised kinds.Bgp b)

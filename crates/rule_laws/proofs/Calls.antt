@@ -1,11 +1,10 @@
 -- Each call of a node, and each message that is taken, keeps the label rule of the network at the level of messages.
-use Rattle.std.proofs.Common.{◌≡◌, ◌≢◌, ℕ, ◌+◌, ◌==◌, ◌&&◌, Bool, true, false, cond, List, [], ◌∷◌, ◌++◌, map, is_some, option_map, Option, Some, None, refl, sym, ap, subst, ◌∙◌}
+use Rattle.std.proofs.Common.{◌≡◌, ◌≢◌, ℕ, ◌==◌, ◌&&◌, Bool, true, false, cond, List, [], ◌∷◌, ◌++◌, map, is_some, option_map, Option, Some, None, refl, sym, ap, subst, ◌∙◌}
 use Rattle.std.specs.Ordering.{eq_by_cmp}
 use Rattle.std.specs.FinMap as maps
 use Rattle.std.specs.FinMap.{FinMap}
 use Rattle.mv_base.specs.declared.ids.NodeId.{NodeId}
-use Rattle.mldp_msgs.specs.declared.message.LabelMessage.{LabelMessage}
-use Rattle.mldp_msgs.specs.declared.message.LabelMessage.TheVariants as messages
+use Rattle.mldp.specs.declared.mldp_msgs.message.LabelMessage.{LabelMessage}
 use Rattle.scenario_defs.specs.declared.event.Kind.{Kind}
 use Rattle.scenario_defs.specs.declared.event.Kind.TheVariants as kinds
 use Rattle.scenario_defs.specs.declared.scenario.Scenario.{Scenario}
@@ -21,9 +20,9 @@ use Rattle.label_defs.proofs.TimerLemmas.{timed_end}
 use Rattle.label_laws.specs.Network.{LabelNetwork, behind}
 use Rattle.label_laws.specs.Acts.{Deliver, Timers, Notice, left_in_transit, delivered, noticed}
 use Rattle.label_laws.specs.Rule.{Kept}
-use Rattle.session_defs.specs.Message.{SessionMessage, Bgp, Label, same_direction}
-use Rattle.session_defs.specs.System.{Stepped, MessageNetwork, with_messages}
-use Rattle.session_defs.specs.declared.direction.Direction.{Direction}
+use Rattle.network_defs.specs.session_defs.Message.{SessionMessage, Bgp, Label, same_direction}
+use Rattle.network_defs.specs.session_defs.System.{Stepped, MessageNetwork, with_messages}
+use Rattle.network_defs.specs.declared.session_defs.direction.Direction.{Direction}
 use Rattle.edge_defs.specs.Place.{label_place}
 use Rattle.edge_defs.specs.Steps as steps
 use Rattle.edge_defs.specs.Steps.{own_label_call}
@@ -40,13 +39,13 @@ use Rattle.rule_laws.proofs.Leaves.{leaves_are_trees}
 use Rattle.rule_laws.proofs.Rows.{act_gives, FirstKept, row_kept, own_effect, CalledRow, TreesBehind, called_row, UpWhereJoined, called_is, control_behind, IsEdgeNode}
 use Rattle.rule_laws.proofs.EdgeCalls.{EdgesKept, PeersAreEdges, EdgesNext, edges_kept, rule_behind, edge_rule_behind, IsEdgeFit, fit_rule}
 use Rattle.rule_laws.specs.Edges.{InTransit, as_message, edge_network}
-use Rattle.bgp_attributes.specs.declared.key.Key.{Key}
-use Rattle.bgp_attributes.specs.declared.update.Message.{Message}
-use Rattle.table_defs.specs.declared.change.Change.{Change}
+use Rattle.bgp_messages.specs.declared.bgp_attributes.key.Key.{Key}
+use Rattle.bgp_messages.specs.declared.bgp_attributes.update.Message.{Message}
+use Rattle.mv_base.specs.declared.table_defs.change.Change.{Change}
 use Rattle.edge_defs.specs.Keys.{Value}
-use Rattle.edge_laws.specs.Acts as edge_acts
-use Rattle.edge_laws.specs.Acts.{message_of}
-use Rattle.edge_laws.specs.Network.{EdgeNetwork}
+use Rattle.edge_words.specs.edge_laws.Acts as edge_acts
+use Rattle.edge_words.specs.edge_laws.Acts.{message_of}
+use Rattle.edge_words.specs.edge_laws.Network.{EdgeNetwork}
 use Rattle.rule_laws.proofs.Honest.{EdgeRule, act_both}
 
 -- ---- what is kept

@@ -4,7 +4,7 @@ use Rattle.std.specs.List.{remove}
 use Rattle.std.proofs.lemmas.Bool.{cases_eq, and_parts, eq-eqb, ne_eqb}
 use Rattle.std.proofs.lemmas.List.{append-nil, append_assoc}
 use Rattle.mv_base.specs.declared.ids.NodeId.{NodeId}
-use Rattle.mldp_fec.specs.declared.fec.Fec.{Fec}
+use Rattle.mldp.specs.declared.mldp_fec.fec.Fec.{Fec}
 use Rattle.label_defs.specs.LabelData.{LabelData, use_of, branches_of}
 use Rattle.label_defs.specs.declared.branch.Branch.{Branch}
 use Rattle.label_defs.specs.declared.label_use.LabelUse.{LabelUse}
@@ -14,9 +14,9 @@ use Rattle.label_laws.specs.Network.{LabelNetwork, PacketCopy}
 use Rattle.label_laws.specs.Acts as acts
 use Rattle.label_laws.specs.Rule.{Kept}
 use Rattle.label_laws.proofs.Copies.{lands_in_vpn, copied_kept}
-use Rattle.session_defs.specs.Message.{SessionMessage}
-use Rattle.session_defs.specs.Refined.{seen}
-use Rattle.session_defs.specs.declared.direction.Direction.{Direction}
+use Rattle.network_defs.specs.session_defs.Message.{SessionMessage}
+use Rattle.network_defs.specs.session_defs.Refined.{seen}
+use Rattle.network_defs.specs.declared.session_defs.direction.Direction.{Direction}
 use Rattle.mv_base.specs.declared.ids.IfaceId.{IfaceId}
 use Rattle.edge_defs.specs.Datagrams.{Fate, discarded, tree_of, outs_of}
 use Rattle.network_defs.specs.Acts.{copy_on, with_branches, fate_at, without_copy}

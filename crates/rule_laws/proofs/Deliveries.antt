@@ -4,17 +4,17 @@ use Rattle.std.specs.List.{AllByRecursion}
 use Rattle.std.proofs.lemmas.List.{append_assoc}
 use Rattle.std.proofs.lemmas.Option.{same_Some, none-some}
 use Rattle.mv_base.specs.declared.ids.NodeId.{NodeId}
-use Rattle.mldp_msgs.specs.declared.message.LabelMessage.{LabelMessage}
-use Rattle.bgp_attributes.specs.declared.update.Message.{Message}
+use Rattle.mldp.specs.declared.mldp_msgs.message.LabelMessage.{LabelMessage}
+use Rattle.bgp_messages.specs.declared.bgp_attributes.update.Message.{Message}
 use Rattle.scenario_defs.specs.declared.event.Kind.{Kind}
 use Rattle.scenario_defs.specs.declared.event.Kind.TheVariants as kinds
 use Rattle.scenario_defs.specs.declared.scenario.Scenario.{Scenario}
 use Rattle.label_defs.proofs.SettleLemmas.{bind_some}
-use Rattle.session_defs.specs.Message.{SessionMessage, Bgp, Label, same_direction}
-use Rattle.session_defs.specs.Refined.{IsCarried, Keeps, deliveries}
-use Rattle.session_defs.specs.System.{Stepped, System, MessageNetwork, Behind, messages_over, with_messages, with_step, with_earlier, delivered, message_act, message_run, Deliver}
-use Rattle.session_defs.specs.declared.direction.Direction.{Direction}
-use Rattle.session_defs.proofs.Lines.{own_direction}
+use Rattle.network_defs.specs.session_defs.Message.{SessionMessage, Bgp, Label, same_direction}
+use Rattle.network_defs.specs.session_defs.Refined.{IsCarried, Keeps, deliveries}
+use Rattle.network_defs.specs.session_defs.System.{Stepped, System, MessageNetwork, Behind, messages_over, with_messages, with_step, with_earlier, delivered, message_act, message_run, Deliver}
+use Rattle.network_defs.specs.declared.session_defs.direction.Direction.{Direction}
+use Rattle.network_defs.proofs.session_defs.Lines.{own_direction}
 use Rattle.network_defs.specs.Counts.{direction}
 use Rattle.network_defs.specs.Nodes.{Nodes}
 use Rattle.network_defs.specs.World.{Datagram}

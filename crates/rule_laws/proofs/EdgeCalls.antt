@@ -3,22 +3,22 @@ use Rattle.std.proofs.Common.{◌≡◌, ◌≢◌, ◌==◌, ◌&&◌, ◌||◌
 use Rattle.std.specs.FinMap as maps
 use Rattle.std.proofs.lemmas.List.{append-nil}
 use Rattle.mv_base.specs.declared.ids.NodeId.{NodeId}
-use Rattle.bgp_attributes.specs.declared.key.Key.{Key}
+use Rattle.bgp_messages.specs.declared.bgp_attributes.key.Key.{Key}
 use Rattle.scenario_defs.specs.declared.event.Kind.TheVariants as kinds
-use Rattle.table_defs.specs.declared.change.Change.{Change}
+use Rattle.mv_base.specs.declared.table_defs.change.Change.{Change}
 use Rattle.label_defs.specs.Keys.{node_cmp}
 use Rattle.label_defs.proofs.KeyLemmas.{node_equal}
-use Rattle.session_defs.specs.Message.{SessionMessage}
-use Rattle.session_defs.specs.System.{Stepped, MessageNetwork, messages_over, with_messages}
+use Rattle.network_defs.specs.session_defs.Message.{SessionMessage}
+use Rattle.network_defs.specs.session_defs.System.{Stepped, MessageNetwork, messages_over, with_messages}
 use Rattle.edge_defs.specs.Edge.{Control, Taken, no_control}
 use Rattle.edge_defs.specs.Held.{put_to}
 use Rattle.edge_defs.specs.Keys.{Value}
 use Rattle.edge_defs.specs.Place.{EdgePlace}
 use Rattle.edge_defs.specs.Steps as steps
 use Rattle.edge_defs.specs.Steps.{control_step}
-use Rattle.edge_laws.specs.Acts as acts
-use Rattle.edge_laws.specs.Acts.{is_up, stepped}
-use Rattle.edge_laws.specs.Network.{EdgeNetwork, behind}
+use Rattle.edge_words.specs.edge_laws.Acts as acts
+use Rattle.edge_words.specs.edge_laws.Acts.{is_up, stepped}
+use Rattle.edge_words.specs.edge_laws.Network.{EdgeNetwork, behind}
 use Rattle.rule_laws.proofs.Honest.{EdgeRule, act_both}
 use Rattle.rule_laws.proofs.Numbers.{HasRoom}
 use Rattle.network_defs.specs.Counts.{direction}

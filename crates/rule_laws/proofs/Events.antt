@@ -15,7 +15,7 @@ use Rattle.mv_base.specs.declared.ids.SiteId.{SiteId}
 use Rattle.mv_base.specs.declared.ids.VrfId.{VrfId}
 use Rattle.mv_base.specs.declared.core_link.Link.{Link}
 use Rattle.mv_base.specs.declared.pattern.Pattern.{Pattern}
-use Rattle.core_walks.specs.Topology.{HasEnds}
+use Rattle.mv_base.specs.core_walks.Topology.{HasEnds}
 use Rattle.scenario_defs.specs.Vpn.{edge_of, is_attached_at, entered, entered_from}
 use Rattle.scenario_defs.specs.declared.event.Event.{Event}
 use Rattle.scenario_defs.specs.declared.event.Event.TheVariants as events
@@ -34,7 +34,7 @@ use Rattle.mvpn_model.specs.Sessions.{sessions, edges, bgp_session, bgp_sessions
 use Rattle.label_defs.specs.Between.{is_between}
 use Rattle.mvpn_model.specs.declared.session.Session.{Session}
 use Rattle.scenario_defs.specs.Kinds.{same_kind}
-use Rattle.session_defs.specs.declared.direction.Direction.{Direction}
+use Rattle.network_defs.specs.declared.session_defs.direction.Direction.{Direction}
 use Rattle.edge_defs.specs.Datagrams.{entering_fate}
 use Rattle.edge_defs.specs.Steps as steps
 use Rattle.network_defs.specs.Acts.{Act, Tick, Timers, Move, Lose, Notice, Restart, At, Enter, Land, Drop, Tell, SetCost, Reroute, Acted, datagram_at, enters_at, entering, act}
@@ -45,7 +45,7 @@ use Rattle.mvpn_model.specs.Packets.{source_in, group_in}
 use Rattle.network_defs.specs.Refusals.{control_at, edge_of_vrf, refused_if, is_session_joined, is_selected, are_sessions_full, selection_limit, selections_at, refusal}
 use Rattle.network_defs.specs.Run.{Traced, outcome, Runs}
 use Rattle.network_defs.specs.World.{World, Datagram, scenario_of, clock_of}
-use Rattle.network_defs.proofs.Kept.{Gives, Comes, then_comes, row_keeps, each_keeps, times_keeps, both_give, comes_as, branches_datagrams}
+use Rattle.network_defs.proofs.Kept.{Gives, Comes, both_give, branches_datagrams}
 use Rattle.network_laws.specs.Sound.{SoundScenario}
 use Rattle.network_laws.specs.Honest.{IsSoundCall, IsSoundEvent, IsCost}
 use Rattle.network_laws.proofs.Lists.{each_append, each_of, each_map, each_flat, each_weaker}
@@ -54,14 +54,17 @@ use Rattle.network_laws.proofs.RunNodes.{IsNode, IsFoundNode, nodes_within, edge
 use Rattle.network_laws.proofs.RunMessages.{IsSoundGiven, join_is_sound, prune_is_sound, read_is_sound}
 use Rattle.network_laws.proofs.RunEvents.{two_ends}
 use Rattle.label_laws.specs.Rule.{Kept}
-use Rattle.session_defs.specs.Refined.{seen}
+use Rattle.network_defs.specs.session_defs.Refined.{seen}
 use Rattle.rule_laws.specs.Labels.{label_network}
 use Rattle.rule_laws.proofs.Acts.{InStep, IsFit, IsFitEnter, act_in_step}
 use Rattle.std.proofs.lemmas.Option.{slice_get_within}
 use Rattle.scenario_defs.specs.declared.scenario.Node.{Node}
 use Rattle.network_defs.specs.Nodes.{is_edge}
 use Rattle.mvpn_model.specs.Sessions.{edges_from}
-use Rattle.rule_laws.proofs.Raised.{bgp_up_is, IsPair, one_then, pair_raised, healed_in_step}
+use Rattle.rule_laws.proofs.Raised.{bgp_up_is, IsPair, pair_goes, healed_goes}
+use Rattle.rule_laws.proofs.Full.{world_rule}
+use Rattle.rule_laws.proofs.Throughout.{Goes, GoesWith, goes_comes, goes_as, goes_then, nothing_goes, then_goes, row_goes, each_goes, times_goes}
+use Rattle.network_defs.specs.LabelRule.{LabelRule}
 use Rattle.rule_laws.proofs.Raises.{between}
 
 -- ---- what is asked of the datagrams that enter
@@ -150,33 +153,33 @@ module _ (scenario : Scenario) where
   abbrev Keep : Act → Type 0
   Keep one = (world : World) → InStep scenario world → Gives (InStep scenario) (act world one)
 
-  row_in_step : (acts : List Act) → AllByRecursion Keep acts → (world : World) → InStep scenario world → Comes Keeping (row acts world)
-  row_in_step acts all world s = row_keeps Keeping acts all world s
+  row_in_step : (acts : List Act) → AllByRecursion Keep acts → (world : World) → InStep scenario world → Goes LabelRule Keeping world (row acts world)
+  row_in_step acts all world s = row_goes LabelRule Keeping (world_rule scenario) acts all world s
 
   -- an act of which nothing more is asked
   keeps : (one : Act) → SoundAct scenario one → ((world : World) → IsFit world one) → Keep one
   keeps one sound fit world s = act_in_step scenario one sound world (fit world) s
 
-  alone : (one : Act) → SoundAct scenario one → (world : World) → IsFit world one → InStep scenario world → Comes Keeping (row (one ∷ []) world)
-  alone one sound world fit s = one_then Keeping Keeping one [] world (act_in_step scenario one sound world fit s) (λ next p. p)
+  alone : (one : Act) → SoundAct scenario one → (world : World) → IsFit world one → InStep scenario world → Goes LabelRule Keeping world (row (one ∷ []) world)
+  alone one sound world fit s = goes_then LabelRule Keeping Keeping (world_rule scenario) one [] world (world_rule scenario world s) (act_in_step scenario one sound world fit s) (λ next p. nothing_goes LabelRule Keeping next (world_rule scenario next p) p)
 
   -- ---- settling and draining
 
-  turn_in_step : (over : Direction) (world : World) → InStep scenario world → Comes Keeping (turn over world)
+  turn_in_step : (over : Direction) (world : World) → InStep scenario world → Goes LabelRule Keeping world (turn over world)
   turn_in_step over world s = by (world.network.transit over)
     where
-      by : (octets : List ℕ) → Comes Keeping (elim octets [ [] ↦ Done [] world | octet ∷ more ↦ row (Move over.kind over.from over.to (length (octet ∷ more)) ∷ []) world ])
-      by [] = s
+      by : (octets : List ℕ) → Goes LabelRule Keeping world (elim octets [ [] ↦ Done [] world | octet ∷ more ↦ row (Move over.kind over.from over.to (length (octet ∷ more)) ∷ []) world ])
+      by [] = nothing_goes LabelRule Keeping world (world_rule scenario world s) s
       by (octet ∷ more) = row_in_step (Move over.kind over.from over.to (length (octet ∷ more)) ∷ []) (keeps (Move over.kind over.from over.to (length (octet ∷ more))) tt (λ old. tt), tt) world s
 
-  round_in_step : (all : List Direction) (world : World) → InStep scenario world → Comes Keeping (each turn all world)
-  round_in_step all world s = each_keeps Keeping turn all (each_of (λ over. (old : World) → InStep scenario old → Comes Keeping (turn over old)) turn_in_step all) world s
+  round_in_step : (all : List Direction) (world : World) → InStep scenario world → Goes LabelRule Keeping world (each turn all world)
+  round_in_step all world s = each_goes LabelRule Keeping (world_rule scenario) turn all (each_of (λ over. (old : World) → InStep scenario old → Goes LabelRule Keeping old (turn over old)) turn_in_step all) world s
 
   same_acts : (one : Act) → Keep one → (count : ℕ) → AllByRecursion Keep (replicate count one)
   same_acts one keep zero = tt
   same_acts one keep (suc count) = (keep, same_acts one keep count)
 
-  drain_in_step : (world : World) → InStep scenario world → Comes Keeping (drain_round world)
+  drain_in_step : (world : World) → InStep scenario world → Goes LabelRule Keeping world (drain_round world)
   drain_in_step world s =
       let ways = link_ways (scenario_of world) in
       let apart : AllByRecursion IsWay ways = subst (λ (own : Scenario). AllByRecursion IsWay (link_ways own)) (sym s.2.base.sound.same) (ways_apart scenario s.2.base.sound.lines) in
@@ -210,7 +213,7 @@ module _ (scenario : Scenario) where
         | false ↦ λ e. rest
       ] refl
 
-  sent_in_step : Enters → (site : SiteId) (source group : Addr) (octets : List ℕ) (world : World) → InStep scenario world → Comes Keeping (sent site source group octets world)
+  sent_in_step : Enters → (site : SiteId) (source group : Addr) (octets : List ℕ) (world : World) → InStep scenario world → GoesWith LabelRule Keeping world (sent site source group octets world)
   sent_in_step enters site source group octets world (pending, are, good) =
       let datagram : Datagram = record { site = site; source = source; group = group; octets = octets } in
       let all : List Datagram = world.datagrams ++ datagram ∷ [] in
@@ -219,18 +222,20 @@ module _ (scenario : Scenario) where
       let start : InStep scenario with_it = (pending, are, record { base = good.base; edges = good.edges; kept = λ later. subst (λ (ds : List Datagram). Kept (label_network (seen world.network pending) world.copies ds)) (sym (append_assoc world.datagrams (datagram ∷ []) later)) (good.kept (datagram ∷ later)) }) in
       let ids : List VrfId = entered (scenario_of world) site in
       let attached : AllByRecursion (λ (id : VrfId). is_attached_at scenario id site ≡ true) ids =
-      subst (λ (own : Scenario). AllByRecursion (λ (id : VrfId). is_attached_at own id site ≡ true) ids) good.base.sound.same (attached_from (scenario_of world) site 0 (scenario_of world).vrfs) in
-      comes_as P Keeping (row (map (λ id. Enter id) ids) with_it) (λ new p. p.0)
-      (row_keeps P (map (λ id. Enter id) ids)
-      (each_map (λ one. (old : World) → P old → Gives P (act old one)) (λ id. Enter id) ids
-      (each_weaker (λ (id : VrfId). is_attached_at scenario id site ≡ true) (λ id. (old : World) → P old → Gives P (act old (Enter id))) (λ id at old p.
-      let there : is_attached_at (scenario_of old) id site ≡ true = ap (λ (own : Scenario). is_attached_at own id site) p.0.2.base.sound.same ∙ at in
-      both_give Keeping (λ new. new.datagrams ≡ all) (act old (Enter id)) (act_in_step scenario (Enter id) tt old (enters scenario old world.datagrams datagram id p.0 p.1 there) p.0) (along old.datagrams all p.1 (act old (Enter id)) (enter_datagrams old id))) ids attached)) with_it (start, refl))
+      subst (λ (own : Scenario). AllByRecursion (λ (id : VrfId). is_attached_at own id site ≡ true) ids) good.base.sound.same (attached_from (scenario_of world) site 0 (scenario_of world).vrfs) in (
+        all,
+        goes_as LabelRule P Keeping with_it (row (map (λ id. Enter id) ids) with_it) (λ new p. p.0)
+            (row_goes LabelRule P (λ new p. world_rule scenario new p.0) (map (λ id. Enter id) ids)
+            (each_map (λ one. (old : World) → P old → Gives P (act old one)) (λ id. Enter id) ids
+            (each_weaker (λ (id : VrfId). is_attached_at scenario id site ≡ true) (λ id. (old : World) → P old → Gives P (act old (Enter id))) (λ id at old p.
+            let there : is_attached_at (scenario_of old) id site ≡ true = ap (λ (own : Scenario). is_attached_at own id site) p.0.2.base.sound.same ∙ at in
+            both_give Keeping (λ new. new.datagrams ≡ all) (act old (Enter id)) (act_in_step scenario (Enter id) tt old (enters scenario old world.datagrams datagram id p.0 p.1 there) p.0) (along old.datagrams all p.1 (act old (Enter id)) (enter_datagrams old id))) ids attached)) with_it (start, refl)),
+      )
 
   -- ---- calls
 
-  edge_in_step : (o : Option NodeId) (call : steps.Call) → IsFoundNode scenario o → IsSoundCall call → ((n : NodeId) → o ≡ Some n → (world : World) → IsFit world (At n call)) → (world : World) → InStep scenario world → Comes Keeping (at_edge o call world)
-  edge_in_step None call within sound fit world s = s
+  edge_in_step : (o : Option NodeId) (call : steps.Call) → IsFoundNode scenario o → IsSoundCall call → ((n : NodeId) → o ≡ Some n → (world : World) → IsFit world (At n call)) → (world : World) → InStep scenario world → Goes LabelRule Keeping world (at_edge o call world)
+  edge_in_step None call within sound fit world s = nothing_goes LabelRule Keeping world (world_rule scenario world s) s
   edge_in_step (Some n) call within sound fit world s = alone (At n call) (within, sound) world (fit n refl world) s
 
   -- ---- raises
@@ -241,11 +246,11 @@ module _ (scenario : Scenario) where
   kind_is kinds.Bgp kinds.Ldp e = absurd cc
   kind_is kinds.Ldp kinds.Bgp e = absurd cc
 
-  raise_in_step : (kind : Kind) (a b : NodeId) (all : List Session) → AllByRecursion (IsFitSession scenario) all → (world : World) → is_end world kind a b ≡ false → is_end world kind b a ≡ false → InStep scenario world → Comes Keeping (row (raises all kind a b) world)
-  raise_in_step kind a b [] fit world off back s = s
+  raise_in_step : (kind : Kind) (a b : NodeId) (all : List Session) → AllByRecursion (IsFitSession scenario) all → (world : World) → is_end world kind a b ≡ false → is_end world kind b a ≡ false → InStep scenario world → Goes LabelRule Keeping world (row (raises all kind a b) world)
+  raise_in_step kind a b [] fit world off back s = nothing_goes LabelRule Keeping world (world_rule scenario world s) s
   raise_in_step kind a b (session ∷ more) fit world off back s =
       let later = raise_in_step kind a b more fit.1 world off back s in
-      elim (is_session_of kind a b session) as (λ t. is_session_of kind a b session ≡ t → Comes Keeping (row (elim (cond t (Some session) (find (is_session_of kind a b) more)) [ None ↦ [] | Some found ↦ raise_acts found ]) world)) [
+      elim (is_session_of kind a b session) as (λ t. is_session_of kind a b session ≡ t → Goes LabelRule Keeping world (row (elim (cond t (Some session) (find (is_session_of kind a b) more)) [ None ↦ [] | Some found ↦ raise_acts found ]) world)) [
         | true ↦ λ e.
             let x = and_parts (same_kind kind session.kind) (is_between a b session.a session.b) e in
             let own : kind ≡ session.kind = kind_is kind session.kind x.0 in
@@ -253,7 +258,7 @@ module _ (scenario : Scenario) where
             let near : is_end world session.kind a b ≡ false = ap (λ (k : Kind). is_end world k a b) (sym own) ∙ off in
             let far : is_end world session.kind b a ≡ false = ap (λ (k : Kind). is_end world k b a) (sym own) ∙ back in
             let down = between P a b session.a session.b (near, far) (far, near) x.1 in
-            pair_raised scenario session.kind session.a session.b fit.0 world down.0 down.1 s
+            pair_goes scenario session.kind session.a session.b fit.0 world down.0 down.1 s
         | false ↦ λ e. later
       ] refl
 
@@ -267,15 +272,15 @@ pub or_not_refused : (first then_refused : Option Refusal) → option_or first t
 or_not_refused None other e = (refl, e)
 or_not_refused (Some reason) other e = let x : None ≡ Some reason = sym e in absurd (none-some reason x)
 
-settle_in_step : (world : World) → InStep (scenario_of world) world → Comes (InStep (scenario_of world)) (settled world)
+settle_in_step : (world : World) → InStep (scenario_of world) world → Goes LabelRule (InStep (scenario_of world)) world (settled world)
 settle_in_step world s =
     let scenario = scenario_of world in
-    then_comes (InStep scenario) (InStep scenario) (row (map (λ n. Timers n) (all_nodes scenario)) world) (times (each turn (directions scenario)) (length scenario.nodes + 3))
+    then_goes LabelRule (InStep scenario) (InStep scenario) world (row (map (λ n. Timers n) (all_nodes scenario)) world) (times (each turn (directions scenario)) (length scenario.nodes + 3))
     (row_in_step scenario (map (λ n. Timers n) (all_nodes scenario))
     (each_map (Keep scenario) (λ n. Timers n) (all_nodes scenario) (each_weaker (IsNode scenario) (λ n. Keep scenario (Timers n)) (λ n within. keeps scenario (Timers n) within (λ old. tt)) (all_nodes scenario) (nodes_within 0 (length scenario.nodes) (length scenario.nodes) (omega arith)))) world s)
-    (λ next p. times_keeps (InStep scenario) (each turn (directions scenario)) (λ one q. round_in_step scenario (directions scenario) one q) (length scenario.nodes + 3) next p)
+    (λ next p. times_goes LabelRule (InStep scenario) (world_rule scenario) (each turn (directions scenario)) (λ one q. round_in_step scenario (directions scenario) one q) (length scenario.nodes + 3) next p)
 
-cost_in_step : (world : World) (a b : NodeId) (cost : ℕ) → IsCost cost → InStep (scenario_of world) world → Comes (InStep (scenario_of world)) (row (cost_acts (scenario_of world) a b cost) world)
+cost_in_step : (world : World) (a b : NodeId) (cost : ℕ) → IsCost cost → InStep (scenario_of world) world → Goes LabelRule (InStep (scenario_of world)) world (row (cost_acts (scenario_of world) a b cost) world)
 cost_in_step world a b cost is s =
     let scenario = scenario_of world in
     row_in_step scenario (cost_acts scenario a b cost) (
@@ -283,8 +288,8 @@ cost_in_step world a b cost is s =
       each_map (Keep scenario) (λ n. Reroute n) (all_nodes scenario) (each_weaker (IsNode scenario) (λ n. Keep scenario (Reroute n)) (λ n within. keeps scenario (Reroute n) within (λ old. tt)) (all_nodes scenario) (nodes_within 0 (length scenario.nodes) (length scenario.nodes) (omega arith))),
     ) world s
 
-message_in_step : (world : World) → SoundScenario (scenario_of world) → (o : Option Given) → IsSoundGiven o → InStep (scenario_of world) world → Comes (InStep (scenario_of world)) (with_message o world)
-message_in_step world sound None is s = s
+message_in_step : (world : World) → SoundScenario (scenario_of world) → (o : Option Given) → IsSoundGiven o → InStep (scenario_of world) world → Goes LabelRule (InStep (scenario_of world)) world (with_message o world)
+message_in_step world sound None is s = nothing_goes LabelRule (InStep (scenario_of world)) world (world_rule (scenario_of world) world s) s
 message_in_step world sound (Some given) is s =
     edge_in_step (scenario_of world) (edge_of (scenario_of world) given.iface) (steps.Pim given.iface given.message) (edge_within (scenario_of world) sound given.iface) is (λ n e old. tt) world s
 
@@ -295,61 +300,69 @@ notice_fits scenario world kinds.Bgp a b s e =
 notice_fits scenario world kinds.Ldp a b s e = let x = or_parts (is_session_joined world kinds.Ldp a b) (not (is_end world kinds.Ldp a b)) e in (x.0, not-false (is_end world kinds.Ldp a b) x.1)
 
 select_in_step : (world : World) → SoundScenario (scenario_of world) → InStep (scenario_of world) world → (vrf : VrfId) (pattern : Pattern) → IsSoundCall (steps.Select vrf pattern) → (maps.len (control_at world (edge_of_vrf (scenario_of world) vrf)).selections < 1000000) × (is_selected world vrf pattern ≡ false)
-    → Comes (InStep (scenario_of world)) (at_edge (edge_of_vrf (scenario_of world) vrf) (steps.Select vrf pattern) world)
+    → Goes LabelRule (InStep (scenario_of world)) world (at_edge (edge_of_vrf (scenario_of world) vrf) (steps.Select vrf pattern) world)
 select_in_step world sound s vrf pattern is room = by (edge_of_vrf (scenario_of world) vrf) (vrf_within (scenario_of world) sound vrf) room
   where
-    by : (o : Option NodeId) → IsFoundNode (scenario_of world) o → (maps.len (control_at world o).selections < 1000000) × (maps.contains_key (control_at world o).selections (record { vrf = vrf; pattern = pattern }) ≡ false) → Comes (InStep (scenario_of world)) (at_edge o (steps.Select vrf pattern) world)
-    by None within fits = s
+    by : (o : Option NodeId) → IsFoundNode (scenario_of world) o → (maps.len (control_at world o).selections < 1000000) × (maps.contains_key (control_at world o).selections (record { vrf = vrf; pattern = pattern }) ≡ false) → Goes LabelRule (InStep (scenario_of world)) world (at_edge o (steps.Select vrf pattern) world)
+    by None within fits = nothing_goes LabelRule (InStep (scenario_of world)) world (world_rule (scenario_of world) world s) s
     by (Some n) within fits = alone (scenario_of world) (At n (steps.Select vrf pattern)) (within, is) world fits s
 
-done_in_step : Enters → (world : World) → SoundScenario (scenario_of world) → InStep (scenario_of world) world → (event : Event) → refusal world event ≡ None → IsSoundEvent (scenario_of world) event → Comes (InStep (scenario_of world)) (done world event)
-done_in_step enters world lines s (events.Tick count) free sound = alone (scenario_of world) (Tick count) tt world tt s
-done_in_step enters world lines s (events.Timers node) free sound = alone (scenario_of world) (Timers node) sound world tt s
-done_in_step enters world lines s (events.Restart node) free sound = alone (scenario_of world) (Restart node) tt world tt s
-done_in_step enters world lines s (events.Move kind from to count) free sound = alone (scenario_of world) (Move kind from to count) tt world tt s
-done_in_step enters world lines s (events.Lose kind a b) free sound = alone (scenario_of world) (Lose kind a b) tt world tt s
-done_in_step enters world lines s (events.Notice kind a b) free sound = alone (scenario_of world) (Notice kind a b) sound world (notice_fits (scenario_of world) world kind a b s (not_refused (is_session_joined world kind a b || not (is_end world kind a b)) refusals.State free)) s
+done_in_step : Enters → (world : World) → SoundScenario (scenario_of world) → InStep (scenario_of world) world → (event : Event) → refusal world event ≡ None → IsSoundEvent (scenario_of world) event → GoesWith LabelRule (InStep (scenario_of world)) world (done world event)
+done_in_step enters world lines s (events.Tick count) free sound = (world.datagrams, alone (scenario_of world) (Tick count) tt world tt s)
+done_in_step enters world lines s (events.Timers node) free sound = (world.datagrams, alone (scenario_of world) (Timers node) sound world tt s)
+done_in_step enters world lines s (events.Restart node) free sound = (world.datagrams, alone (scenario_of world) (Restart node) tt world tt s)
+done_in_step enters world lines s (events.Move kind from to count) free sound = (world.datagrams, alone (scenario_of world) (Move kind from to count) tt world tt s)
+done_in_step enters world lines s (events.Lose kind a b) free sound = (world.datagrams, alone (scenario_of world) (Lose kind a b) tt world tt s)
+done_in_step enters world lines s (events.Notice kind a b) free sound = (world.datagrams, alone (scenario_of world) (Notice kind a b) sound world (notice_fits (scenario_of world) world kind a b s (not_refused (is_session_joined world kind a b || not (is_end world kind a b)) refusals.State free)) s)
 done_in_step enters world lines s (events.Raise kind a b) free sound =
     let x = or_parts (is_end world kind a b) (is_end world kind b a) (not_refused (is_end world kind a b || is_end world kind b a) refusals.State free) in
-    raise_in_step (scenario_of world) kind a b (sessions (scenario_of world)) (sessions_fit (scenario_of world) lines) world x.0 x.1 s
-done_in_step enters world lines s (events.Join iface entry) free sound = message_in_step world lines (message_of (scenario_of world) (events.Join iface entry)) (join_is_sound (scenario_of world) iface entry sound.1) s
-done_in_step enters world lines s (events.Prune iface entry) free sound = message_in_step world lines (message_of (scenario_of world) (events.Prune iface entry)) (prune_is_sound (scenario_of world) iface entry sound.1) s
-done_in_step enters world lines s (events.Pim iface octets) free sound = message_in_step world lines (message_of (scenario_of world) (events.Pim iface octets)) (read_is_sound iface octets sound) s
+    (world.datagrams, raise_in_step (scenario_of world) kind a b (sessions (scenario_of world)) (sessions_fit (scenario_of world) lines) world x.0 x.1 s)
+done_in_step enters world lines s (events.Join iface entry) free sound = (world.datagrams, message_in_step world lines (message_of (scenario_of world) (events.Join iface entry)) (join_is_sound (scenario_of world) iface entry sound.1) s)
+done_in_step enters world lines s (events.Prune iface entry) free sound = (world.datagrams, message_in_step world lines (message_of (scenario_of world) (events.Prune iface entry)) (prune_is_sound (scenario_of world) iface entry sound.1) s)
+done_in_step enters world lines s (events.Pim iface octets) free sound = (world.datagrams, message_in_step world lines (message_of (scenario_of world) (events.Pim iface octets)) (read_is_sound iface octets sound) s)
 done_in_step enters world lines s (events.Active iface source group) free sound =
-    edge_in_step (scenario_of world) (edge_of (scenario_of world) iface) (steps.Active iface source group) (edge_within (scenario_of world) lines iface) sound (λ n e old. tt) world s
+    (world.datagrams, edge_in_step (scenario_of world) (edge_of (scenario_of world) iface) (steps.Active iface source group) (edge_within (scenario_of world) lines iface) sound (λ n e old. tt) world s)
 done_in_step enters world lines s (events.Idle iface source group) free sound =
-    edge_in_step (scenario_of world) (edge_of (scenario_of world) iface) (steps.Idle iface source group) (edge_within (scenario_of world) lines iface) tt (λ n e old. tt) world s
+    (world.datagrams, edge_in_step (scenario_of world) (edge_of (scenario_of world) iface) (steps.Idle iface source group) (edge_within (scenario_of world) lines iface) tt (λ n e old. tt) world s)
 done_in_step enters world lines s (events.Send site source group payload) free sound = sent_in_step (scenario_of world) enters site source group (packet source group payload) world s
 done_in_step enters world lines s (events.Packet site octets) free sound = sent_in_step (scenario_of world) enters site (source_in octets) (group_in octets) octets world s
 done_in_step enters world lines s (events.Select vrf pattern) free sound =
     let x = or_not_refused (refused_if (is_selected world vrf pattern) refusals.State) (refused_if (are_sessions_full world || nat_le selection_limit (selections_at world vrf)) refusals.Full) free in
     let y = or_parts (are_sessions_full world) (nat_le selection_limit (selections_at world vrf)) (not_refused (are_sessions_full world || nat_le selection_limit (selections_at world vrf)) refusals.Full x.1) in
     let few = leb-false 256 (selections_at world vrf) y.1 in
-    select_in_step world lines s vrf pattern sound (omega (arith, few), not_refused (is_selected world vrf pattern) refusals.State x.0)
+    (world.datagrams, select_in_step world lines s vrf pattern sound (omega (arith, few), not_refused (is_selected world vrf pattern) refusals.State x.0))
 done_in_step enters world lines s (events.Unselect vrf pattern) free sound =
-    edge_in_step (scenario_of world) (edge_of_vrf (scenario_of world) vrf) (steps.Unselect vrf pattern) (vrf_within (scenario_of world) lines vrf) tt (λ n e old. tt) world s
-done_in_step enters world lines s (events.Hop from to place) free sound = alone (scenario_of world) (Land from to place) tt world (two_ends (scenario_of world) lines from to place sound) s
-done_in_step enters world lines s (events.DropCopy from to place) free sound = alone (scenario_of world) (Drop from to place) tt world tt s
-done_in_step enters world lines s events.Heal free sound =
-    each_keeps (InStep (scenario_of world)) healed (sessions (scenario_of world))
-    (each_weaker (IsFitSession (scenario_of world)) (λ session. (old : World) → InStep (scenario_of world) old → Comes (InStep (scenario_of world)) (healed session old)) (λ session fit. healed_in_step (scenario_of world) session fit) (sessions (scenario_of world)) (sessions_fit (scenario_of world) lines)) world s
-done_in_step enters world lines s events.Settle free sound = settle_in_step world s
-done_in_step enters world lines s events.Drain free sound = times_keeps (InStep (scenario_of world)) drain_round (drain_in_step (scenario_of world)) 255 world s
-done_in_step enters world lines s (events.Cost a b cost) free sound = cost_in_step world a b cost sound s
-done_in_step enters world lines s events.State free sound = alone (scenario_of world) Tell tt world tt s
+    (world.datagrams, edge_in_step (scenario_of world) (edge_of_vrf (scenario_of world) vrf) (steps.Unselect vrf pattern) (vrf_within (scenario_of world) lines vrf) tt (λ n e old. tt) world s)
+done_in_step enters world lines s (events.Hop from to place) free sound = (world.datagrams, alone (scenario_of world) (Land from to place) tt world (two_ends (scenario_of world) lines from to place sound) s)
+done_in_step enters world lines s (events.DropCopy from to place) free sound = (world.datagrams, alone (scenario_of world) (Drop from to place) tt world tt s)
+done_in_step enters world lines s events.Heal free sound = (
+  world.datagrams,
+  each_goes LabelRule (InStep (scenario_of world)) (world_rule (scenario_of world)) healed (sessions (scenario_of world))
+      (each_weaker (IsFitSession (scenario_of world)) (λ session. (old : World) → InStep (scenario_of world) old → Goes LabelRule (InStep (scenario_of world)) old (healed session old)) (λ session fit. healed_goes (scenario_of world) session fit) (sessions (scenario_of world)) (sessions_fit (scenario_of world) lines)) world s,
+)
+done_in_step enters world lines s events.Settle free sound = (world.datagrams, settle_in_step world s)
+done_in_step enters world lines s events.Drain free sound = (world.datagrams, times_goes LabelRule (InStep (scenario_of world)) (world_rule (scenario_of world)) drain_round (drain_in_step (scenario_of world)) 255 world s)
+done_in_step enters world lines s (events.Cost a b cost) free sound = (world.datagrams, cost_in_step world a b cost sound s)
+done_in_step enters world lines s events.State free sound = (world.datagrams, alone (scenario_of world) Tell tt world tt s)
 
-event_in_step : Enters → (scenario : Scenario) (world : World) → InStep scenario world → (event : Event) → refusal world event ≡ None → IsSoundEvent scenario event → Comes (InStep scenario) (done world event)
+event_in_step : Enters → (scenario : Scenario) (world : World) → InStep scenario world → (event : Event) → refusal world event ≡ None → IsSoundEvent scenario event → GoesWith LabelRule (InStep scenario) world (done world event)
 event_in_step enters scenario world s event free sound =
-    subst (λ (own : Scenario). SoundScenario own → InStep own world → IsSoundEvent own event → Comes (InStep own) (done world event)) s.2.base.sound.same (λ lines stays is. done_in_step enters world lines stays event free is) s.2.base.sound.lines s sound
+    subst (λ (own : Scenario). SoundScenario own → InStep own world → IsSoundEvent own event → GoesWith LabelRule (InStep own) world (done world event)) s.2.base.sound.same (λ lines stays is. done_in_step enters world lines stays event free is) s.2.base.sound.lines s sound
 
 -- ---- runs
 
-pub turned_in_step : Enters → (scenario : Scenario) (old : World) → InStep scenario old → (timed : Timed) → IsSoundEvent scenario timed.event → (acts : List Happened) (next : World) → outcome old timed ≡ Done acts next → InStep scenario next
-turned_in_step enters scenario old s timed sound acts next e = subst (Comes (InStep scenario)) e (by (refusal old timed.event) refl)
+-- the label rule holds throughout what comes of an event
+pub outcome_goes : Enters → (scenario : Scenario) (old : World) → InStep scenario old → (timed : Timed) → IsSoundEvent scenario timed.event → GoesWith LabelRule (InStep scenario) old (outcome old timed)
+outcome_goes enters scenario old s timed sound = by (refusal old timed.event) refl
   where
-    by : (o : Option Refusal) → refusal old timed.event ≡ o → Comes (InStep scenario) (elim o [ None ↦ done old timed.event | Some reason ↦ Done (record { act = None; lines = lines.Refused timed.line reason ∷ [] } ∷ []) old ])
+    by : (o : Option Refusal) → refusal old timed.event ≡ o → GoesWith LabelRule (InStep scenario) old (elim o [ None ↦ done old timed.event | Some reason ↦ Done (record { act = None; lines = lines.Refused timed.line reason ∷ [] } ∷ []) old ])
     by None free = event_in_step enters scenario old s timed.event free sound
-    by (Some reason) free = s
+    by (Some reason) free = (let holds = world_rule scenario old s in (old.datagrams, (s, (old, holds, refl, (refl, holds)))))
+
+pub turned_in_step : Enters → (scenario : Scenario) (old : World) → InStep scenario old → (timed : Timed) → IsSoundEvent scenario timed.event → (acts : List Happened) (next : World) → outcome old timed ≡ Done acts next → InStep scenario next
+turned_in_step enters scenario old s timed sound acts next e =
+    let g = outcome_goes enters scenario old s timed sound in
+    subst (Comes (InStep scenario)) e (goes_comes LabelRule (InStep scenario) (record old { datagrams = g.0 }) (outcome old timed) g.1)
 
 pub runs_in_step : Enters → (scenario : Scenario) (all : List Timed) → AllByRecursion (λ timed. IsSoundEvent scenario timed.event) all → (old : World) (number : ℕ) (trace : List Traced) (new : World) → InStep scenario old → Runs old number all trace new → InStep scenario new
 runs_in_step enters scenario [] sound old number trace new s run = subst (InStep scenario) (sym run.1) s

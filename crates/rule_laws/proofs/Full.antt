@@ -1,25 +1,25 @@
 -- The label rule of the whole network, from that of its network of label nodes.
 use Rattle.std.specs.Prelude.{Contains}
 use Rattle.std.specs.Int.{w16, to_be_bytes}
-use Rattle.std.proofs.Common.{◌≡◌, ◌<◌, ◌≤◌, ◌+◌, ◌-◌, ◌*◌, ◌++◌, ℕ, Bool, true, false, cond, inl, inr, ◌⊎◌, map, filter, position, slice_get, List, [], ◌∷◌, length, Option, Some, None, refl, sym, ap, subst, ◌∙◌, arith}
+use Rattle.std.proofs.Common.{◌≡◌, ◌≢◌, ◌<◌, ◌≤◌, ◌+◌, ◌-◌, ◌*◌, ◌++◌, ℕ, Bool, true, false, cond, inl, inr, ◌⊎◌, map, filter, position, slice_get, List, [], ◌∷◌, length, Option, Some, None, refl, sym, ap, subst, ◌∙◌, arith}
 use Rattle.std.specs.List.{AllByRecursion}
 use Rattle.std.proofs.lemmas.List.{append-nil, append_assoc}
 use Rattle.std.proofs.lemmas.List.Elements.{Contains-append_left, Contains-append_right, Contains-push}
 use Rattle.std.proofs.lemmas.Option.{same_Some}
 use Rattle.mv_base.specs.declared.ids.NodeId.{NodeId}
 use Rattle.mv_base.specs.declared.ids.VrfId.{VrfId}
-use Rattle.framing.specs.Cut.Yields.{sound as AllWhole}
-use Rattle.framing.proofs.Feedings.{no_fault}
-use Rattle.framing.specs.Units.{Spelled, octets_of, messages_of, AreUnits, NoUnit}
-use Rattle.mldp_fec.specs.declared.fec.Fec.{Fec}
-use Rattle.mldp_msgs.specs.FirstFault.{PduFault}
-use Rattle.mldp_msgs.specs.Reading.{pdu_front}
-use Rattle.mldp_msgs.specs.Spelling.{SpellsPdu}
-use Rattle.mldp_msgs.proofs.Pdus.{pdu_format}
-use Rattle.mldp_msgs.specs.declared.message.LabelMessage.{LabelMessage}
-use Rattle.mldp_msgs.specs.declared.message.LabelMessage.TheVariants as messages
-use Rattle.route_targets.specs.Targets.{same}
-use Rattle.route_targets.specs.declared.communities.Target.{Target}
+use Rattle.mv_base.specs.framing.Cut.Yields.{sound as AllWhole}
+use Rattle.mv_base.proofs.framing.Feedings.{no_fault}
+use Rattle.mv_base.specs.framing.Units.{Spelled, octets_of, messages_of, AreUnits, NoUnit}
+use Rattle.mldp.specs.declared.mldp_fec.fec.Fec.{Fec}
+use Rattle.mldp.specs.mldp_msgs.FirstFault.{PduFault}
+use Rattle.mldp.specs.mldp_msgs.Reading.{pdu_front}
+use Rattle.mldp.specs.mldp_msgs.Spelling.{SpellsPdu}
+use Rattle.mldp.proofs.mldp_msgs.Pdus.{pdu_format}
+use Rattle.mldp.specs.declared.mldp_msgs.message.LabelMessage.{LabelMessage}
+use Rattle.mldp.specs.declared.mldp_msgs.message.LabelMessage.TheVariants as messages
+use Rattle.mv_base.specs.route_targets.Targets.{same}
+use Rattle.mv_base.specs.declared.route_targets.communities.Target.{Target}
 use Rattle.scenario_defs.specs.Vpn.{targets_of, vrf_of_site}
 use Rattle.scenario_defs.specs.declared.event.Kind.TheVariants as kinds
 use Rattle.scenario_defs.specs.declared.scenario.Scenario.{Scenario}
@@ -28,10 +28,10 @@ use Rattle.label_laws.specs.Network.{LabelNetwork, PacketCopy}
 use Rattle.label_laws.specs.Rule as rules
 use Rattle.label_laws.specs.Rule.{is_of_owner}
 use Rattle.label_laws.proofs.Full.{label_rule}
-use Rattle.calm_laws.proofs.Targets.{same_back, same_through}
-use Rattle.session_defs.specs.Message.{SessionMessage, Label, IsPut}
-use Rattle.session_defs.specs.Refined.{Carried, IsLine, seen}
-use Rattle.session_defs.specs.declared.direction.Direction.{Direction}
+use Rattle.edge_words.proofs.calm_laws.Targets.{same_back, same_through}
+use Rattle.network_defs.specs.session_defs.Message.{SessionMessage, Label, IsPut}
+use Rattle.network_defs.specs.session_defs.Refined.{AreLines, Carried, IsLine, seen}
+use Rattle.network_defs.specs.declared.session_defs.direction.Direction.{Direction}
 use Rattle.edge_defs.specs.Place.{addr_of, lsp}
 use Rattle.network_defs.specs.Acts.{datagram_at}
 use Rattle.network_defs.specs.Counts.{direction}
@@ -209,11 +209,17 @@ withdrawn_to world pending u n fec label c e =
 
 -- ---- the rule
 
-pub world_rule : (scenario : Scenario) (world : World) → InStep scenario world → LabelRule world
-world_rule scenario world (pending, are, good) =
-    let w : LabelNetwork = label_network (seen world.network pending) world.copies (world.datagrams ++ []) in
-    let rule : rules.Rule w = (good.kept []).rule in
-    let full : rules.LabelRule w = label_rule w rule in
+-- the messages in transit, and the network of label nodes with them
+abbrev pub LabelsOf : World → (Direction → List SessionMessage) → LabelNetwork
+LabelsOf world pending = label_network (seen world.network pending) world.copies (world.datagrams ++ [])
+
+-- both directions of each session are joined, or neither is
+abbrev pub AreAlike : World → Type 0
+AreAlike world = (u n : NodeId) → u ≢ n → world.network.joined (direction kinds.Ldp u n) ≡ world.network.joined (direction kinds.Ldp n u)
+
+pub rule_of : (world : World) (pending : Direction → List SessionMessage) → AreLines world.network pending → rules.LabelRule (LabelsOf world pending) → AreAlike world → LabelRule world
+rule_of world pending are full alike =
+    let w : LabelNetwork = LabelsOf world pending in
     record {
       copies = λ u n ne. of_map packet_copy (rules.CopyCase w u n) (CopyCase world u n) (copy_case world pending u n) (world.copies u n) (full.copies u n ne);
       young = λ u n ne. of_map packet_copy (λ (copy : PacketCopy). clock_of world ≤ copy.put_at + (scenario_of world).life) (λ (copy : LinkCopy). clock_of world ≤ copy.put_at + (scenario_of world).life) (λ copy h. h) (world.copies u n) (full.young u n ne);
@@ -221,10 +227,15 @@ world_rule scenario world (pending, are, good) =
       joined = λ u n fec label ne joined has. elim (full.joined u n label fec ne joined has) [
         | inl mapped ↦ inl mapped
         | inr leaving ↦
-            let back : world.network.joined (direction kinds.Ldp n u) ≡ true = sym (rule.session u n ne).alike ∙ joined in
+            let back : world.network.joined (direction kinds.Ldp n u) ≡ true = sym (alike u n ne) ∙ joined in
             let over : Direction = direction kinds.Ldp n u in
             let carried : Carried kinds.Ldp (world.network.stream over) (world.network.transit over) (pending over) = subst (λ (b : Bool). IsLine kinds.Ldp b (world.network.stream over) (world.network.transit over) (pending over)) back (are over) in
             inr (leaving.0, withdrawn_to world pending u n fec label carried leaving.1)
       ];
       unjoined = λ u n fec label ne off has. full.unjoined u n label fec ne off has;
     }
+
+pub world_rule : (scenario : Scenario) (world : World) → InStep scenario world → LabelRule world
+world_rule scenario world (pending, are, good) =
+    let rule : rules.Rule (LabelsOf world pending) = (good.kept []).rule in
+    rule_of world pending are (label_rule (LabelsOf world pending) rule) (λ u n ne. (rule.session u n ne).alike)

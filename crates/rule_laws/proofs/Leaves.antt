@@ -11,11 +11,11 @@ use Rattle.mv_base.specs.declared.addr.Addr.{Addr}
 use Rattle.mv_base.specs.declared.addr.Addr.TheVariants.{V4}
 use Rattle.mv_base.specs.declared.ids.NodeId.{NodeId}
 use Rattle.mv_base.proofs.CutLemmas.{if_some}
-use Rattle.mldp_fec.specs.declared.fec.Fec.{Fec}
-use Rattle.pmsi_attr.specs.declared.pmsi.Pmsi.{Pmsi}
-use Rattle.pmsi_attr.specs.declared.pmsi.Tunnel.{Tunnel}
-use Rattle.pmsi_attr.specs.declared.pmsi.Tunnel.TheVariants as tunnels
-use Rattle.bgp_attributes.specs.declared.key.Key.{Key}
+use Rattle.mldp.specs.declared.mldp_fec.fec.Fec.{Fec}
+use Rattle.network_laws.specs.bgp_values.declared.pmsi_attr.pmsi.Pmsi.{Pmsi}
+use Rattle.network_laws.specs.bgp_values.declared.pmsi_attr.pmsi.Tunnel.{Tunnel}
+use Rattle.network_laws.specs.bgp_values.declared.pmsi_attr.pmsi.Tunnel.TheVariants as tunnels
+use Rattle.bgp_messages.specs.declared.bgp_attributes.key.Key.{Key}
 use Rattle.scenario_defs.specs.declared.scenario.Node.{Node}
 use Rattle.scenario_defs.specs.declared.scenario.Scenario.{Scenario}
 use Rattle.scenario_defs.specs.declared.scenario.Vrf.{Vrf}

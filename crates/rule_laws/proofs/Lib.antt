@@ -1,3 +1,4 @@
+pub use Rattle.edge_words.proofs as edge_words
 pub mod Puts
 pub mod EdgePuts
 pub mod Numbers
@@ -10,10 +11,12 @@ pub mod Deliveries
 pub mod Octets
 pub mod Sessions
 pub mod Reroutes
+pub mod Risen
 pub mod Raises
 pub mod BgpRaises
 pub mod Copies
 pub mod Acts
+pub mod Throughout
 pub mod Raised
 pub mod Events
 pub mod Vpns

@@ -4,19 +4,19 @@ use Rattle.std.proofs.Common.{◌≡◌, ℕ, Bool, true, false, cond, List, [],
 use Rattle.std.specs.List.{AllByRecursion}
 use Rattle.mv_base.specs.Number.{◌>>?◌}
 use Rattle.mv_base.specs.declared.ids.NodeId.{NodeId}
-use Rattle.framing.specs.Feed.{fed}
-use Rattle.framing.specs.Units.{Spelled, messages_of, AreUnits}
+use Rattle.mv_base.specs.framing.Feed.{fed}
+use Rattle.mv_base.specs.framing.Units.{Spelled, messages_of, AreUnits}
 use Rattle.scenario_defs.specs.declared.event.Kind.{Kind}
 use Rattle.scenario_defs.specs.declared.scenario.Scenario.{Scenario}
-use Rattle.session_defs.specs.Message.{SessionMessage, IsPut, front_of, same_direction}
-use Rattle.session_defs.specs.Octets as octets
-use Rattle.session_defs.specs.Octets.{OctetNetwork, with_step, moved, octet_run}
-use Rattle.session_defs.specs.Refined.{IsLine, AreLines, seen, Keeps, IsCarried, deliveries}
-use Rattle.session_defs.specs.System.{Stepped, MessageNetwork, Behind, with_messages, with_earlier, message_run}
-use Rattle.session_defs.specs.declared.direction.Direction.{Direction}
-use Rattle.session_defs.proofs.Deliveries.{IsSeen, with_news, news_are}
-use Rattle.session_defs.proofs.Lines.{all_both}
-use Rattle.session_defs.proofs.Moves.{moved_seen}
+use Rattle.network_defs.specs.session_defs.Message.{SessionMessage, IsPut, front_of, same_direction}
+use Rattle.network_defs.specs.session_defs.Octets as octets
+use Rattle.network_defs.specs.session_defs.Octets.{OctetNetwork, with_step, moved, octet_run}
+use Rattle.network_defs.specs.session_defs.Refined.{IsLine, AreLines, seen, Keeps, IsCarried, deliveries}
+use Rattle.network_defs.specs.session_defs.System.{Stepped, MessageNetwork, Behind, with_messages, with_earlier, message_run}
+use Rattle.network_defs.specs.declared.session_defs.direction.Direction.{Direction}
+use Rattle.network_defs.proofs.session_defs.Deliveries.{IsSeen, with_news, news_are}
+use Rattle.network_defs.proofs.session_defs.Lines.{all_both}
+use Rattle.network_defs.proofs.session_defs.Moves.{moved_seen}
 use Rattle.network_defs.specs.Counts.{direction}
 use Rattle.network_defs.specs.Nodes.{Nodes}
 use Rattle.network_defs.specs.System.{NodeCall, system}

@@ -8,7 +8,7 @@ use Rattle.std.proofs.lemmas.Option.{same_Some, none-some}
 use Rattle.mv_base.specs.declared.ids.IfaceId.{IfaceId}
 use Rattle.mv_base.specs.declared.ids.NodeId.{NodeId}
 use Rattle.mv_base.specs.declared.ids.VrfId.{VrfId}
-use Rattle.mldp_fec.specs.declared.fec.Fec.{Fec}
+use Rattle.mldp.specs.declared.mldp_fec.fec.Fec.{Fec}
 use Rattle.mvpn_model.specs.Safe.{IsAdmitted}
 use Rattle.scenario_defs.specs.Rules.{Rules}
 use Rattle.scenario_defs.specs.Vpn.{is_attached_at}
@@ -22,7 +22,7 @@ use Rattle.label_defs.specs.declared.label_use.LabelUse.{LabelUse}
 use Rattle.label_defs.specs.declared.label_use.LabelUse.TheVariants as uses
 use Rattle.label_defs.proofs.KeyLemmas.{node_equal}
 use Rattle.label_laws.proofs.Copies.{lands_in_vpn}
-use Rattle.session_defs.specs.Refined.{seen}
+use Rattle.network_defs.specs.session_defs.Refined.{seen}
 use Rattle.edge_defs.specs.Datagrams.{Fate, discarded, tree_of, is_from_site, is_outside, outs_of, entering_fate}
 use Rattle.edge_defs.specs.Flows.{asking_ifaces}
 use Rattle.edge_defs.specs.Place.{EdgePlace, OwnVrf}

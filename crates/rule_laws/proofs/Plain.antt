@@ -23,10 +23,10 @@ use Rattle.mvpn_model.specs.Packets.{source_in, group_in}
 use Rattle.mvpn_model.specs.Sessions.{sessions}
 use Rattle.mvpn_model.specs.declared.message.Given.{Given}
 use Rattle.mvpn_model.specs.declared.session.Session.{Session}
-use Rattle.session_defs.specs.Octets as octets
-use Rattle.session_defs.specs.Octets.{OctetNetwork, octet_run}
-use Rattle.session_defs.specs.System.{Behind, Put, octets_over}
-use Rattle.session_defs.specs.declared.direction.Direction.{Direction}
+use Rattle.network_defs.specs.session_defs.Octets as octets
+use Rattle.network_defs.specs.session_defs.Octets.{OctetNetwork, octet_run}
+use Rattle.network_defs.specs.session_defs.System.{Behind, Put, octets_over}
+use Rattle.network_defs.specs.declared.session_defs.direction.Direction.{Direction}
 use Rattle.edge_defs.specs.Steps as steps
 use Rattle.network_defs.specs.Acts.{Act, Tick, Timers, Move, Lose, Notice, RaiseFirst, RaiseSecond, Restart, At, Enter, Land, Drop, Tell, Acted, with_network, at_node, put_line, put_lines, with_aged, is_of_session, is_from_peer, is_at, leads_to, act, SetCost, Reroute}
 use Rattle.network_defs.specs.Counts.{direction, directions, all_nodes, link_ways, is_joined, is_up as is_end}

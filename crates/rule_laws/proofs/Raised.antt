@@ -5,7 +5,7 @@ use Rattle.std.specs.FinMap as maps
 use Rattle.std.proofs.lemmas.Bool.{cond-false}
 use Rattle.mv_base.specs.Number.{◌>>?◌}
 use Rattle.mv_base.specs.declared.ids.NodeId.{NodeId}
-use Rattle.framing.specs.Feed.{unfed}
+use Rattle.mv_base.specs.framing.Feed.{unfed}
 use Rattle.scenario_defs.specs.declared.event.Kind.{Kind}
 use Rattle.scenario_defs.specs.declared.event.Kind.TheVariants as kinds
 use Rattle.scenario_defs.specs.declared.scenario.Scenario.{Scenario}
@@ -13,28 +13,28 @@ use Rattle.label_defs.specs.Steps as labels
 use Rattle.label_defs.specs.declared.end.End.{End}
 use Rattle.label_defs.proofs.KeyLemmas.{node_itself, node_apart}
 use Rattle.mvpn_model.specs.declared.session.Session.{Session}
-use Rattle.session_defs.specs.Message.{SessionMessage}
-use Rattle.session_defs.specs.Octets as octets
-use Rattle.session_defs.specs.Octets.{OctetNetwork, with_octets, with_step, octet_run}
-use Rattle.session_defs.specs.Refined.{AreLines, seen, Keeps}
-use Rattle.session_defs.specs.System.{Stepped, with_earlier}
-use Rattle.session_defs.specs.declared.direction.Direction.{Direction}
-use Rattle.session_defs.proofs.Deliveries.{with_news, news_are}
-use Rattle.session_defs.proofs.Lines.{line_joined}
+use Rattle.network_defs.specs.session_defs.Message.{SessionMessage}
+use Rattle.network_defs.specs.session_defs.Octets as octets
+use Rattle.network_defs.specs.session_defs.Octets.{OctetNetwork, with_octets, with_step, octet_run}
+use Rattle.network_defs.specs.session_defs.Refined.{AreLines, seen, Keeps}
+use Rattle.network_defs.specs.session_defs.System.{Stepped, with_earlier}
+use Rattle.network_defs.specs.declared.session_defs.direction.Direction.{Direction}
+use Rattle.network_defs.proofs.session_defs.Deliveries.{with_news, news_are}
+use Rattle.network_defs.proofs.session_defs.Lines.{line_joined}
 use Rattle.edge_defs.specs.Steps as steps
 use Rattle.mvpn_model.specs.Unready.{SessionsStand}
-use Rattle.ready_laws.proofs.ActsStand as stand
-use Rattle.ready_laws.proofs.ActsStand.{WorldStands, act_stand}
-use Rattle.ready_laws.proofs.Ends.{end_with, up_end}
-use Rattle.ready_laws.proofs.Nodes.{end_of}
+use Rattle.network_laws.proofs.ready_laws.ActsStand as stand
+use Rattle.network_laws.proofs.ready_laws.ActsStand.{WorldStands, act_stand}
+use Rattle.network_laws.proofs.ready_laws.Ends.{end_with, up_end}
+use Rattle.network_laws.proofs.ready_laws.Nodes.{end_of}
 use Rattle.mvpn_model.specs.declared.readiness.UpEnd.{UpEnd}
 use Rattle.network_defs.specs.Acts.{Act, Notice, RaiseFirst, RaiseSecond, Acted, with_network, is_of_session, act}
 use Rattle.network_defs.specs.Counts.{direction, is_joined, is_bgp_up, is_up as is_end}
-use Rattle.network_defs.specs.Events.{Done, one_act, row, raise_acts, notices, healed}
+use Rattle.network_defs.specs.Events.{Done, row, raise_acts, notices, healed}
 use Rattle.network_defs.specs.Nodes.{Nodes, part_of}
 use Rattle.network_defs.specs.System.{Own, system}
 use Rattle.network_defs.specs.World.{World, clock_of}
-use Rattle.network_defs.proofs.Kept.{Gives, Comes, then_comes, one_comes}
+use Rattle.network_defs.proofs.Kept.{Gives, Comes}
 use Rattle.network_laws.specs.Sound.{Sound}
 use Rattle.network_laws.proofs.NodeCalls.{own_is_good}
 use Rattle.network_laws.proofs.Nodes.{honest_nodes}
@@ -45,22 +45,23 @@ use Rattle.label_defs.specs.Keys.{node_cmp}
 use Rattle.label_defs.proofs.KeyLemmas.{node_cmp_total, node_cmp_exact}
 use Rattle.label_defs.proofs.SetLemmas.{cut_here}
 use Rattle.edge_defs.specs.Edge.{Taken, Control}
-use Rattle.edge_laws.specs.Acts as edge_acts
-use Rattle.session_defs.specs.System.{with_messages}
+use Rattle.edge_words.specs.edge_laws.Acts as edge_acts
+use Rattle.network_defs.specs.session_defs.System.{MessageNetwork, with_messages}
 use Rattle.network_defs.specs.Nodes.{NodeState, Edge, CoreNode, is_edge}
 use Rattle.network_defs.specs.Refusals.{control_of}
 use Rattle.network_defs.specs.System.{node_called}
 use Rattle.network_defs.specs.Acts.{is_from_peer}
 use Rattle.rule_laws.proofs.Calls.{Good, trees_behind}
 use Rattle.rule_laws.proofs.Rows.{control_behind, called_row}
-use Rattle.rule_laws.proofs.BgpRaises.{bgp_raised_good}
-use Rattle.rule_laws.proofs.Raises.{joined_now, raised_good}
+use Rattle.rule_laws.proofs.BgpRaises.{bgp_middle_rule, bgp_middle_alike, bgp_raised_good}
+use Rattle.rule_laws.proofs.Raises.{joined_now, middle_rule, middle_alike, raised_good}
+use Rattle.rule_laws.proofs.Full.{rule_of, world_rule}
+use Rattle.rule_laws.proofs.Throughout.{Goes, goes_comes, nothing_goes, goes_then}
+use Rattle.rule_laws.specs.Labels.{label_network}
+use Rattle.label_laws.specs.Rule as rules
+use Rattle.network_defs.specs.LabelRule.{LabelRule}
 
 -- ---- rows
-
--- a first act, and the row behind it
-pub one_then : (P Q : World → Type 0) (one : Act) (more : List Act) (world : World) → Gives P (act world one) → ((next : World) → P next → Comes Q (row more next)) → Comes Q (row (one ∷ more) world)
-one_then P Q one more world g rest = then_comes P Q (one_act world one) (row more) (one_comes P world one g) rest
 
 both_give : (P Q : World → Type 0) (o : Result Acted NodeId) → Gives P o → stand.Gives Q o → Gives (λ world. P world × Q world) o
 both_give P Q (Err node) p q = tt
@@ -85,9 +86,9 @@ pub record IsPair (scenario : Scenario) (kind : Kind) (a b : NodeId) : Type 0 wh
 
 -- ---- both ends of a session come up
 
--- the second end may come up
+-- the label rule holds, and the second end may come up
 abbrev IsHalf : Scenario → Kind → NodeId → NodeId → World → Type 0
-IsHalf scenario kind a b world = Gives (InStep scenario) (act world (RaiseSecond kind a b))
+IsHalf scenario kind a b world = LabelRule world × Gives (InStep scenario) (act world (RaiseSecond kind a b))
 
 half_raised : (scenario : Scenario) (world : World) (kind : Kind) (a b : NodeId) → IsPair scenario kind a b → is_end world kind a b ≡ false → is_end world kind b a ≡ false → InStep scenario world → Gives (IsHalf scenario kind a b) (act world (RaiseFirst kind a b))
 half_raised scenario world kind a b pair off_a off_b (pending, are, good) =
@@ -121,19 +122,47 @@ half_raised scenario world kind a b pair off_a off_b (pending, are, good) =
         let edge : (n : NodeId) → is_edge scenario n ≡ true → is_edge world.network.state.scenario n ≡ true = λ n t. subst (λ (own : Scenario). is_edge own n ≡ true) (sym good.base.sound.same) t in
         bgp_raised_good scenario (seen world.network pending) world.copies world.datagrams a b good p.apart (edge a p.ends.0) (edge b p.ends.1) (bgp_up_is (world.network.state.node a) b ∙ off) (bgp_up_is (world.network.state.node b) a ∙ back) new e (own_is_good (steps.Raised kinds.Bgp b) tt) sound last is (own_is_good (steps.Raised kinds.Bgp a) tt) after
 
+    -- the network in messages after the first end's call, in which the label rule holds
+    between_both : Kind → Stepped Nodes → MessageNetwork Nodes
+    between_both own new = with_messages (joined_now (seen world.network pending) (is_of_session own a b)) new
+
+    first_rule : (own : Kind) → IsPair scenario own a b → is_end world own a b ≡ false → is_end world own b a ≡ false → (new : Stepped Nodes) → system.called (Own a (steps.Raised own b)) world.network.state ≡ Some new → Sound scenario new.state
+        → rules.LabelRule (label_network (between_both own new) world.copies (world.datagrams ++ [])) × ((u n : NodeId) → u ≢ n → (between_both own new).joined (direction kinds.Ldp u n) ≡ (between_both own new).joined (direction kinds.Ldp n u))
+    first_rule kinds.Ldp p off back new e sound =
+        let is = own_is_good (steps.Raised kinds.Ldp b) tt in (
+          middle_rule scenario (seen world.network pending) world.copies world.datagrams a b good p.apart off back new e is sound,
+          middle_alike scenario (seen world.network pending) world.copies world.datagrams a b good p.apart off back new e is sound,
+        )
+    first_rule kinds.Bgp p off back new e sound =
+        let edge : (n : NodeId) → is_edge scenario n ≡ true → is_edge world.network.state.scenario n ≡ true = λ n t. subst (λ (own : Scenario). is_edge own n ≡ true) (sym good.base.sound.same) t in
+        let is = own_is_good (steps.Raised kinds.Bgp b) tt in
+        let near = bgp_up_is (world.network.state.node a) b ∙ off in
+        let far = bgp_up_is (world.network.state.node b) a ∙ back in (
+          bgp_middle_rule scenario (seen world.network pending) world.copies world.datagrams a b good p.apart (edge a p.ends.0) (edge b p.ends.1) near far new e is sound,
+          bgp_middle_alike scenario (seen world.network pending) world.copies world.datagrams a b good p.apart (edge a p.ends.0) (edge b p.ends.1) near far new e is sound,
+        )
+
     by : (o : Option (Stepped Nodes)) → system.called (Own a (steps.Raised kind b)) old.state ≡ o → Keeps (Sound scenario) o
         → Gives (IsHalf scenario kind a b) (with_network world [] (with_earlier [] (with_step next o >>? λ new. with_earlier new.puts (Some (record { network = new.network; puts = [] })))) a)
     by None e keeps = tt
     by (Some new) e keeps =
         let middle : World = record world { network = with_octets next new } in
-        network_in_step scenario middle [] (octet_run system (with_octets next new) (octets.Call (Own b (steps.Raised kind a)) ∷ [])) b
-        (called_good scenario world.copies world.datagrams (with_octets next new) (with_news next waiting new.puts) (news_are next waiting new next_lines keeps.0) keeps.1 (Own b (steps.Raised kind a)) (pair.second, tt) (λ last is after.
-        last_good kind pair off_a off_b new e keeps.1 last is after))
+        let middle_lines = news_are next waiting new next_lines keeps.0 in
+        let first = first_rule kind pair off_a off_b new e keeps.1 in (
+          rule_of middle (with_news next waiting new.puts) middle_lines first.0 first.1,
+          network_in_step scenario middle [] (octet_run system (with_octets next new) (octets.Call (Own b (steps.Raised kind a)) ∷ [])) b
+              (called_good scenario world.copies world.datagrams (with_octets next new) (with_news next waiting new.puts) middle_lines keeps.1 (Own b (steps.Raised kind a)) (pair.second, tt) (λ last is after.
+              last_good kind pair off_a off_b new e keeps.1 last is after)),
+        )
+
+-- the label rule holds throughout
+pub pair_goes : (scenario : Scenario) (kind : Kind) (a b : NodeId) → IsPair scenario kind a b → (world : World) → is_end world kind a b ≡ false → is_end world kind b a ≡ false → InStep scenario world → Goes LabelRule (InStep scenario) world (row (RaiseFirst kind a b ∷ RaiseSecond kind a b ∷ []) world)
+pair_goes scenario kind a b pair world off_a off_b s =
+    goes_then LabelRule (IsHalf scenario kind a b) (InStep scenario) (λ next half. half.0) (RaiseFirst kind a b) (RaiseSecond kind a b ∷ []) world (world_rule scenario world s) (half_raised scenario world kind a b pair off_a off_b s) (λ next half.
+    goes_then LabelRule (InStep scenario) (InStep scenario) (world_rule scenario) (RaiseSecond kind a b) [] next half.0 half.1 (λ last p. nothing_goes LabelRule (InStep scenario) last (world_rule scenario last p) p))
 
 pub pair_raised : (scenario : Scenario) (kind : Kind) (a b : NodeId) → IsPair scenario kind a b → (world : World) → is_end world kind a b ≡ false → is_end world kind b a ≡ false → InStep scenario world → Comes (InStep scenario) (row (RaiseFirst kind a b ∷ RaiseSecond kind a b ∷ []) world)
-pair_raised scenario kind a b pair world off_a off_b s =
-    one_then (IsHalf scenario kind a b) (InStep scenario) (RaiseFirst kind a b) (RaiseSecond kind a b ∷ []) world (half_raised scenario world kind a b pair off_a off_b s) (λ next half.
-    one_then (InStep scenario) (InStep scenario) (RaiseSecond kind a b) [] next half (λ last p. p))
+pair_raised scenario kind a b pair world off_a off_b s = goes_comes LabelRule (InStep scenario) world (row (RaiseFirst kind a b ∷ RaiseSecond kind a b ∷ []) world) (pair_goes scenario kind a b pair world off_a off_b s)
 
 -- ---- losses that are noticed
 
@@ -234,19 +263,19 @@ abbrev pub heals : Kind → NodeId → NodeId → Bool → Bool → List Act
 heals kind a b near far = cond near (Notice kind a b ∷ []) [] ++ (cond far (Notice kind b a ∷ []) [] ++ (RaiseFirst kind a b ∷ RaiseSecond kind a b ∷ []))
 
 -- the far end's turn
-far_turn : (scenario : Scenario) (kind : Kind) (a b : NodeId) → IsPair scenario kind a b → (far : Bool) (world : World) → Noticed scenario kind a b far world → Comes (InStep scenario) (row (cond far (Notice kind b a ∷ []) [] ++ (RaiseFirst kind a b ∷ RaiseSecond kind a b ∷ [])) world)
-far_turn scenario kind a b pair false world n = pair_raised scenario kind a b pair world n.near n.there n.step
+far_turn : (scenario : Scenario) (kind : Kind) (a b : NodeId) → IsPair scenario kind a b → (far : Bool) (world : World) → Noticed scenario kind a b far world → Goes LabelRule (InStep scenario) world (row (cond far (Notice kind b a ∷ []) [] ++ (RaiseFirst kind a b ∷ RaiseSecond kind a b ∷ [])) world)
+far_turn scenario kind a b pair false world n = pair_goes scenario kind a b pair world n.near n.there n.step
 far_turn scenario kind a b pair true world n =
-    one_then (Noticed scenario kind b a false) (InStep scenario) (Notice kind b a) (RaiseFirst kind a b ∷ RaiseSecond kind a b ∷ []) world
+    goes_then LabelRule (Noticed scenario kind b a false) (InStep scenario) (λ next m. world_rule scenario next m.step) (Notice kind b a) (RaiseFirst kind a b ∷ RaiseSecond kind a b ∷ []) world (world_rule scenario world n.step)
     (noticed scenario world kind b a false pair.second (λ e. pair.apart (sym e)) n.step n.far_joined n.near_joined n.there n.near)
-    (λ next m. pair_raised scenario kind a b pair next m.there m.near m.step)
+    (λ next m. pair_goes scenario kind a b pair next m.there m.near m.step)
 
 -- both ends by turns
 ends_turn : (scenario : Scenario) (kind : Kind) (a b : NodeId) → IsPair scenario kind a b → (near far : Bool) (world : World) → InStep scenario world → world.network.joined (direction kind a b) ≡ false → world.network.joined (direction kind b a) ≡ false
-    → is_end world kind a b ≡ near → is_end world kind b a ≡ far → Comes (InStep scenario) (row (heals kind a b near far) world)
+    → is_end world kind a b ≡ near → is_end world kind b a ≡ far → Goes LabelRule (InStep scenario) world (row (heals kind a b near far) world)
 ends_turn scenario kind a b pair false far world s off back up there = far_turn scenario kind a b pair far world (record { step = s; near_joined = off; far_joined = back; near = up; there = there })
 ends_turn scenario kind a b pair true far world s off back up there =
-    one_then (Noticed scenario kind a b far) (InStep scenario) (Notice kind a b) (cond far (Notice kind b a ∷ []) [] ++ (RaiseFirst kind a b ∷ RaiseSecond kind a b ∷ [])) world
+    goes_then LabelRule (Noticed scenario kind a b far) (InStep scenario) (λ next n. world_rule scenario next n.step) (Notice kind a b) (cond far (Notice kind b a ∷ []) [] ++ (RaiseFirst kind a b ∷ RaiseSecond kind a b ∷ [])) world (world_rule scenario world s)
     (noticed scenario world kind a b far pair.first pair.apart s off back up there) (λ next n. far_turn scenario kind a b pair far next n)
 
 -- both directions of a session are joined, or neither is
@@ -254,10 +283,10 @@ pub alike : (scenario : Scenario) (world : World) (kind : Kind) (a b : NodeId) �
 alike scenario world kinds.Ldp a b ne s = ((s.2.kept []).rule.session a b ne).alike
 alike scenario world kinds.Bgp a b ne s = s.2.edges.2.rule.alike a b
 
-pub healed_in_step : (scenario : Scenario) (session : Session) → IsPair scenario session.kind session.a session.b → (world : World) → InStep scenario world → Comes (InStep scenario) (healed session world)
-healed_in_step scenario session pair world s = by (is_joined world session) refl
+pub healed_goes : (scenario : Scenario) (session : Session) → IsPair scenario session.kind session.a session.b → (world : World) → InStep scenario world → Goes LabelRule (InStep scenario) world (healed session world)
+healed_goes scenario session pair world s = by (is_joined world session) refl
   where
-    by : (t : Bool) → is_joined world session ≡ t → Comes (InStep scenario) (cond t (Done [] world) (row (notices world session session.a session.b ++ (notices world session session.b session.a ++ raise_acts session)) world))
-    by true e = s
+    by : (t : Bool) → is_joined world session ≡ t → Goes LabelRule (InStep scenario) world (cond t (Done [] world) (row (notices world session session.a session.b ++ (notices world session session.b session.a ++ raise_acts session)) world))
+    by true e = nothing_goes LabelRule (InStep scenario) world (world_rule scenario world s) s
     by false e =
         ends_turn scenario session.kind session.a session.b pair (is_end world session.kind session.a session.b) (is_end world session.kind session.b session.a) world s e (sym (alike scenario world session.kind session.a session.b pair.apart s) ∙ e) refl refl

@@ -1,28 +1,29 @@
 -- Both ends of a session come up, one after the other, and the label rule holds behind both: at the level of messages.
 use Rattle.std.proofs.Common.{◌≡◌, ◌≢◌, ℕ, ◌==◌, ◌&&◌, ◌||◌, Bool, true, false, cond, inl, inr, List, [], ◌++◌, is_some, Some, refl, sym, ap, subst, ◌∙◌}
-use Rattle.std.specs.FinMap as maps
+use Rattle.std.specs.FinSet as sets
 use Rattle.std.proofs.lemmas.Bool.{and_parts, or_cases, or_from, false_from_ne_true}
-use Rattle.std.proofs.lemmas.List.{append-nil}
 use Rattle.std.proofs.lemmas.Option.{same_Some}
 use Rattle.mv_base.specs.declared.ids.NodeId.{NodeId}
-use Rattle.mldp_msgs.specs.declared.message.LabelMessage.{LabelMessage}
+use Rattle.mldp.specs.declared.mldp_fec.fec.Fec.{Fec}
+use Rattle.mldp.specs.declared.mldp_msgs.message.LabelMessage.{LabelMessage}
 use Rattle.scenario_defs.specs.declared.event.Kind.TheVariants as kinds
 use Rattle.scenario_defs.specs.declared.scenario.Scenario.{Scenario}
 use Rattle.label_defs.specs.LabelData.{Place, LabelData, is_up}
 use Rattle.label_defs.specs.Settling as settling
 use Rattle.label_defs.specs.Steps as labels
-use Rattle.label_defs.specs.Steps.{raised_end}
+use Rattle.label_defs.specs.Steps.{branch_to, raised_end}
 use Rattle.label_defs.specs.declared.end.End.{End}
 use Rattle.label_defs.proofs.KeyLemmas.{node_equal, node_apart, node_cmp_total, node_cmp_exact}
 use Rattle.label_defs.proofs.SetLemmas.{put_here}
 use Rattle.label_laws.specs.Network.{LabelNetwork, messages_to, sent, behind}
 use Rattle.label_laws.specs.Acts as acts
 use Rattle.label_laws.specs.Acts.{with_joined, raised}
-use Rattle.label_laws.specs.Rule.{Kept}
+use Rattle.label_laws.specs.Rule.{Kept, LabelRule}
+use Rattle.label_laws.proofs.Full.{label_rule}
 use Rattle.label_laws.proofs.Frames.{node_there}
-use Rattle.session_defs.specs.Message.{SessionMessage}
-use Rattle.session_defs.specs.System.{Stepped, MessageNetwork, with_messages}
-use Rattle.session_defs.specs.declared.direction.Direction as sessions
+use Rattle.network_defs.specs.session_defs.Message.{SessionMessage}
+use Rattle.network_defs.specs.session_defs.System.{Stepped, MessageNetwork, with_messages}
+use Rattle.network_defs.specs.declared.session_defs.direction.Direction as sessions
 use Rattle.edge_defs.specs.Place.{label_place}
 use Rattle.edge_defs.specs.Steps as steps
 use Rattle.edge_defs.specs.Steps.{LabelStep, part_after}
@@ -36,7 +37,7 @@ use Rattle.network_defs.specs.World.{Datagram}
 use Rattle.network_laws.specs.Sound.{Sound}
 use Rattle.network_laws.proofs.NodeCalls.{IsGoodCall}
 use Rattle.rule_laws.specs.Labels.{Copies, labels_in, label_network}
-use Rattle.edge_laws.specs.Network.{EdgeNetwork}
+use Rattle.edge_words.specs.edge_laws.Network.{EdgeNetwork}
 use Rattle.rule_laws.proofs.Honest.{EdgeRule}
 use Rattle.rule_laws.specs.Edges.{edge_network}
 use Rattle.rule_laws.proofs.EdgeCalls.{EdgesKept, EdgesNext, edges_kept, rule_behind, fit_rule}
@@ -44,21 +45,11 @@ use Rattle.rule_laws.proofs.Rows.{IsEdgeNode}
 use Rattle.rule_laws.proofs.Numbers.{NumbersOk}
 use Rattle.network_defs.specs.Refusals.{control_of}
 use Rattle.rule_laws.proofs.Puts.{row_puts}
+use Rattle.rule_laws.proofs.Risen.{risen, quiet, nothing_more, rule_before}
 use Rattle.rule_laws.proofs.Rows.{act_gives, part_cond, sum, row_of, FirstKept, wants_kept, CalledRow, called_row, called_is, UpWhereJoined}
 use Rattle.rule_laws.proofs.Calls.{Base, Good, kind_at, numbers_at, behind_numbers, trees_behind, call_good, stays_up, joined_up}
 
 -- ---- steps of two nodes
-
--- the part of a node one of whose ends has come up
-abbrev pub risen : LabelData → NodeId → ℕ → LabelData
-risen part peer now = record part { ends = maps.insert part.ends peer (raised_end now) }
-
-abbrev quiet : LabelData → settling.Stepped
-quiet part = record { part = part; puts = [] }
-
-nothing_more : (b : Bool) (ms : List LabelMessage) → cond b (ms ++ []) ms ≡ ms
-nothing_more true ms = append-nil ms
-nothing_more false ms = refl
 
 two_nodes : (x y : Bool) (p q d : LabelData) → (x ≡ true → y ≡ true → ⊥) → cond x p (cond y q d) ≡ cond y q (cond x p d)
 two_nodes true true p q d apart = absurd (apart refl refl)
@@ -255,6 +246,18 @@ module _ (scenario : Scenario) (network : MessageNetwork Nodes) (copies : Copies
         let row : Kept (behind (label_network other_up copies all) a (record { part = part_after r.new.part r.rest; puts = r.new.puts ++ row_puts r.rest })) = wants_kept other_up copies all a row_a.wants row_a.are r.new r.rest r.others start in
         let whole : Kept (behind (label_network other_up copies all) a (sum part_a row_a.row)) = subst (λ (x : List LabelStep). Kept (behind (label_network other_up copies all) a (sum part_a x))) (sym r.parts) row in
         subst Kept (commute (label_network first copies all) a b ne risen_b (sum part_a row_a.row)) (subst (λ (v : LabelNetwork). Kept (behind v a (sum part_a row_a.row))) (sym (other_is all)) whole)
+
+    -- The label rule holds between the two acts as well.
+    pub middle_rule : LabelRule (label_network middle copies (datagrams ++ []))
+    middle_rule =
+        let w : LabelNetwork = behind (label_network first copies (datagrams ++ [])) a (sum part_a row_a.row) in
+        let b_is : w.node b ≡ part_b = node_there a (sum part_a row_a.row).part (label_network first copies (datagrams ++ [])).node b back in
+        let no_branch : (fec : Fec) (label : ℕ) → sets.contains part_b.branches (branch_to a fec label) ≡ true → ⊥ =
+        λ fec label has. (let up : is_up part_b a ≡ true = ((good.kept []).rule.view b a label back).branch fec has in let x : true ≡ false = sym up ∙ off_b in absurd cc) in
+        subst LabelRule (sym (middle_is (datagrams ++ []))) (rule_before w b a part_b state.clock b_is off_b no_branch (label_rule (behind w b (quiet risen_b)) (half_kept []).rule))
+
+    pub middle_alike : (u n : NodeId) → u ≢ n → middle.joined (direction kinds.Ldp u n) ≡ middle.joined (direction kinds.Ldp n u)
+    middle_alike u n apart = ((half_kept []).rule.session u n apart).alike
 
     -- the second end
     risen_same : risen (part_of (middle.state.node b)) a middle.state.clock ≡ risen_b

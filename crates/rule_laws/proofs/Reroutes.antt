@@ -2,8 +2,7 @@
 use Rattle.std.proofs.Common.{◌≡◌, ◌==◌, Bool, true, false, cond, ◌++◌, List, option_map, Option, Some, refl, sym, ap, subst}
 use Rattle.mv_base.specs.declared.core_link.Link.{Link}
 use Rattle.mv_base.specs.declared.ids.NodeId.{NodeId}
-use Rattle.mldp_fec.specs.declared.fec.Fec.{Fec}
-use Rattle.scenario_defs.specs.declared.event.Kind.TheVariants as kinds
+use Rattle.mldp.specs.declared.mldp_fec.fec.Fec.{Fec}
 use Rattle.scenario_defs.specs.declared.scenario.Scenario.{Scenario}
 use Rattle.label_defs.specs.Settling as settling
 use Rattle.label_defs.specs.Steps as labels
@@ -13,12 +12,12 @@ use Rattle.label_laws.specs.Network.{LabelNetwork, behind}
 use Rattle.label_laws.specs.Network as label_nodes
 use Rattle.label_laws.specs.Acts.{Reroute, with_upstream}
 use Rattle.label_laws.specs.Rule.{Kept}
-use Rattle.session_defs.specs.System.{Stepped, MessageNetwork, with_messages}
+use Rattle.network_defs.specs.session_defs.System.{Stepped, MessageNetwork, with_messages}
 use Rattle.edge_defs.specs.Place.{upstream}
-use Rattle.core_walks.specs.Core.{Core}
+use Rattle.mv_base.specs.core_walks.Core.{Core}
 use Rattle.edge_defs.specs.Steps as steps
-use Rattle.edge_laws.specs.Acts as edge_acts
-use Rattle.edge_laws.specs.Network.{EdgeNetwork}
+use Rattle.edge_words.specs.edge_laws.Acts as edge_acts
+use Rattle.edge_words.specs.edge_laws.Network.{EdgeNetwork}
 use Rattle.network_defs.specs.Nodes.{Nodes, following, core_at, part_of}
 use Rattle.network_defs.specs.System.{node_called, unchanged}
 use Rattle.network_defs.specs.World.{Datagram}

@@ -10,8 +10,8 @@ use Rattle.std.proofs.lemmas.List.{append-nil, append_assoc}
 use Rattle.std.proofs.lemmas.Option.{same_Some}
 use Rattle.mv_base.specs.Number.{◌>>?◌}
 use Rattle.mv_base.specs.declared.ids.NodeId.{NodeId}
-use Rattle.mldp_fec.specs.declared.fec.Fec.{Fec}
-use Rattle.mldp_msgs.specs.declared.message.LabelMessage.{LabelMessage}
+use Rattle.mldp.specs.declared.mldp_fec.fec.Fec.{Fec}
+use Rattle.mldp.specs.declared.mldp_msgs.message.LabelMessage.{LabelMessage}
 use Rattle.scenario_defs.specs.declared.event.Kind.TheVariants as kinds
 use Rattle.scenario_defs.specs.declared.scenario.Scenario.{Scenario}
 use Rattle.label_defs.specs.Keys.{fec_cmp, node_cmp}
@@ -30,16 +30,16 @@ use Rattle.label_laws.specs.Acts.{Act, Want, Unwant, stepped, wanted, act}
 use Rattle.label_laws.specs.Rule.{Kept, OnNetwork}
 use Rattle.label_laws.proofs.Frames.{node_here, behind_again, behind_silent}
 use Rattle.label_laws.proofs.Runs.{run_kept}
-use Rattle.session_defs.specs.Message.{SessionMessage}
-use Rattle.session_defs.specs.System.{Put, Stepped, MessageNetwork, messages_over, with_messages}
+use Rattle.network_defs.specs.session_defs.Message.{SessionMessage}
+use Rattle.network_defs.specs.session_defs.System.{Put, Stepped, MessageNetwork, messages_over, with_messages}
 use Rattle.edge_defs.specs.Edge.{Control, EdgeData, no_control}
 use Rattle.edge_defs.specs.Place.{EdgePlace, addr_of, is_tree, label_place}
 use Rattle.edge_defs.specs.Steps as steps
-use Rattle.edge_defs.specs.Steps.{LabelStep, EdgeStepped, control_step, own_label_call, changed_leaves, one_call, label_row, part_after, edge_step}
+use Rattle.edge_defs.specs.Steps.{LabelStep, EdgeStepped, control_step, own_label_call, changed_leaves, one_call, label_row, part_after, raised_after, edge_step}
 use Rattle.edge_defs.specs.Tunnels.{leaves}
 use Rattle.network_defs.specs.Counts.{direction}
 use Rattle.network_defs.specs.Nodes.{NodeState, Edge, CoreNode, Nodes, with_node, place_of, part_of, core_at}
-use Rattle.node_defs.specs.Puts.{bgp_puts, label_puts}
+use Rattle.network_defs.specs.node_defs.Puts.{bgp_puts, label_puts}
 use Rattle.network_defs.specs.System.{node_called, core_called, edge_stepped}
 use Rattle.network_defs.specs.Refusals.{control_of}
 use Rattle.network_defs.specs.World.{Datagram}
@@ -235,7 +235,7 @@ edge_row nodes n edge call new trees e =
       state = with_node nodes n (Edge made.edge);
       puts = bgp_puts place edge.control made.edge.control ++ flat_map (label_puts n (addr_of nodes.scenario n) (label_place nodes.scenario (core_at nodes n) n) nodes.clock) made.row;
     } in
-    let behind_row : List LabelStep → EdgeStepped = λ row. record { edge = record { control = control; part = part_after edge.part row }; row = row } in
+    let behind_row : List LabelStep → EdgeStepped = λ row. record { edge = record { control = control; part = part_after edge.part row; raised = raised_after nodes.clock edge.raised call }; row = row } in
     let wants : List labels.Call = changed_leaves (leaves place edge.control) (leaves place control) in
     let calls : List labels.Call = one_call (own_label_call call) ++ wants in
     let x = bind_some (edge_step place nodes.clock edge call) (λ made. Some (stepped made)) new e in
@@ -246,7 +246,7 @@ edge_row nodes n edge call new trees e =
       are = changed_are place (leaves place edge.control) (leaves place control) trees;
       row = y.0;
       made = y.1;
-      node = Edge (record { control = control; part = part_after edge.part y.0 });
+      node = Edge (record { control = control; part = part_after edge.part y.0; raised = raised_after nodes.clock edge.raised call });
       state = sym (ap (λ (s : Stepped Nodes). s.state) same);
       part = refl;
       control = refl;

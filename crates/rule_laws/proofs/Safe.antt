@@ -22,10 +22,10 @@ use Rattle.mvpn_model.specs.Packet.{packet}
 use Rattle.mvpn_model.specs.declared.message.Given.{Given}
 use Rattle.mvpn_model.specs.Sessions.{sessions}
 use Rattle.mvpn_model.specs.declared.session.Session.{Session}
-use Rattle.session_defs.specs.Octets as octets
-use Rattle.session_defs.specs.Octets.{OctetNetwork, octet_run}
-use Rattle.session_defs.specs.System.{Behind}
-use Rattle.session_defs.specs.declared.direction.Direction.{Direction}
+use Rattle.network_defs.specs.session_defs.Octets as octets
+use Rattle.network_defs.specs.session_defs.Octets.{OctetNetwork, octet_run}
+use Rattle.network_defs.specs.session_defs.System.{Behind}
+use Rattle.network_defs.specs.declared.session_defs.direction.Direction.{Direction}
 use Rattle.edge_defs.specs.Steps as steps
 use Rattle.network_defs.specs.Acts.{Act, Tick, Timers, Move, Lose, Notice, RaiseFirst, RaiseSecond, Restart, At, Enter, Land, Drop, Tell, Acted, with_network, at_node, with_aged, is_of_session, is_from_peer, is_at, leads_to, act, datagram_at, landed, landing, without_copy, fate_at, with_ttl, SetCost, Reroute}
 use Rattle.network_defs.specs.Counts.{direction, directions, all_nodes, link_ways, is_joined}
@@ -39,7 +39,7 @@ use Rattle.network_defs.specs.World.{World, Datagram, LinkCopy, scenario_of, num
 use Rattle.network_defs.proofs.Kept.{Gives, Comes, then_comes, row_keeps, each_keeps, times_keeps, comes_as, branches_datagrams}
 use Rattle.network_defs.proofs.Numbered.{numbered_more}
 use Rattle.label_laws.specs.Rule as labels
-use Rattle.session_defs.specs.Refined.{seen}
+use Rattle.network_defs.specs.session_defs.Refined.{seen}
 use Rattle.rule_laws.specs.Labels.{label_network}
 use Rattle.rule_laws.proofs.Acts.{act_in_step}
 use Rattle.rule_laws.proofs.Enters.{enters, last_is}

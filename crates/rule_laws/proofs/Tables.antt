@@ -6,17 +6,17 @@ use Rattle.std.specs.Cmp.{both_ways}
 use Rattle.std.proofs.lemmas.Bool.{and_parts, eq-eqb}
 use Rattle.std.proofs.lemmas.List.{append-nil, append_assoc}
 use Rattle.mv_base.specs.declared.ids.NodeId.{NodeId}
-use Rattle.framing.specs.Units.{Spelled, octets_of, messages_of, AreUnits, NoUnit}
-use Rattle.mldp_fec.specs.declared.fec.Fec.{Fec}
-use Rattle.mldp_msgs.specs.declared.message.LabelMessage.{LabelMessage}
-use Rattle.mldp_msgs.specs.declared.message.LabelMessage.TheVariants as messages
-use Rattle.bgp_attributes.specs.declared.key.Key.{Key}
-use Rattle.bgp_attributes.specs.declared.update.Message.{Message}
-use Rattle.bgp_update.specs.Spelling.{SpellsMessage, header}
+use Rattle.mv_base.specs.framing.Units.{Spelled, octets_of, messages_of, AreUnits, NoUnit}
+use Rattle.mldp.specs.declared.mldp_fec.fec.Fec.{Fec}
+use Rattle.mldp.specs.declared.mldp_msgs.message.LabelMessage.{LabelMessage}
+use Rattle.mldp.specs.declared.mldp_msgs.message.LabelMessage.TheVariants as messages
+use Rattle.bgp_messages.specs.declared.bgp_attributes.key.Key.{Key}
+use Rattle.bgp_messages.specs.declared.bgp_attributes.update.Message.{Message}
+use Rattle.bgp_messages.specs.bgp_update.Spelling.{SpellsMessage, header}
 use Rattle.scenario_defs.specs.declared.event.Kind.{Kind}
 use Rattle.scenario_defs.specs.declared.event.Kind.TheVariants as kinds
 use Rattle.scenario_defs.specs.declared.scenario.Scenario.{Scenario}
-use Rattle.table_defs.specs.declared.change.Change.{Change}
+use Rattle.mv_base.specs.declared.table_defs.change.Change.{Change}
 use Rattle.label_defs.specs.LabelData.{same_fec, use_of}
 use Rattle.label_defs.specs.Steps.{branch_to}
 use Rattle.label_defs.specs.declared.label_use.LabelUse.{LabelUse}
@@ -25,12 +25,12 @@ use Rattle.label_defs.proofs.MemberLemmas.{count-cons}
 use Rattle.label_defs.proofs.KeyLemmas.{same_fec_equal, same_fec_from, node_equal, node_itself}
 use Rattle.label_laws.specs.Rule as rules
 use Rattle.label_laws.specs.Rule.{is_of_owner, is_release_of, IsOther, PhaseIs}
-use Rattle.session_defs.specs.Message.{SessionMessage, Bgp, Label, IsPut}
-use Rattle.session_defs.specs.Refined.{Carried, IsLine, seen}
-use Rattle.session_defs.specs.declared.direction.Direction.{Direction}
+use Rattle.network_defs.specs.session_defs.Message.{SessionMessage, Bgp, Label, IsPut}
+use Rattle.network_defs.specs.session_defs.Refined.{Carried, IsLine, seen}
+use Rattle.network_defs.specs.declared.session_defs.direction.Direction.{Direction}
 use Rattle.edge_defs.specs.Keys.{Value}
-use Rattle.edge_laws.specs.Acts.{message_of}
-use Rattle.edge_laws.proofs.Tables.{tables_lead, tables_reached}
+use Rattle.edge_words.specs.edge_laws.Acts.{message_of}
+use Rattle.edge_words.proofs.edge_laws.Tables.{tables_lead, tables_reached}
 use Rattle.network_defs.specs.Counts.{direction}
 use Rattle.network_defs.specs.LabelRule.{part_at}
 use Rattle.network_defs.specs.World.{World}

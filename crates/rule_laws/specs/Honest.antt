@@ -4,18 +4,18 @@ use Rattle.std.specs.List.{AllByRecursion}
 use Rattle.std.specs.FinMap as maps
 use Rattle.mv_base.specs.declared.ids.NodeId.{NodeId}
 use Rattle.mv_base.specs.declared.ids.VrfId.{VrfId}
-use Rattle.mldp_fec.specs.declared.fec.Fec.{Fec}
-use Rattle.bgp_attributes.specs.declared.key.Key.{Key}
+use Rattle.mldp.specs.declared.mldp_fec.fec.Fec.{Fec}
+use Rattle.bgp_messages.specs.declared.bgp_attributes.key.Key.{Key}
 use Rattle.scenario_defs.specs.declared.scenario.Scenario.{Scenario}
 use Rattle.scenario_defs.specs.declared.scenario.Vrf.{Vrf}
-use Rattle.table_defs.specs.Changes.{value_of}
-use Rattle.table_defs.specs.declared.change.Change.{Change}
+use Rattle.mv_base.specs.table_defs.Changes.{value_of}
+use Rattle.mv_base.specs.declared.table_defs.change.Change.{Change}
 use Rattle.edge_defs.specs.Edge.{VrfPattern, Selected, TakenRoute, Control}
 use Rattle.edge_defs.specs.Imported.{lsp_of, taken_from}
 use Rattle.edge_defs.specs.Keys.{Value}
 use Rattle.edge_defs.specs.Originated.{target_comms}
 use Rattle.edge_defs.specs.Place.{addr_of, lsp, tunnel_number}
-use Rattle.edge_laws.specs.Network.{EdgeNetwork}
+use Rattle.edge_words.specs.edge_laws.Network.{EdgeNetwork}
 
 -- The tunnel is one of a VRF of the edge, and the communities are that VRF's Route Targets.
 pub record IsTunnelRoute (scenario : Scenario) (root : NodeId) (value : Value) (fec : Fec) : Type 0 where

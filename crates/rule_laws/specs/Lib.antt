@@ -1,3 +1,4 @@
+pub use Rattle.network_laws.specs.bgp_values as bgp_values
 pub mod Labels
 pub mod Edges
 pub mod Networks
@@ -5,3 +6,4 @@ pub mod Tables
 pub mod Honest
 pub mod Outs
 pub mod SoundHalt
+pub mod Throughout

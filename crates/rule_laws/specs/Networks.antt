@@ -1,10 +1,10 @@
 -- The two networks that the whole network is, by the messages that its octets in transit carry.
 use Rattle.std.specs.Prelude.{List}
 use Rattle.label_laws.specs.Rule.{Kept}
-use Rattle.session_defs.specs.Message.{SessionMessage}
-use Rattle.session_defs.specs.Refined.{AreLines, seen}
-use Rattle.session_defs.specs.declared.direction.Direction.{Direction}
-use Rattle.edge_laws.specs.Rule.{Rule}
+use Rattle.network_defs.specs.session_defs.Message.{SessionMessage}
+use Rattle.network_defs.specs.session_defs.Refined.{AreLines, seen}
+use Rattle.network_defs.specs.declared.session_defs.direction.Direction.{Direction}
+use Rattle.edge_words.specs.edge_laws.Rule.{Rule}
 use Rattle.network_defs.specs.World.{World}
 use Rattle.rule_laws.specs.Edges.{InTransit, Carries, edge_network}
 use Rattle.rule_laws.specs.Labels.{label_network}

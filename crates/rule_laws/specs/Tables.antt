@@ -2,17 +2,17 @@
 use Rattle.std.specs.Prelude.{◌≡◌, ℕ, ◌+◌, ◌==◌, ◌&&◌, Bool, true, false, List, [], ◌∷◌, ◌++◌, map, count_by, Option, Some, if◌then◌else◌}
 use Rattle.std.specs.FinSet as sets
 use Rattle.mv_base.specs.declared.ids.NodeId.{NodeId}
-use Rattle.framing.specs.Units.{Splits}
-use Rattle.mldp_fec.specs.declared.fec.Fec.{Fec}
-use Rattle.mldp_msgs.specs.Spelling.{SpellsPdu}
-use Rattle.mldp_msgs.specs.declared.message.LabelMessage.{LabelMessage}
-use Rattle.mldp_msgs.specs.declared.message.LabelMessage.TheVariants as messages
-use Rattle.bgp_attributes.specs.declared.key.Key.{Key}
-use Rattle.bgp_update.specs.Spelling.{SpellsMessage}
+use Rattle.mv_base.specs.framing.Units.{Splits}
+use Rattle.mldp.specs.declared.mldp_fec.fec.Fec.{Fec}
+use Rattle.mldp.specs.mldp_msgs.Spelling.{SpellsPdu}
+use Rattle.mldp.specs.declared.mldp_msgs.message.LabelMessage.{LabelMessage}
+use Rattle.mldp.specs.declared.mldp_msgs.message.LabelMessage.TheVariants as messages
+use Rattle.bgp_messages.specs.declared.bgp_attributes.key.Key.{Key}
+use Rattle.bgp_messages.specs.bgp_update.Spelling.{SpellsMessage}
 use Rattle.scenario_defs.specs.declared.event.Kind.{Kind}
 use Rattle.scenario_defs.specs.declared.event.Kind.TheVariants as kinds
-use Rattle.table_defs.specs.Changes.{LeadsTo, applied_all}
-use Rattle.table_defs.specs.declared.change.Change.{Change}
+use Rattle.mv_base.specs.table_defs.Changes.{LeadsTo, applied_all}
+use Rattle.mv_base.specs.declared.table_defs.change.Change.{Change}
 use Rattle.label_defs.specs.LabelData.{same_fec, use_of}
 use Rattle.label_defs.specs.Steps.{branch_to}
 use Rattle.label_defs.specs.declared.label_use.LabelUse.{LabelUse}
@@ -20,8 +20,8 @@ use Rattle.label_defs.specs.declared.label_use.LabelUse.TheVariants as uses
 use Rattle.edge_defs.specs.Edge.{Control}
 use Rattle.edge_defs.specs.Held.{held_for}
 use Rattle.edge_defs.specs.Keys.{Value}
-use Rattle.edge_laws.specs.Acts.{message_of}
-use Rattle.edge_laws.specs.Rule.{taken_values}
+use Rattle.edge_words.specs.edge_laws.Acts.{message_of}
+use Rattle.edge_words.specs.edge_laws.Rule.{taken_values}
 use Rattle.network_defs.specs.Counts.{direction}
 use Rattle.network_defs.specs.LabelRule.{part_at}
 use Rattle.network_defs.specs.Nodes.{place_of}

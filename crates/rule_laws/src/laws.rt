@@ -10,16 +10,22 @@ ghost use Rattle.network_defs.specs.Counts.{direction};
 ghost use Rattle.network_defs.specs.LabelRule.{LabelRule};
 ghost use Rattle.network_defs.specs.Run.{Traced};
 ghost use Rattle.network_defs.specs.World.{World};
+ghost use Rattle.network_laws.specs.Honest.{IsSoundEvent};
 ghost use Rattle.network_laws.specs.SoundRun.{SoundRun};
 ghost use Rattle.rule_laws.specs.Networks.{AreNetworks};
 ghost use Rattle.rule_laws.specs.Outs.{IsAdmittedLine};
 ghost use Rattle.rule_laws.specs.Tables.{RoutesInStep, LabelsInStep};
+ghost use Rattle.rule_laws.specs.Throughout.{ThroughoutEvents};
 
 /// In every run of a sound scenario, by its cores and by sound events, the label rule holds: while a copy may be on its way under a
-/// label, the label stands for no other VPN.
+/// label, the label stands for no other VPN. It holds throughout the sound events that come next, after each of their acts, also
+/// between the two acts of a raise, and up to an act that lacks a label.
 pub fn runs_keep_the_label_rule()
-    ensures { (cores : Cores) (script : Script) (events : List Timed) (trace : List Traced) (new : World) →
+    ensures after { (cores : Cores) (script : Script) (events : List Timed) (trace : List Traced) (new : World) →
         SoundRun cores script events trace new → LabelRule new }
+    ensures throughout { (cores : Cores) (script : Script) (events more : List Timed) (trace : List Traced) (new : World) →
+        SoundRun cores script events trace new → AllByRecursion (λ (timed : Timed). IsSoundEvent script.scenario timed.event) more →
+        ThroughoutEvents LabelRule new more }
 {}
 
 /// Behind such a run the octets in transit carry messages by which the label parts of the nodes, their LDP sessions and the copies on

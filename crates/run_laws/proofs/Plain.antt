@@ -13,7 +13,7 @@ use Rattle.scenario_defs.specs.declared.scenario.Scenario.{Scenario}
 use Rattle.mvpn_model.specs.Once.{TellsState, EndsWindow, IsWindow, Once}
 use Rattle.mvpn_model.specs.Report.{Entry, lines_of, refused_line, refused_lines, is_out_at, outs_at}
 use Rattle.mvpn_model.specs.Safe.{IsSafeLine, Safe}
-use Rattle.network_laws.proofs.Lists.{each_filter}
+use Rattle.delivery_laws.proofs.network_laws.Lists.{each_filter}
 use Rattle.run_laws.specs.Plain.{is_plain, plain_entry, plain}
 
 -- ---- lists

@@ -9,9 +9,9 @@ use Rattle.mv_base.specs.declared.addr.Addr.{Addr}
 use Rattle.mv_base.specs.declared.addr.Addr.TheVariants.{V4, V6}
 use Rattle.mv_base.specs.declared.ids.NodeId.{NodeId}
 use Rattle.mv_base.specs.declared.pattern.Pattern.{Pattern}
-use Rattle.core_walks.specs.Topology.{IsTopology}
-use Rattle.core_walks.proofs.WalkLemmas.{good}
-use Rattle.mvpn_nlri.specs.Spelling.{IsAnyOr}
+use Rattle.mv_base.specs.core_walks.Topology.{IsTopology}
+use Rattle.mv_base.proofs.core_walks.WalkLemmas.{good}
+use Rattle.rule_laws.specs.bgp_values.mvpn_nlri.Spelling.{IsAnyOr}
 use Rattle.scenario_defs.specs.Rules.{Rules, ScriptRules, IsUnicast, IsGroup, AreOfOneFamily, NamesFlow, IsEntry, IsPattern, HaveSession, IsEventOf}
 use Rattle.scenario_defs.specs.declared.event.Event.{Event}
 use Rattle.scenario_defs.specs.declared.event.Event.TheVariants as events
@@ -25,11 +25,11 @@ use Rattle.scenario_defs.specs.declared.scenario.Scenario.{Scenario}
 use Rattle.network_defs.specs.Costs.{Cores, AreCoresOf}
 use Rattle.network_defs.specs.Run.{Traced, Run}
 use Rattle.network_defs.specs.World.{World}
-use Rattle.network_laws.specs.Honest.{IsSoundEvent}
-use Rattle.network_laws.specs.Sound.{IsCustomer, IsGroupAddr, IsFlow, AreAlike, SoundEntry, SoundPattern}
-use Rattle.network_laws.specs.SoundRun.{SoundRun}
-use Rattle.bgp_update.specs.Written.{afi_of}
-use Rattle.network_laws.proofs.Lists.{each_front}
+use Rattle.delivery_laws.specs.network_laws.Honest.{IsSoundEvent}
+use Rattle.delivery_laws.specs.network_laws.Sound.{IsCustomer, IsGroupAddr, IsFlow, AreAlike, SoundEntry, SoundPattern}
+use Rattle.delivery_laws.specs.network_laws.SoundRun.{SoundRun}
+use Rattle.delivery_laws.specs.bgp_messages.bgp_update.Written.{afi_of}
+use Rattle.delivery_laws.proofs.network_laws.Lists.{each_front}
 use Rattle.delivery_laws.proofs.Splits.{cut_in_two}
 use Rattle.run_laws.specs.Octets.{entry_octets, word_octets, EventHasOctets, ScriptHasOctets}
 

@@ -10,7 +10,7 @@ use Rattle.scenario_defs.specs.declared.event.Event.TheVariants as events
 use Rattle.scenario_defs.specs.declared.event.JoinEntry.{JoinEntry}
 use Rattle.scenario_defs.specs.declared.event.JoinEntry.TheVariants as entries
 use Rattle.scenario_defs.specs.declared.event.Script.{Script}
-use Rattle.network_laws.specs.Sound.{HasOctets}
+use Rattle.delivery_laws.specs.network_laws.Sound.{HasOctets}
 
 abbrev pub flow_octets : Addr → Addr → List (List ℕ)
 flow_octets source group = addr_octets source ∷ addr_octets group ∷ []

@@ -2,7 +2,7 @@
 ghost use Rattle.std.specs.Prelude.{◌≡◌, ◌↔◌, ℕ, Bool, true, List, ◌++◌, take, filter};
 ghost use Rattle.std.specs.List.{AllByRecursion};
 ghost use Rattle.mv_base.specs.declared.ids.NodeId.{NodeId};
-ghost use Rattle.scenario_defs.specs.Rules.{Rules, ScriptRules, IsEventOf};
+ghost use Rattle.scenario_defs.specs.Rules.{Rules, Rises, ScriptRules, IsEventOf};
 ghost use Rattle.scenario_defs.specs.declared.event.Event.{Event};
 ghost use Rattle.scenario_defs.specs.declared.event.Script.{Script};
 ghost use Rattle.scenario_defs.specs.declared.event.Timed.{Timed};
@@ -12,12 +12,13 @@ ghost use Rattle.mvpn_model.specs.Once.{Once};
 ghost use Rattle.mvpn_model.specs.Report.{Entry, lines_of, refused_lines};
 ghost use Rattle.mvpn_model.specs.Safe.{Safe};
 ghost use Rattle.network_defs.specs.Costs.{Cores, AreCoresOf};
-ghost use Rattle.network_defs.specs.Run.{Traced, Run, Halts};
+ghost use Rattle.network_defs.specs.Run.{Traced, Run, Halts, report_of};
 ghost use Rattle.network_defs.specs.World.{World};
-ghost use Rattle.network_laws.specs.Honest.{IsSoundEvent};
-ghost use Rattle.network_laws.specs.SoundRun.{SoundRun};
+ghost use Rattle.delivery_laws.specs.network_laws.Honest.{IsSoundEvent};
+ghost use Rattle.delivery_laws.specs.network_laws.SoundRun.{SoundRun};
 ghost use Rattle.run_laws.specs.Octets.{EventHasOctets, ScriptHasOctets};
 ghost use Rattle.run_laws.specs.Plain.{is_plain, plain};
+ghost use Rattle.run_laws.specs.Ready.{ReportsUnready};
 ghost use Rattle.run_laws.specs.Runs.{of_events, RunsOrHalts, RunsInTwo, ReportBegins};
 
 /// An event that a scenario allows is of sound values. So where a script meets its rules, each run of first events of it is one of
@@ -67,4 +68,12 @@ pub fn a_plain_report_says_as_much()
         Safe scenario events refused (plain report) ↔ Safe scenario events refused report }
     ensures once { (scenario : Scenario) (events : List Timed) (refused : List ℕ) (report : List Entry) →
         Once scenario events refused (plain report) ↔ Once scenario events refused report }
+{}
+
+/// The last number of each `state` line of a run is how many sessions are not ready by the events before it alone, where the refused
+/// ones are left out.
+pub fn state_lines_report_unready()
+    ensures { (cores : Cores) (script : Script) (events : List Timed) (trace : List Traced) (new : World) →
+        Rules script.scenario → Rises 0 events → Run cores script events trace new →
+        ReportsUnready script.scenario events (refused_lines (report_of trace)) (report_of trace) }
 {}

@@ -1,1 +1,2 @@
+pub use Rattle.mv_base.proofs as mv_base
 pub mod RuleLemmas

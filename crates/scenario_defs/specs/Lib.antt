@@ -1,3 +1,4 @@
+pub use Rattle.mv_base.specs as mv_base
 pub mod Vpn
 pub mod Home
 pub mod Names

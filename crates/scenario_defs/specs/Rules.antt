@@ -11,11 +11,11 @@ use Rattle.mv_base.specs.declared.prefix.Prefix.{Prefix}
 use Rattle.mv_base.specs.declared.rd.Rd.{Rd}
 use Rattle.mv_base.specs.Address.{same_addr, IsAddr}
 use Rattle.mv_base.specs.Prefix.{IsPrefixOf}
-use Rattle.core_walks.specs.Topology.{IsTopology, IsConnected}
-use Rattle.core_walks.specs.Walks.{IsLinked}
-use Rattle.route_targets.specs.declared.communities.Target.{Target}
-use Rattle.route_targets.specs.Communities.{kind}
-use Rattle.route_targets.specs.Targets.{same_target, same, shares}
+use Rattle.mv_base.specs.core_walks.Topology.{IsTopology, IsConnected}
+use Rattle.mv_base.specs.core_walks.Walks.{IsLinked}
+use Rattle.mv_base.specs.declared.route_targets.communities.Target.{Target}
+use Rattle.mv_base.specs.route_targets.Communities.{kind}
+use Rattle.mv_base.specs.route_targets.Targets.{same_target, same, shares}
 use Rattle.scenario_defs.specs.declared.scenario.Node.{Node}
 use Rattle.scenario_defs.specs.declared.scenario.Vrf.{Vrf}
 use Rattle.scenario_defs.specs.declared.scenario.Site.{Site}

@@ -5,8 +5,8 @@ use Rattle.mv_base.specs.declared.ids.NodeId.{NodeId}
 use Rattle.mv_base.specs.declared.ids.VrfId.{VrfId}
 use Rattle.mv_base.specs.declared.ids.SiteId.{SiteId}
 use Rattle.mv_base.specs.declared.ids.IfaceId.{IfaceId}
-use Rattle.route_targets.specs.Targets.{shares, same}
-use Rattle.route_targets.specs.declared.communities.Target.{Target}
+use Rattle.mv_base.specs.route_targets.Targets.{shares, same}
+use Rattle.mv_base.specs.declared.route_targets.communities.Target.{Target}
 use Rattle.scenario_defs.specs.declared.scenario.Vrf.{Vrf}
 use Rattle.scenario_defs.specs.declared.scenario.Iface.{Iface}
 use Rattle.scenario_defs.specs.declared.scenario.Scenario.{Scenario}

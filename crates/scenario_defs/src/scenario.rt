@@ -1,6 +1,6 @@
 //! The things that a scenario declares.
+use mv_base::route_targets::Targets;
 use mv_base::{Addr, IfaceId, Inline, Link, NodeId, Prefix, Rd, Rule, Seq, SiteId, VrfId};
-use route_targets::Targets;
 
 /// The most octets of a name.
 pub const NAME_LIMIT: usize = 16;

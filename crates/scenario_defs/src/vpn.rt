@@ -3,8 +3,8 @@ ghost use Rattle.std.specs.Prelude.{◌≡◌};
 ghost use Rattle.scenario_defs.specs.Vpn.{targets_of, same_vpn, edge_of};
 
 use crate::Scenario;
+use mv_base::route_targets::{Target, same_members};
 use mv_base::{IfaceId, NodeId, VrfId};
-use route_targets::{Target, same_members};
 
 /// The Route Targets of a VRF, none where there is no such VRF.
 fn targets_of(scenario: &Scenario, vrf: VrfId) -> &[Target]

@@ -10,10 +10,10 @@ use Rattle.mv_base.specs.declared.ids.VrfId.{VrfId}
 use Rattle.mv_base.specs.declared.ids.SiteId.{SiteId}
 use Rattle.mv_base.specs.declared.ids.IfaceId.{IfaceId}
 use Rattle.mv_base.specs.Number.{number_of}
-use Rattle.core_walks.specs.Topology.{JoinsSamePair, IsTopology, IsConnected}
-use Rattle.core_walks.specs.Reached.{is_connected}
-use Rattle.core_walks.proofs.ReachedLemmas.{connected_walks}
-use Rattle.route_targets.specs.Targets.{same_target, same, shares}
+use Rattle.mv_base.specs.core_walks.Topology.{JoinsSamePair, IsTopology, IsConnected}
+use Rattle.mv_base.specs.core_walks.Reached.{is_connected}
+use Rattle.mv_base.proofs.core_walks.ReachedLemmas.{connected_walks}
+use Rattle.mv_base.specs.route_targets.Targets.{same_target, same, shares}
 use Rattle.scenario_defs.specs.declared.scenario.Vrf.{Vrf}
 use Rattle.scenario_defs.specs.declared.scenario.Iface.{Iface}
 use Rattle.scenario_defs.specs.declared.scenario.Scenario.{Scenario}
@@ -25,12 +25,12 @@ use Rattle.line_words.specs.declared.words.Row.{Row}
 use Rattle.line_words.specs.Words.{Placed}
 use Rattle.line_words.proofs.ListFacts.{none_any}
 use Rattle.line_words.specs.Forms.{number_to, or_fault, addr_at, prefixes_at, rule_at, targets_at}
-use Rattle.scenario_draft.specs.declared.setting.Setting.{Setting}
-use Rattle.scenario_draft.specs.Drafted.{Drafted}
-use Rattle.scenario_draft.specs.Settings.{highest, is_given}
-use Rattle.scenario_draft.specs.Naming.{new_name, node_addr_at, node_at, other_end_at, vrf_number_at, rd_at, edge_at, vrf_at, site_at}
-use Rattle.scenario_draft.specs.Declaring.{IsNewName, MayBeNode, MayBeLink, MayBeVrf, MayBeSite, MayBeIface, IsDeclared}
-use Rattle.scenario_draft.proofs.WordFacts.{Meets, Finds, ok_meets, err_meets, bind_meets, if_meets, then_meets, bind_finds, only_finds, or_fault_meets, within, to_limit, node_meets, vrf_meets, site_meets, addr_meets, name_meets, edge_meets, node_addr_meets, vrf_number_meets, rd_meets, rd_formed, targets_formed, other_end_meets, targets_meets, prefixes_meets, below}
+use Rattle.scenario_lines.specs.declared.scenario_draft.setting.Setting.{Setting}
+use Rattle.scenario_lines.specs.scenario_draft.Drafted.{Drafted}
+use Rattle.scenario_lines.specs.scenario_draft.Settings.{highest, is_given}
+use Rattle.scenario_lines.specs.scenario_draft.Naming.{new_name, node_addr_at, node_at, other_end_at, vrf_number_at, rd_at, edge_at, vrf_at, site_at}
+use Rattle.scenario_lines.specs.scenario_draft.Declaring.{IsNewName, MayBeNode, MayBeLink, MayBeVrf, MayBeSite, MayBeIface, IsDeclared}
+use Rattle.scenario_lines.proofs.scenario_draft.WordFacts.{Meets, Finds, ok_meets, err_meets, bind_meets, if_meets, then_meets, bind_finds, only_finds, or_fault_meets, within, to_limit, node_meets, vrf_meets, site_meets, addr_meets, name_meets, edge_meets, node_addr_meets, vrf_number_meets, rd_meets, rd_formed, targets_formed, other_end_meets, targets_meets, prefixes_meets, below}
 use Rattle.scenario_lines.specs.declared.vrf_lines.VrfHead.{VrfHead}
 use Rattle.scenario_lines.specs.declared.vrf_lines.VrfTail.{VrfTail}
 use Rattle.scenario_lines.specs.declared.scenario_lines.ScenarioWord.{ScenarioWord}

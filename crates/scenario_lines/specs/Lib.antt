@@ -3,3 +3,4 @@ pub mod NodeGrammar
 pub mod VrfGrammar
 pub mod SiteGrammar
 pub mod ScenarioGrammar
+pub mod scenario_draft

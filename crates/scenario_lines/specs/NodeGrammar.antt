@@ -7,10 +7,10 @@ use Rattle.line_words.specs.declared.fault.TextFault.{TextFault}
 use Rattle.line_words.specs.declared.words.Row.{Row}
 use Rattle.line_words.specs.Words.{Placed}
 use Rattle.line_words.specs.Forms.{fault, ◌>>=◌, number_to, or_fault}
-use Rattle.scenario_draft.specs.declared.line.Line.{Line}
-use Rattle.scenario_draft.specs.declared.line.Line.TheVariants as says
-use Rattle.scenario_draft.specs.Drafted.{Drafted}
-use Rattle.scenario_draft.specs.Naming.{new_name, node_addr_at, node_at, other_end_at}
+use Rattle.scenario_lines.specs.declared.scenario_draft.line.Line.{Line}
+use Rattle.scenario_lines.specs.declared.scenario_draft.line.Line.TheVariants as says
+use Rattle.scenario_lines.specs.scenario_draft.Drafted.{Drafted}
+use Rattle.scenario_lines.specs.scenario_draft.Naming.{new_name, node_addr_at, node_at, other_end_at}
 
 -- `NAME ADDR` of a node, which is an edge or not
 unfoldable pub node_words : Drafted → Row → Bool → NodeId → Placed → Placed → Result Line TextFault

@@ -1,15 +1,15 @@
 -- The lines of a scenario: what each says, or its first fault.
 use Rattle.std.specs.Prelude.{true, false, nat_eq, List, [], ◌∷◌, length, None, Some, Result, Ok, if◌then◌else◌, codes}
 use Rattle.std.specs.Cmp.Lexicographic.{pointwise}
-use Rattle.core_walks.specs.Reached.{is_connected}
+use Rattle.mv_base.specs.core_walks.Reached.{is_connected}
 use Rattle.line_words.specs.declared.fault.Reason.TheVariants as reasons
 use Rattle.line_words.specs.declared.fault.TextFault.{TextFault}
 use Rattle.line_words.specs.declared.words.Row.{Row}
 use Rattle.line_words.specs.Words.{Placed}
 use Rattle.line_words.specs.Forms.{fault, ◌>>=◌}
-use Rattle.scenario_draft.specs.declared.line.Line.{Line}
-use Rattle.scenario_draft.specs.declared.line.Line.TheVariants as says
-use Rattle.scenario_draft.specs.Drafted.{Drafted}
+use Rattle.scenario_lines.specs.declared.scenario_draft.line.Line.{Line}
+use Rattle.scenario_lines.specs.declared.scenario_draft.line.Line.TheVariants as says
+use Rattle.scenario_lines.specs.scenario_draft.Drafted.{Drafted}
 use Rattle.scenario_lines.specs.declared.scenario_lines.ScenarioWord.{ScenarioWord}
 use Rattle.scenario_lines.specs.declared.scenario_lines.ScenarioWord.TheVariants as word_kinds
 use Rattle.scenario_lines.specs.SettingGrammar.{setting_of, setting_line}

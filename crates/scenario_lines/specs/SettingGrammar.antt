@@ -7,12 +7,12 @@ use Rattle.line_words.specs.declared.fault.TextFault.{TextFault}
 use Rattle.line_words.specs.declared.words.Row.{Row}
 use Rattle.line_words.specs.Words.{Placed}
 use Rattle.line_words.specs.Forms.{fault, ◌>>=◌, or_fault}
-use Rattle.scenario_draft.specs.declared.line.Line.{Line}
-use Rattle.scenario_draft.specs.declared.line.Line.TheVariants as says
-use Rattle.scenario_draft.specs.declared.setting.Setting.{Setting}
-use Rattle.scenario_draft.specs.declared.setting.Setting.TheVariants as settings
-use Rattle.scenario_draft.specs.Drafted.{Drafted}
-use Rattle.scenario_draft.specs.Settings.{highest, is_given}
+use Rattle.scenario_lines.specs.declared.scenario_draft.line.Line.{Line}
+use Rattle.scenario_lines.specs.declared.scenario_draft.line.Line.TheVariants as says
+use Rattle.scenario_lines.specs.declared.scenario_draft.setting.Setting.{Setting}
+use Rattle.scenario_lines.specs.declared.scenario_draft.setting.Setting.TheVariants as settings
+use Rattle.scenario_lines.specs.scenario_draft.Drafted.{Drafted}
+use Rattle.scenario_lines.specs.scenario_draft.Settings.{highest, is_given}
 
 -- the setting whose line begins with the text
 abbrev pub setting_of : List ℕ → Option Setting

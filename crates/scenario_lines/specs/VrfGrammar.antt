@@ -3,18 +3,18 @@ use Rattle.std.specs.Prelude.{◌==◌, ◌&&◌, Bool, not, nat_le, List, [], �
 use Rattle.std.specs.List.{list_any}
 use Rattle.mv_base.specs.declared.ids.NodeId.{NodeId}
 use Rattle.mv_base.specs.declared.ids.VrfId.{VrfId}
-use Rattle.route_targets.specs.declared.communities.Target.{Target}
-use Rattle.route_targets.specs.Targets.{shares, same}
+use Rattle.mv_base.specs.declared.route_targets.communities.Target.{Target}
+use Rattle.mv_base.specs.route_targets.Targets.{shares, same}
 use Rattle.scenario_defs.specs.declared.scenario.Vrf.{Vrf}
 use Rattle.line_words.specs.declared.fault.Reason.TheVariants as reasons
 use Rattle.line_words.specs.declared.fault.TextFault.{TextFault}
 use Rattle.line_words.specs.declared.words.Row.{Row}
 use Rattle.line_words.specs.Words.{Placed}
 use Rattle.line_words.specs.Forms.{fault, ◌>>=◌, targets_at, rule_at}
-use Rattle.scenario_draft.specs.declared.line.Line.{Line}
-use Rattle.scenario_draft.specs.declared.line.Line.TheVariants as says
-use Rattle.scenario_draft.specs.Drafted.{Drafted}
-use Rattle.scenario_draft.specs.Naming.{new_name, edge_at, vrf_number_at, rd_at}
+use Rattle.scenario_lines.specs.declared.scenario_draft.line.Line.{Line}
+use Rattle.scenario_lines.specs.declared.scenario_draft.line.Line.TheVariants as says
+use Rattle.scenario_lines.specs.scenario_draft.Drafted.{Drafted}
+use Rattle.scenario_lines.specs.scenario_draft.Naming.{new_name, edge_at, vrf_number_at, rd_at}
 use Rattle.scenario_lines.specs.declared.vrf_lines.VrfHead.{VrfHead}
 use Rattle.scenario_lines.specs.declared.vrf_lines.VrfTail.{VrfTail}
 

@@ -5,13 +5,14 @@ ghost use Rattle.scenario_lines.specs.VrfGrammar.{overlaps, is_vpn_at};
 ghost use Rattle.scenario_lines.specs.SiteGrammar.{is_mixed, is_taken};
 
 use mv_base::NodeId;
-use route_targets::Targets;
+use mv_base::route_targets::Targets;
 use scenario_defs::{Iface, Scenario, Vrf, prefixes_of, same_vpn, share_prefix};
 
 fn overlaps(targets: &Targets, vrf: &Vrf) -> bool
     ensures { result ≡ overlaps targets.now vrf.now }
 {
-    route_targets::shares(&vrf.targets, targets) && !route_targets::same(&vrf.targets, targets)
+    mv_base::route_targets::shares(&vrf.targets, targets)
+        && !mv_base::route_targets::same(&vrf.targets, targets)
 }
 
 /// Whether some VRF has a member of the set among its targets, and its own set is not equal to it.
@@ -24,7 +25,7 @@ pub fn is_overlap(targets: &Targets, vrfs: &[Vrf]) -> bool
 fn is_vpn_at(edge: NodeId, targets: &Targets, vrf: &Vrf) -> bool
     ensures { result ≡ is_vpn_at edge targets.now vrf.now }
 {
-    vrf.edge.0 == edge.0 && route_targets::same(&vrf.targets, targets)
+    vrf.edge.0 == edge.0 && mv_base::route_targets::same(&vrf.targets, targets)
 }
 
 /// Whether some VRF of that edge has an equal set.

@@ -4,10 +4,10 @@ ghost use Rattle.line_words.specs.Words.{placed_word};
 ghost use Rattle.scenario_lines.specs.NodeGrammar.{node_words, node_counted, is_full, node_line, link_between, link_words};
 ghost use Rattle.scenario_lines.specs.NodeGrammar.{link_counted, link_line};
 
+use crate::scenario_draft::{Draft, Line, new_name, node_addr_at, node_at, other_end_at};
 use line_words::{Reason, Row, TextFault, Word, fault_at, number_to, or_fault};
 use mv_base::{Link, NodeId};
 use scenario_defs::{Node, Scenario};
-use scenario_draft::{Draft, Line, new_name, node_addr_at, node_at, other_end_at};
 
 const NODE_LIMIT: usize = 64;
 

@@ -1,18 +1,18 @@
 //! A line of a scenario, by its first word.
 ghost use Rattle.std.specs.Prelude.{◌≡◌, length, map, IfOk};
-ghost use Rattle.core_walks.specs.Topology.{IsTopology};
-ghost use Rattle.core_walks.specs.Reached.{is_connected};
+ghost use Rattle.mv_base.specs.core_walks.Topology.{IsTopology};
+ghost use Rattle.mv_base.specs.core_walks.Reached.{is_connected};
 ghost use Rattle.line_words.specs.Answers.{Gives};
 ghost use Rattle.line_words.specs.Words.{placed_word};
 ghost use Rattle.scenario_lines.specs.ScenarioGrammar.{scenario_word, events_line, scenario_words, scenario_line};
 
 use crate::node_lines::{link_line, node_line};
+use crate::scenario_draft::{Draft, Line, Setting};
 use crate::setting_lines::{setting_line, setting_of};
 use crate::site_lines::{iface_line, site_line};
 use crate::vrf_lines::vrf_line;
-use core_walks::is_connected;
 use line_words::{ReadFault, Reason, Row, TextFault, Word, fault_at};
-use scenario_draft::{Draft, Line, Setting};
+use mv_base::core_walks::is_connected;
 use std::alloc::Global;
 
 /// What the first word of a line begins.

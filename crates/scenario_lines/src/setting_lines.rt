@@ -3,9 +3,9 @@ ghost use Rattle.std.specs.Prelude.{◌≡◌, map};
 ghost use Rattle.line_words.specs.Words.{placed_word};
 ghost use Rattle.scenario_lines.specs.SettingGrammar.{setting_of, value_of, setting_words, setting_line};
 
+use crate::scenario_draft::{Draft, Line, Setting};
 use line_words::{Reason, Row, TextFault, Word, fault_at, or_fault};
 use mv_base::read_number;
-use scenario_draft::{Draft, Line, Setting};
 
 /// The setting whose line begins with the text.
 pub fn setting_of(text: &[u8]) -> Option<Setting>

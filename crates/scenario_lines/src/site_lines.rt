@@ -6,10 +6,10 @@ ghost use Rattle.scenario_lines.specs.SiteGrammar.{site_words, site_counted, sit
 ghost use Rattle.scenario_lines.specs.SiteGrammar.{iface_counted, iface_line};
 
 use crate::lists::{is_any_mixed, is_any_taken};
+use crate::scenario_draft::{Draft, Line, new_name, site_at, vrf_at};
 use line_words::{ReadFault, Reason, Row, TextFault, Word, addr_at, fault_at, prefixes_at};
 use mv_base::{IfaceId, SiteId};
 use scenario_defs::{Iface, Site};
-use scenario_draft::{Draft, Line, new_name, site_at, vrf_at};
 use std::alloc::Global;
 
 const SITE_LIMIT: usize = 512;

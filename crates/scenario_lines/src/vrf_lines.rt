@@ -5,11 +5,11 @@ ghost use Rattle.line_words.specs.Words.{placed_word};
 ghost use Rattle.scenario_lines.specs.VrfGrammar.{vrf_head, vrf_tail, vrf_rules, vrf_words, vrf_counted, vrf_line};
 
 use crate::lists::{is_overlap, is_vpn_taken};
+use crate::scenario_draft::{Draft, Line, edge_at, new_name, rd_at, vrf_number_at};
 use line_words::{ReadFault, Reason, Row, TextFault, Word, fault_at, rule_at, targets_at};
+use mv_base::route_targets::Targets;
 use mv_base::{NodeId, Rd, Rule, VrfId};
-use route_targets::Targets;
 use scenario_defs::{Name, Vrf};
-use scenario_draft::{Draft, Line, edge_at, new_name, rd_at, vrf_number_at};
 use std::alloc::Global;
 
 const VRF_LIMIT: usize = 256;

@@ -7,9 +7,9 @@ use Rattle.scenario_defs.specs.declared.event.Script.{Script}
 use Rattle.line_words.specs.declared.fault.TextFault.{TextFault}
 use Rattle.line_words.specs.declared.fault.Reason.TheVariants as reasons
 use Rattle.line_words.specs.Forms.{◌>>=◌}
-use Rattle.scenario_draft.specs.declared.line.Line.{Line}
-use Rattle.scenario_draft.specs.Drafted.{Drafted}
-use Rattle.scenario_draft.specs.Adding.{added, empty_draft}
+use Rattle.scenario_lines.specs.declared.scenario_draft.line.Line.{Line}
+use Rattle.scenario_lines.specs.scenario_draft.Drafted.{Drafted}
+use Rattle.scenario_lines.specs.scenario_draft.Adding.{added, empty_draft}
 use Rattle.scenario_text.specs.Grammar.{line_of, script_at, script_of, script_from}
 use Rattle.scenario_text.specs.Faults.{Says, SaysScript, FirstFault, IsFaultyAt}
 

@@ -3,20 +3,20 @@ use Rattle.std.proofs.Common.{◌≡◌, ℕ, ◌+◌, ◌≤◌, ◌==◌, ◌�
 use Rattle.std.specs.Prelude.{Result, Ok, Err}
 use Rattle.std.specs.List.{AllByRecursion, slice_split}
 use Rattle.std.proofs.lemmas.Bool.Decides.{nat_tests}
-use Rattle.core_walks.specs.Topology.{IsTopology}
+use Rattle.mv_base.specs.core_walks.Topology.{IsTopology}
 use Rattle.line_words.specs.declared.fault.TextFault.{TextFault}
 use Rattle.line_words.specs.declared.words.Row.{Row}
 use Rattle.line_words.specs.Words.{Placed, placed, words_of}
 use Rattle.line_words.proofs.WordsLemmas.{total, total-slice_split}
-use Rattle.scenario_draft.specs.declared.line.Line.{Line}
-use Rattle.scenario_draft.specs.declared.line.Line.TheVariants as says
-use Rattle.scenario_draft.specs.Drafted.{Drafted}
-use Rattle.scenario_draft.specs.Adding.{IsNew}
-use Rattle.scenario_draft.specs.Declaring.{IsDeclared}
-use Rattle.scenario_draft.proofs.WordFacts.{Meets, ok_meets, err_meets, if_meets}
+use Rattle.scenario_lines.specs.declared.scenario_draft.line.Line.{Line}
+use Rattle.scenario_lines.specs.declared.scenario_draft.line.Line.TheVariants as says
+use Rattle.scenario_lines.specs.scenario_draft.Drafted.{Drafted}
+use Rattle.scenario_lines.specs.scenario_draft.Adding.{IsNew}
+use Rattle.scenario_lines.specs.scenario_draft.Declaring.{IsDeclared}
+use Rattle.scenario_lines.proofs.scenario_draft.WordFacts.{Meets, ok_meets, err_meets, if_meets}
 use Rattle.scenario_lines.proofs.LineFacts.{scenario_line_meets}
-use Rattle.event_lines.proofs.RuleFacts.{IsTold}
-use Rattle.event_lines.proofs.EventFacts.{IsToldBelow, event_line_meets}
+use Rattle.scenario_text.proofs.event_lines.RuleFacts.{IsTold}
+use Rattle.scenario_text.proofs.event_lines.EventFacts.{IsToldBelow, event_line_meets}
 use Rattle.scenario_text.specs.Grammar.{row_of, words_line, line_of}
 
 -- The nodes and links so far are a topology.

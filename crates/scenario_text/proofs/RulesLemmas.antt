@@ -2,16 +2,16 @@
 use Rattle.std.proofs.Common.{◌≡◌, ℕ, ◌+◌, ◌<◌, ◌≤◌, inl, inr, true, false, List, [], ◌∷◌, ◌++◌, length, refl, sym, subst, ◌∙◌, arith, length-append}
 use Rattle.std.specs.Prelude.{Ok}
 use Rattle.std.specs.List.{AllByRecursion}
-use Rattle.core_walks.specs.Topology.{IsConnected}
+use Rattle.mv_base.specs.core_walks.Topology.{IsConnected}
 use Rattle.scenario_defs.specs.declared.event.Timed.{Timed}
 use Rattle.scenario_defs.specs.Rules.{ScriptRules, Rises, IsEventOf}
-use Rattle.scenario_draft.specs.declared.line.Line.{Line}
-use Rattle.scenario_draft.specs.declared.line.Line.TheVariants as says
-use Rattle.scenario_draft.specs.Drafted.{Drafted}
-use Rattle.scenario_draft.specs.Adding.{added, empty_draft}
-use Rattle.scenario_draft.specs.Declaring.{IsDeclared}
-use Rattle.scenario_draft.proofs.KeptRules.{Kept, kept_empty, kept_added, kept_told, rules_of_kept}
-use Rattle.event_lines.proofs.EventFacts.{IsToldBelow}
+use Rattle.scenario_lines.specs.declared.scenario_draft.line.Line.{Line}
+use Rattle.scenario_lines.specs.declared.scenario_draft.line.Line.TheVariants as says
+use Rattle.scenario_lines.specs.scenario_draft.Drafted.{Drafted}
+use Rattle.scenario_lines.specs.scenario_draft.Adding.{added, empty_draft}
+use Rattle.scenario_lines.specs.scenario_draft.Declaring.{IsDeclared}
+use Rattle.scenario_lines.proofs.scenario_draft.KeptRules.{Kept, kept_empty, kept_added, kept_told, rules_of_kept}
+use Rattle.scenario_text.proofs.event_lines.EventFacts.{IsToldBelow}
 use Rattle.scenario_text.specs.Grammar.{line_of, script_at}
 use Rattle.scenario_text.proofs.LineMeets.{IsSaid, IsSound, line_meets}
 

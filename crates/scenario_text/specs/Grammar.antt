@@ -9,12 +9,12 @@ use Rattle.line_words.specs.declared.fault.TextFault.{TextFault}
 use Rattle.line_words.specs.declared.words.Row.{Row}
 use Rattle.line_words.specs.Words.{Placed, words_of}
 use Rattle.line_words.specs.Forms.{fault, ◌>>=◌}
-use Rattle.scenario_draft.specs.declared.line.Line.{Line}
-use Rattle.scenario_draft.specs.declared.line.Line.TheVariants as says
-use Rattle.scenario_draft.specs.Drafted.{Drafted}
-use Rattle.scenario_draft.specs.Adding.{added, empty_draft}
+use Rattle.scenario_lines.specs.declared.scenario_draft.line.Line.{Line}
+use Rattle.scenario_lines.specs.declared.scenario_draft.line.Line.TheVariants as says
+use Rattle.scenario_lines.specs.scenario_draft.Drafted.{Drafted}
+use Rattle.scenario_lines.specs.scenario_draft.Adding.{added, empty_draft}
 use Rattle.scenario_lines.specs.ScenarioGrammar.{scenario_line}
-use Rattle.event_lines.specs.EventGrammar.{event_line}
+use Rattle.scenario_text.specs.event_lines.EventGrammar.{event_line}
 
 -- whether the octet is none from a space to a tilde
 abbrev pub is_outside : ℕ → Bool

@@ -1,2 +1,3 @@
 pub mod Grammar
 pub mod Faults
+pub mod event_lines

@@ -1,16 +1,16 @@
 //! Reads a text.
 ghost use Rattle.std.specs.Prelude.{◌≡◌, ◌==◌, ◌≤◌, length, map, position, IfOk};
 ghost use Rattle.std.specs.List.{list_all};
-ghost use Rattle.core_walks.specs.Topology.{IsTopology};
+ghost use Rattle.mv_base.specs.core_walks.Topology.{IsTopology};
 ghost use Rattle.scenario_defs.specs.Rules.{ScriptRules};
 ghost use Rattle.line_words.specs.Answers.{Gives};
 ghost use Rattle.line_words.specs.Words.{placed_word};
 ghost use Rattle.scenario_text.specs.Grammar.{is_outside, is_blank, row_of, words_line, line_of, script_of};
 
-use event_lines::event_line;
+use crate::event_lines::event_line;
 use line_words::{ReadFault, Reason, Row, TEXT_LIMIT, Word, fault_at, split_line, words_of};
 use scenario_defs::Script;
-use scenario_draft::{Draft, Line};
+use scenario_lines::scenario_draft::{Draft, Line};
 use scenario_lines::scenario_line;
 use std::alloc::Global;
 

@@ -12,7 +12,7 @@ use Rattle.std.specs.FinMap.{entries}
 use Rattle.std.specs.declared.cmp.Ordering.{Ordering}
 use Rattle.std.specs.declared.cmp.Ordering.TheVariants.{Less, Equal, Greater}
 use Rattle.std.proofs.lemmas.Bool.{and_parts, eqb-true}
-use Rattle.mldp_fec.specs.declared.fec.Fec.{Fec}
+use Rattle.selective_defs.specs.mldp.declared.mldp_fec.fec.Fec.{Fec}
 use Rattle.mv_base.specs.Address.{same_addr}
 use Rattle.mv_base.specs.Pattern.{rank, rank_of}
 use Rattle.mv_base.specs.declared.addr.Addr.{Addr}

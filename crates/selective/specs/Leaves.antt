@@ -12,7 +12,7 @@ use Rattle.mv_base.specs.declared.addr.Addr.{Addr}
 use Rattle.mv_base.specs.declared.ids.NodeId.{NodeId}
 use Rattle.mv_base.specs.declared.pattern.Pattern.{Pattern}
 use Rattle.mv_base.specs.declared.rd.Rd.{Rd}
-use Rattle.mldp_fec.specs.declared.fec.Fec.{Fec}
+use Rattle.selective_defs.specs.mldp.declared.mldp_fec.fec.Fec.{Fec}
 use Rattle.selective_defs.specs.Selective.{Among}
 use Rattle.selective_defs.specs.declared.learned_route.LearnedRoute.{LearnedRoute}
 use Rattle.selective.specs.declared.route_key.Learned.{Learned}

@@ -9,8 +9,8 @@ ghost use Rattle.selective.specs.Leaves.{routes_at, routes_run, run_due, until_r
 
 use crate::delay::is_due;
 use crate::route_key::{Learned, Place, RouteKey};
-use mldp_fec::Fec;
 use mv_base::{Addr, NoMemory, NodeId, Pattern, Rd, Seq};
+use selective_defs::of_mldp::mldp_fec::Fec;
 use std::alloc::Global;
 use std::collections::BTreeMap;
 use std::marker::Model;

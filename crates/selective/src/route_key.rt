@@ -6,8 +6,8 @@ ghost use Rattle.std.specs.Cmp.{partial_equiv_from_equiv, eq_by_cmp_equiv, parti
 ghost use Rattle.selective_defs.specs.Parts.{addr_key, word_part};
 ghost use Rattle.selective.specs.Order.{place_part, route_cmp, route_total};
 
-use mldp_fec::Fec;
 use mv_base::{Addr, NodeId, Pattern, Rd};
+use selective_defs::of_mldp::mldp_fec::Fec;
 use std::cmp::Ordering;
 
 /// Where a route stands among those of its peer and pattern: by its route distinguisher, between the two ends.

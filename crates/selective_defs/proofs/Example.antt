@@ -1,9 +1,9 @@
 -- The worked example.
 use Rattle.std.proofs.Common.{◌≡◌, ◌≤◌, true, false, inl, inr, Some, is_some, refl, sym, ap, ◌∙◌, arith}
-use Rattle.mv_base.specs.Address.{same_addr, same_addr_equiv}
-use Rattle.mv_base.specs.declared.addr.Addr.{Addr}
-use Rattle.mv_base.specs.declared.pattern.Pattern.{Pattern}
-use Rattle.mldp_fec.specs.declared.fec.Fec.{Fec}
+use Rattle.mldp.specs.mv_base.Address.{same_addr, same_addr_equiv}
+use Rattle.mldp.specs.mv_base.declared.addr.Addr.{Addr}
+use Rattle.mldp.specs.mv_base.declared.pattern.Pattern.{Pattern}
+use Rattle.mldp.specs.declared.mldp_fec.fec.Fec.{Fec}
 use Rattle.selective_defs.specs.declared.learned_route.LearnedRoute.{LearnedRoute}
 use Rattle.selective_defs.specs.declared.selection.Selection.{Selection}
 use Rattle.selective_defs.specs.Selective.{Among, IsDue, transmitted, wanted, AreDistinct, InStep}

@@ -1,7 +1,7 @@
 -- Addresses and words are told apart by their parts: each is what is read back from them.
 use Rattle.std.proofs.Common.{◌≡◌, ℕ, ◌==◌, cond, List, [], ◌∷◌, Option, Some, None, refl, sym, ap, ◌∙◌}
-use Rattle.mv_base.specs.declared.addr.Addr.{Addr}
-use Rattle.mv_base.specs.declared.addr.Addr.TheVariants.{V4, V6}
+use Rattle.mldp.specs.mv_base.declared.addr.Addr.{Addr}
+use Rattle.mldp.specs.mv_base.declared.addr.Addr.TheVariants.{V4, V6}
 use Rattle.selective_defs.specs.Parts.{addr_key, word_part}
 
 abbrev pub first : List ℕ → ℕ

@@ -2,10 +2,10 @@
 use Rattle.std.proofs.Common.{◌≡◌, Bool, true, false, ◌&&◌, inl, inr, Option, Some, None, is_some, refl, sym, ap, ◌∙◌, arith}
 use Rattle.std.proofs.lemmas.Bool.{and_parts}
 use Rattle.std.proofs.lemmas.Option.{same_Some}
-use Rattle.mv_base.specs.Address.{same_addr, same_addr_equal, same_addr_equiv}
-use Rattle.mv_base.specs.Pattern.{rank, rank_of}
-use Rattle.mv_base.specs.declared.addr.Addr.{Addr}
-use Rattle.mv_base.specs.declared.pattern.Pattern.{Pattern}
+use Rattle.mldp.specs.mv_base.Address.{same_addr, same_addr_equal, same_addr_equiv}
+use Rattle.mldp.specs.mv_base.Pattern.{rank, rank_of}
+use Rattle.mldp.specs.mv_base.declared.addr.Addr.{Addr}
+use Rattle.mldp.specs.mv_base.declared.pattern.Pattern.{Pattern}
 use Rattle.selective_defs.specs.Selective.{allows, Allows, matches, Matches}
 
 pub both_true : (a b : Bool) → a ≡ true → b ≡ true → (a && b) ≡ true

@@ -1,8 +1,8 @@
 -- What a root transmits on.
 use Rattle.std.proofs.Common.{◌≡◌, ◌<◌, ◌≤◌, nat_lt, Bool, true, false, ◌↔◌, inl, inr, List, [], ◌∷◌, Option, Some, None, refl, sym, ap, subst, ◌∙◌, arith, cond}
 use Rattle.std.proofs.lemmas.Bool.{cases_Bool, and_parts, ltb-true, ltb-false}
-use Rattle.mv_base.specs.Pattern.{rank}
-use Rattle.mv_base.specs.declared.addr.Addr.{Addr}
+use Rattle.mldp.specs.mv_base.Pattern.{rank}
+use Rattle.mldp.specs.mv_base.declared.addr.Addr.{Addr}
 use Rattle.selective_defs.specs.declared.selection.Selection.{Selection}
 use Rattle.selective_defs.specs.Selective.{Among, matches, Matches, is_ready, chosen, transmitted, IsTransmitted, AreDistinct}
 use Rattle.selective_defs.proofs.PatternLemmas.{both_true, opposite, matched, matching, one_pattern}

@@ -2,9 +2,9 @@
 use Rattle.std.proofs.Common.{◌≡◌, ℕ, ◌+◌, ◌<◌, ◌≤◌, ◌&&◌, ◌||◌, not, nat_lt, Bool, true, false, ◌↔◌, inl, inr, List, [], ◌∷◌, Some, refl, sym, ap, subst, ◌∙◌, arith, cond}
 use Rattle.std.specs.List.{filter, list_any}
 use Rattle.std.proofs.lemmas.Bool.{cases_Bool, and_parts, ltb-true, lt-ltb}
-use Rattle.mv_base.specs.Pattern.{rank}
-use Rattle.mv_base.specs.declared.addr.Addr.{Addr}
-use Rattle.mv_base.specs.declared.pattern.Pattern.{Pattern}
+use Rattle.mldp.specs.mv_base.Pattern.{rank}
+use Rattle.mldp.specs.mv_base.declared.addr.Addr.{Addr}
+use Rattle.mldp.specs.mv_base.declared.pattern.Pattern.{Pattern}
 use Rattle.selective_defs.specs.declared.learned_route.LearnedRoute.{LearnedRoute}
 use Rattle.selective_defs.specs.declared.selection.Selection.{Selection}
 use Rattle.selective_defs.specs.Selective.{Among, matches, Matches, transmitted, overtakes, is_wanted, wanted, IsWanted, InStep}

@@ -1,8 +1,8 @@
 -- A root that has selected a flow of a source on its own, and an egress, before the delay of that selection is due.
 use Rattle.std.specs.Prelude.{◌≡◌, List, [], ◌∷◌, None, Some, true, false}
-use Rattle.mldp_fec.specs.declared.fec.Fec.{Fec}
-use Rattle.mv_base.specs.declared.addr.Addr.{Addr}
-use Rattle.mv_base.specs.declared.pattern.Pattern.{Pattern}
+use Rattle.mldp.specs.declared.mldp_fec.fec.Fec.{Fec}
+use Rattle.mldp.specs.mv_base.declared.addr.Addr.{Addr}
+use Rattle.mldp.specs.mv_base.declared.pattern.Pattern.{Pattern}
 use Rattle.selective_defs.specs.declared.learned_route.LearnedRoute.{LearnedRoute}
 use Rattle.selective_defs.specs.declared.selection.Selection.{Selection}
 use Rattle.selective_defs.specs.Selective.{transmitted, wanted, AreDistinct, InStep}

@@ -1,7 +1,7 @@
 -- The words of patterns as lists of numbers by which keys are ordered.
 use Rattle.std.specs.Prelude.{ℕ, List, [], Option, None, Some}
-use Rattle.mv_base.specs.declared.addr.Addr.{Addr}
-pub use Rattle.mv_base.specs.Address.{addr_key}
+use Rattle.mldp.specs.mv_base.declared.addr.Addr.{Addr}
+pub use Rattle.mldp.specs.mv_base.Address.{addr_key}
 
 -- None is the wildcard
 abbrev pub word_part : Option Addr → List ℕ

@@ -2,11 +2,11 @@
 use Rattle.std.specs.Prelude.{◌≡◌, ◌≢◌, ℕ, zero, suc, ◌+◌, ◌<◌, ◌≤◌, ◌==◌, ◌&&◌, ◌⊎◌, Bool, true, false}
 use Rattle.std.specs.Prelude.{not, nat_lt, List, [], ◌∷◌, length, Option, None, Some, if◌then◌else◌}
 use Rattle.std.specs.List.{filter, list_any}
-pub use Rattle.mv_base.specs.Lists.{Among}
-use Rattle.mv_base.specs.Address.{same_addr}
-use Rattle.mv_base.specs.Pattern.{rank}
-use Rattle.mv_base.specs.declared.addr.Addr.{Addr}
-use Rattle.mv_base.specs.declared.pattern.Pattern.{Pattern}
+pub use Rattle.mldp.specs.mv_base.Lists.{Among}
+use Rattle.mldp.specs.mv_base.Address.{same_addr}
+use Rattle.mldp.specs.mv_base.Pattern.{rank}
+use Rattle.mldp.specs.mv_base.declared.addr.Addr.{Addr}
+use Rattle.mldp.specs.mv_base.declared.pattern.Pattern.{Pattern}
 use Rattle.selective_defs.specs.declared.learned_route.LearnedRoute.{LearnedRoute}
 use Rattle.selective_defs.specs.declared.selection.Selection.{Selection}
 

@@ -1,7 +1,7 @@
 //! Laws of selective tunnels.
 ghost use Rattle.std.specs.Prelude.{◌≡◌, ℕ, ◌+◌, ◌≤◌, ◌↔◌, Bool, true, false, List, length, None, Some};
-ghost use Rattle.mv_base.specs.declared.addr.Addr.{Addr};
-ghost use Rattle.mldp_fec.specs.declared.fec.Fec.{Fec};
+ghost use Rattle.mldp.specs.mv_base.declared.addr.Addr.{Addr};
+ghost use Rattle.mldp.specs.declared.mldp_fec.fec.Fec.{Fec};
 ghost use Rattle.selective_defs.specs.declared.learned_route.LearnedRoute.{LearnedRoute};
 ghost use Rattle.selective_defs.specs.declared.selection.Selection.{Selection};
 ghost use Rattle.selective_defs.specs.Selective.{Among, Matches, free_number, IsLeastUnused, next_number, IsLeastNumber};

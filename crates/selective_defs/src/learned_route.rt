@@ -1,6 +1,6 @@
 //! Routes that an egress learned.
-use mldp_fec::Fec;
-use mv_base::Pattern;
+use mldp::mldp_fec::Fec;
+use mldp::of_mv_base::Pattern;
 
 /// A route of a root for a selective tunnel, as an egress learned it.
 #[derive(Clone, Copy, PartialEq, Eq)]

@@ -1,5 +1,5 @@
 //! Selections of a root.
-use mv_base::Pattern;
+use mldp::of_mv_base::Pattern;
 
 /// A selection of a root: the flows that match the pattern are to go on a tunnel of their own.
 #[derive(Clone, Copy, PartialEq, Eq)]

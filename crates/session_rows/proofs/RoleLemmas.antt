@@ -5,9 +5,9 @@ use Rattle.std.proofs.lemmas.Bool.{eqb-true}
 use Rattle.mv_base.specs.Lists.{Among}
 use Rattle.mv_base.specs.declared.ids.NodeId.{NodeId}
 use Rattle.edge_defs.specs.Place as places
-use Rattle.edge_home.specs.Home.{AreOwn, Home, as_own}
-use Rattle.edge_home.specs.declared.own_vrf.OwnVrf.{OwnVrf}
-use Rattle.control_laws.proofs.Parts.{no_core}
+use Rattle.edge_routes.specs.edge_home.Home.{AreOwn, Home, as_own}
+use Rattle.edge_routes.specs.declared.edge_home.own_vrf.OwnVrf.{OwnVrf}
+use Rattle.edge_core.proofs.control_laws.Parts.{no_core}
 use Rattle.edge_control.specs.Places.{vrfs_of}
 
 any_mapped : (test : places.OwnVrf → Bool) (xs : List OwnVrf) → list_any test (map as_own xs) ≡ list_any (λ own. test (as_own own)) xs

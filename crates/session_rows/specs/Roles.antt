@@ -4,7 +4,7 @@ use Rattle.mv_base.specs.Lists.{Among}
 use Rattle.mv_base.specs.declared.ids.IfaceId.{IfaceId}
 use Rattle.mv_base.specs.declared.ids.NodeId.{NodeId}
 use Rattle.mv_base.specs.declared.ids.VrfId.{VrfId}
-use Rattle.edge_home.specs.Home.{Home, peers_of}
+use Rattle.edge_routes.specs.edge_home.Home.{Home, peers_of}
 use Rattle.edge_control.specs.Places.{is_own_iface, is_own_vrf}
 
 -- the node is another edge, and the VRF and the interface are of the edge

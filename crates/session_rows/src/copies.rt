@@ -3,7 +3,7 @@ use crate::joins::JOIN;
 use crate::queries::DATAGRAM;
 use crate::two_edges::{EdgeInCore, first_edge, meet, second_edge};
 use label_forwarding::read_packet;
-use mldp_fec::{Fec, FecKind, Opaque};
+use mldp::mldp_fec::{Fec, FecKind, Opaque};
 use mv_base::{Addr, IfaceId};
 use std::alloc::Global;
 use std::test::*;

@@ -1,8 +1,8 @@
 //! A fault of a session: octets in which no BGP message stands (RFC 4271 section 4.1).
 use crate::two_edges::{E2, EdgeInCore, first_edge, second_edge};
-use bgp_update::StreamFault;
+use bgp_messages::bgp_update::StreamFault;
 use edge_core::EdgeFault;
-use edge_streams::SessionReason;
+use edge_core::of_edge_streams::SessionReason;
 use mv_base::Bytes;
 use std::process::Abort;
 use std::test::*;

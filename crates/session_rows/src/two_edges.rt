@@ -2,21 +2,21 @@
 ghost use Rattle.std.specs.Prelude.{◌≡◌, ◌==◌, true, length, IfSome};
 ghost use Rattle.std.specs.List.{list_any};
 ghost use Rattle.mv_base.specs.Lists.{Among};
-ghost use Rattle.core_walks.specs.Topology.{IsTopology};
+ghost use Rattle.mv_base.specs.core_walks.Topology.{IsTopology};
 ghost use Rattle.scenario_defs.specs.Rules.{IsEdge, Rules};
-ghost use Rattle.bgp_update.specs.Written.{afi_of};
-ghost use Rattle.mvpn_nlri.specs.Spelling.{IsAnyOr, IsGroup};
+ghost use Rattle.bgp_messages.specs.bgp_update.Written.{afi_of};
+ghost use Rattle.bgp_values.specs.mvpn_nlri.Spelling.{IsAnyOr, IsGroup};
 ghost use Rattle.edge_defs.specs.Originated.{afi_by, is_iface_of};
-ghost use Rattle.edge_home.specs.Home.{home_of as home_in, peers_of};
+ghost use Rattle.edge_routes.specs.edge_home.Home.{home_of as home_in, peers_of};
 ghost use Rattle.edge_control.specs.Places.{is_own_iface, is_own_vrf};
 ghost use Rattle.edge_core.specs.State.{home_of};
 ghost use Rattle.session_rows.specs.Roles.{IsRole};
 
 use core_paths::Core;
 use edge_core::{Edge, EdgeFault, Fate};
-use edge_home::{EdgeHome, OwnVrf};
+use edge_routes::edge_home::{EdgeHome, OwnVrf};
 use label_forwarding::Datagram;
-use mldp_fec::Fec;
+use mldp::mldp_fec::Fec;
 use mv_base::{Addr, Bytes, IfaceId, NodeId, Pattern, SiteId, VrfId};
 use scenario_defs::{Kind, Scenario};
 use scenario_text::read;

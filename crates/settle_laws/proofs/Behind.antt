@@ -7,7 +7,7 @@ use Rattle.scenario_defs.specs.declared.event.Event.TheVariants as events
 use Rattle.scenario_defs.specs.declared.event.Timed.{Timed}
 use Rattle.scenario_defs.specs.declared.report.ReportLine.TheVariants as lines
 use Rattle.scenario_defs.specs.declared.scenario.Scenario.{Scenario}
-use Rattle.session_defs.specs.Octets.{OctetNetwork}
+use Rattle.network_defs.specs.session_defs.Octets.{OctetNetwork}
 use Rattle.scenario_defs.specs.declared.event.Script.{Script}
 use Rattle.network_defs.specs.Costs.{Cores, AreCoresOf}
 use Rattle.network_laws.specs.SoundRun.{SoundRun}

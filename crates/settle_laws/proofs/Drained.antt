@@ -8,8 +8,8 @@ use Rattle.label_defs.proofs.KeyLemmas.{node_equal, node_itself}
 use Rattle.scenario_defs.specs.declared.event.Event.TheVariants as events
 use Rattle.scenario_defs.specs.declared.scenario.Scenario.{Scenario}
 use Rattle.selective_defs.specs.Selective.{Among}
-use Rattle.session_defs.specs.Octets.{OctetNetwork}
-use Rattle.calm_laws.proofs.Lists.{any_from}
+use Rattle.network_defs.specs.session_defs.Octets.{OctetNetwork}
+use Rattle.edge_words.proofs.calm_laws.Lists.{any_from}
 use Rattle.network_defs.specs.Acts.{Act, Land, copy_on, with_branches, datagram_at, fate_at, landed, without_copy, landing, act}
 use Rattle.network_defs.specs.Counts.{link_ways}
 use Rattle.network_defs.specs.Events.{Happened, Done, one_act, row, times, landings, drain_round, drained}

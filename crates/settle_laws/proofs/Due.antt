@@ -11,11 +11,11 @@ use Rattle.pim_defs.specs.Expiry.{is_after, counts}
 use Rattle.pim_defs.specs.declared.expiry.Expiry.{Expiry}
 use Rattle.pim_defs.proofs.KeyLemmas.{entry_cmp_total, entry_cmp_exact}
 use Rattle.scenario_defs.specs.declared.event.IfaceEntry.{IfaceEntry}
-use Rattle.bgp_attributes.specs.declared.key.Key.{Key}
-use Rattle.bgp_attributes.specs.declared.update.Change.{Change}
-use Rattle.bgp_attributes.specs.declared.update.Change.TheVariants as updates
-use Rattle.bgp_attributes.specs.declared.update.Message.{Message}
-use Rattle.bgp_update.specs.Table.{changes_of}
+use Rattle.bgp_messages.specs.declared.bgp_attributes.key.Key.{Key}
+use Rattle.bgp_messages.specs.declared.bgp_attributes.update.Change.{Change}
+use Rattle.bgp_messages.specs.declared.bgp_attributes.update.Change.TheVariants as updates
+use Rattle.bgp_messages.specs.declared.bgp_attributes.update.Message.{Message}
+use Rattle.bgp_messages.specs.bgp_update.Table.{changes_of}
 use Rattle.label_defs.specs.Keys.{node_cmp}
 use Rattle.label_defs.proofs.KeyLemmas.{node_cmp_total, node_cmp_exact}
 use Rattle.selective_defs.specs.Selective.{Among}
@@ -28,8 +28,8 @@ use Rattle.edge_defs.specs.Place.{EdgePlace, OwnVrf, addr_of, own_vrfs}
 use Rattle.edge_defs.specs.Steps as steps
 use Rattle.edge_defs.specs.Steps.{learned, taken_change, with_update, selection_run, selections_run, is_imported, route_run, taken_run, peers_run, control_step, refreshed}
 use Rattle.edge_defs.proofs.KeyLemmas.{key_total, key_exact, pattern_total, pattern_exact}
-use Rattle.calm_laws.proofs.Lists.{map_among}
-use Rattle.calm_laws.proofs.Maps.{entry_get, found_stands}
+use Rattle.edge_words.proofs.calm_laws.Lists.{map_among}
+use Rattle.edge_words.proofs.calm_laws.Maps.{entry_get, found_stands}
 use Rattle.settle_laws.proofs.LabelsDue.{sum_zero, count_zero}
 
 -- ---- what is not due

@@ -12,17 +12,17 @@ use Rattle.mv_base.specs.declared.addr.Addr.TheVariants.{V4}
 use Rattle.mv_base.specs.declared.ids.NodeId.{NodeId}
 use Rattle.mv_base.specs.declared.prefix.Prefix.{Prefix}
 use Rattle.mv_base.specs.declared.rd.Rd.{Rd}
-use Rattle.mvpn_nlri.specs.declared.route.Afi.TheVariants.{Ipv4, Ipv6}
-use Rattle.mvpn_nlri.specs.declared.route.Route.TheVariants as routes
-use Rattle.bgp_attributes.specs.declared.key.Key.{Key}
-use Rattle.bgp_attributes.specs.declared.key.Key.TheVariants.{Mcast, Unicast}
-use Rattle.bgp_attributes.specs.declared.update.Change.{Change}
-use Rattle.bgp_attributes.specs.declared.update.Change.TheVariants as updates
-use Rattle.bgp_attributes.specs.declared.update.Message.{Message}
-use Rattle.bgp_update.specs.Table.{key_of, changes_of}
+use Rattle.bgp_values.specs.declared.mvpn_nlri.route.Afi.TheVariants.{Ipv4, Ipv6}
+use Rattle.bgp_values.specs.declared.mvpn_nlri.route.Route.TheVariants as routes
+use Rattle.bgp_messages.specs.declared.bgp_attributes.key.Key.{Key}
+use Rattle.bgp_messages.specs.declared.bgp_attributes.key.Key.TheVariants.{Mcast, Unicast}
+use Rattle.bgp_messages.specs.declared.bgp_attributes.update.Change.{Change}
+use Rattle.bgp_messages.specs.declared.bgp_attributes.update.Change.TheVariants as updates
+use Rattle.bgp_messages.specs.declared.bgp_attributes.update.Message.{Message}
+use Rattle.bgp_messages.specs.bgp_update.Table.{key_of, changes_of}
 use Rattle.label_defs.specs.Keys.{node_cmp}
 use Rattle.label_defs.proofs.KeyLemmas.{node_cmp_total, node_cmp_exact}
-use Rattle.table_defs.specs.Changes.{changes}
+use Rattle.mv_base.specs.table_defs.Changes.{changes}
 use Rattle.table_laws.proofs.CompareLemmas.{one_key, other_key}
 use Rattle.table_laws.proofs.OrderLemmas.{none_are}
 use Rattle.choice_defs.specs.Choice.{best_route, of_site}
@@ -34,7 +34,7 @@ use Rattle.pim_defs.specs.Entries.{asks}
 use Rattle.scenario_defs.specs.Home.{local_routes}
 use Rattle.selective_defs.specs.Selective.{wanted}
 use Rattle.selective_defs.specs.declared.learned_route.LearnedRoute.{LearnedRoute}
-use Rattle.mldp_msgs.specs.declared.message.LabelMessage.{LabelMessage}
+use Rattle.mldp.specs.declared.mldp_msgs.message.LabelMessage.{LabelMessage}
 use Rattle.edge_defs.specs.Held.{join_route, told, put_to}
 use Rattle.edge_defs.specs.Imported.{FlowRoute, join_by, found_in, taken_from, imported_active, imported_inclusive, imported_selective}
 use Rattle.edge_defs.specs.Keys.{Table, key_cmp, same_value}

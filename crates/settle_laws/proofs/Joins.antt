@@ -7,22 +7,22 @@ use Rattle.std.specs.Ordering.{eq_by_cmp}
 use Rattle.std.specs.Option.{option_eq}
 use Rattle.std.proofs.lemmas.Bool.{cases_Bool, eqb-true}
 use Rattle.mv_base.specs.declared.ids.NodeId.{NodeId}
-use Rattle.bgp_attributes.specs.declared.key.Key.{Key}
-use Rattle.bgp_attributes.specs.declared.key.Key.TheVariants.{Mcast}
-use Rattle.mvpn_nlri.specs.declared.route.Route.TheVariants as routes
-use Rattle.bgp_attributes.specs.declared.update.Message.{Message}
-use Rattle.bgp_update.specs.Table.{changes_of}
+use Rattle.bgp_messages.specs.declared.bgp_attributes.key.Key.{Key}
+use Rattle.bgp_messages.specs.declared.bgp_attributes.key.Key.TheVariants.{Mcast}
+use Rattle.bgp_values.specs.declared.mvpn_nlri.route.Route.TheVariants as routes
+use Rattle.bgp_messages.specs.declared.bgp_attributes.update.Message.{Message}
+use Rattle.bgp_messages.specs.bgp_update.Table.{changes_of}
 use Rattle.label_defs.specs.Keys.{node_cmp}
 use Rattle.label_defs.proofs.KeyLemmas.{node_cmp_total, node_cmp_exact}
-use Rattle.table_defs.specs.declared.change.Change.{Change}
-use Rattle.table_defs.specs.Changes.{key_of, value_of, changes, values_at, difference}
+use Rattle.mv_base.specs.declared.table_defs.change.Change.{Change}
+use Rattle.mv_base.specs.table_defs.Changes.{key_of, value_of, changes, values_at, difference}
 use Rattle.table_laws.proofs.CompareLemmas.{own_key, one_key, other_key}
 use Rattle.table_laws.proofs.KeyLemmas.{values_at-changes}
 use Rattle.edge_defs.specs.Edge.{VrfFlow, Upstream, Site, Remote, Taken, Control}
 use Rattle.edge_defs.specs.Held.{join_route, join_routes, held_for, told, put_to}
 use Rattle.edge_defs.specs.Imported.{found_in}
 use Rattle.edge_defs.specs.Keys.{Value, Table, key_cmp, same_value}
-use Rattle.bgp_update.specs.Written.{afi_of}
+use Rattle.bgp_messages.specs.bgp_update.Written.{afi_of}
 use Rattle.edge_defs.specs.Originated.{import_target, originated}
 use Rattle.edge_defs.specs.Place.{EdgePlace, own_addr}
 use Rattle.edge_defs.specs.Steps as steps

@@ -5,9 +5,9 @@ use Rattle.std.specs.FinMap as maps
 use Rattle.std.specs.FinSet as sets
 use Rattle.std.proofs.lemmas.Bool.{leb-true}
 use Rattle.mv_base.specs.declared.ids.NodeId.{NodeId}
-use Rattle.mldp_fec.specs.declared.fec.Fec.{Fec}
-use Rattle.mldp_msgs.specs.declared.message.LabelMessage.{LabelMessage}
-use Rattle.mldp_msgs.specs.declared.message.LabelMessage.TheVariants as messages
+use Rattle.mldp.specs.declared.mldp_fec.fec.Fec.{Fec}
+use Rattle.mldp.specs.declared.mldp_msgs.message.LabelMessage.{LabelMessage}
+use Rattle.mldp.specs.declared.mldp_msgs.message.LabelMessage.TheVariants as messages
 use Rattle.label_defs.specs.LabelData.{Place, LabelData, same_fec, use_of, is_rested, is_hold_due, due}
 use Rattle.label_defs.specs.Settling.{Stepped, with_use}
 use Rattle.label_defs.specs.Steps.{branch_to, Call, Taken, Want, Unwant, Raised, Noticed, Timers, Rerouted, released, with_release, taken, woken, hold_run, effect, counted, label_step}
@@ -21,8 +21,8 @@ use Rattle.label_defs.proofs.OwnLemmas.{step_keeps}
 use Rattle.label_defs.proofs.TimerLemmas.{timed_end}
 use Rattle.label_defs.proofs.TurnLemmas.{Turn}
 use Rattle.selective_defs.specs.Selective.{Among}
-use Rattle.calm_laws.proofs.Lists.{map_among}
-use Rattle.calm_laws.proofs.Maps.{entry_get}
+use Rattle.edge_words.proofs.calm_laws.Lists.{map_among}
+use Rattle.edge_words.proofs.calm_laws.Maps.{entry_get}
 use Rattle.network_laws.proofs.Lists.{each_set, each_at}
 
 -- ---- sums that are 0

@@ -7,23 +7,23 @@ use Rattle.std.proofs.lemmas.List.Concat.{flat_map-append}
 use Rattle.std.proofs.lemmas.Option.{same_Some, none-some}
 use Rattle.mv_base.specs.Number.{◌>>?◌}
 use Rattle.mv_base.specs.declared.ids.NodeId.{NodeId}
-use Rattle.mldp_fec.specs.declared.fec.Fec.{Fec}
-use Rattle.framing.specs.Cut.Front.{more}
-use Rattle.framing.specs.Feed.{fed}
-use Rattle.framing.specs.Units.{octets_of, messages_of}
+use Rattle.mldp.specs.declared.mldp_fec.fec.Fec.{Fec}
+use Rattle.mv_base.specs.framing.Cut.Front.{more}
+use Rattle.mv_base.specs.framing.Feed.{fed}
+use Rattle.mv_base.specs.framing.Units.{octets_of, messages_of}
 use Rattle.scenario_defs.specs.declared.event.Kind.{Kind}
 use Rattle.scenario_defs.specs.declared.scenario.Scenario.{Scenario}
-use Rattle.session_defs.specs.Message.{SessionMessage, front_of, same_direction, Spells}
-use Rattle.session_defs.specs.Octets as octets
-use Rattle.session_defs.specs.Octets.{OctetNetwork, Stream, with_octets, with_step, all_taken, moved, octet_run}
-use Rattle.session_defs.specs.Refined.{Carried, IsLine, AreLines, IsCarried, seen, deliveries}
-use Rattle.session_defs.specs.System.{Put, Stepped, MessageNetwork, Behind, octets_over, with_earlier, message_run}
-use Rattle.session_defs.specs.declared.direction.Direction.{Direction}
-use Rattle.session_defs.proofs.Came.{came_all}
-use Rattle.session_defs.proofs.Deliveries.{IsSeen}
-use Rattle.session_defs.proofs.Fronts.{stream_of}
-use Rattle.session_defs.proofs.Lines.{are_spelled}
-use Rattle.session_defs.proofs.Moves.{Moved, moved_seen}
+use Rattle.network_defs.specs.session_defs.Message.{SessionMessage, front_of, same_direction, Spells}
+use Rattle.network_defs.specs.session_defs.Octets as octets
+use Rattle.network_defs.specs.session_defs.Octets.{OctetNetwork, Stream, with_octets, with_step, all_taken, moved, octet_run}
+use Rattle.network_defs.specs.session_defs.Refined.{Carried, IsLine, AreLines, IsCarried, seen, deliveries}
+use Rattle.network_defs.specs.session_defs.System.{Put, Stepped, MessageNetwork, Behind, octets_over, with_earlier, message_run}
+use Rattle.network_defs.specs.declared.session_defs.direction.Direction.{Direction}
+use Rattle.network_defs.proofs.session_defs.Came.{came_all}
+use Rattle.network_defs.proofs.session_defs.Deliveries.{IsSeen}
+use Rattle.network_defs.proofs.session_defs.Fronts.{stream_of}
+use Rattle.network_defs.proofs.session_defs.Lines.{are_spelled}
+use Rattle.network_defs.proofs.session_defs.Moves.{Moved, moved_seen}
 use Rattle.network_defs.specs.Nodes.{Nodes}
 use Rattle.network_defs.specs.System.{system}
 use Rattle.network_defs.specs.World.{Datagram}

@@ -20,11 +20,11 @@ use Rattle.network_defs.specs.Nodes.{part_of}
 use Rattle.network_defs.specs.Run.{Traced, Runs}
 use Rattle.network_defs.specs.World.{World, scenario_of, clock_of, start}
 use Rattle.network_defs.proofs.Kept.{Gives}
-use Rattle.ready_laws.proofs.ActsStand as stand
-use Rattle.ready_laws.proofs.ActsStand.{WorldStands, act_stand, act_gives}
-use Rattle.ready_laws.proofs.Ends.{up_end, end_with}
-use Rattle.ready_laws.proofs.Nodes.{fresh_end, call_stand}
-use Rattle.ready_laws.proofs.Octets.{joins}
+use Rattle.network_laws.proofs.ready_laws.ActsStand as stand
+use Rattle.network_laws.proofs.ready_laws.ActsStand.{WorldStands, act_stand, act_gives}
+use Rattle.network_laws.proofs.ready_laws.Ends.{up_end, end_with}
+use Rattle.network_laws.proofs.ready_laws.Nodes.{fresh_end, call_stand}
+use Rattle.network_laws.proofs.ready_laws.Octets.{joins}
 use Rattle.rule_laws.proofs.Acts.{InStep}
 use Rattle.rule_laws.proofs.Calls.{joined_apart, joined_up}
 use Rattle.settle_laws.proofs.Everywhere.{runs_holds}

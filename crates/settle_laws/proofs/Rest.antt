@@ -30,11 +30,11 @@ use Rattle.network_laws.specs.SoundRun.{SoundRun}
 use Rattle.network_laws.proofs.Lists.{each_append, each_front}
 use Rattle.network_laws.proofs.RunNodes as nodes
 use Rattle.network_laws.proofs.RunNodes.{sessions_within}
-use Rattle.ready_laws.proofs.Ends.{up_end}
-use Rattle.ready_laws.proofs.EventsStand.{Tells}
-use Rattle.ready_laws.proofs.EventsTell.{event_tells}
-use Rattle.ready_laws.proofs.Outcomes.{Comes}
-use Rattle.ready_laws.proofs.TimersAlike.{HasNodes}
+use Rattle.network_laws.proofs.ready_laws.Ends.{up_end}
+use Rattle.network_laws.proofs.ready_laws.EventsStand.{Tells}
+use Rattle.network_laws.proofs.ready_laws.EventsTell.{event_tells}
+use Rattle.network_laws.proofs.ready_laws.Outcomes.{Comes}
+use Rattle.network_laws.proofs.ready_laws.TimersAlike.{HasNodes}
 use Rattle.rule_laws.proofs.Start.{run_in_step}
 use Rattle.settle_laws.specs.Behind.{IsBehind, heal_at, settle_at, tick_at, state_at}
 use Rattle.settle_laws.specs.Rest.{calming, IsAtRest}

@@ -4,20 +4,20 @@ use Rattle.std.proofs.Common.{◌≡◌, ◌<◌, ◌≤◌, ℕ, zero, suc, ◌
 use Rattle.std.specs.List.{AllByRecursion, list_any}
 use Rattle.std.proofs.lemmas.Bool.{or_cases}
 use Rattle.mv_base.specs.declared.ids.NodeId.{NodeId}
-use Rattle.mldp_fec.specs.declared.fec.Fec.{Fec}
+use Rattle.mldp.specs.declared.mldp_fec.fec.Fec.{Fec}
 use Rattle.scenario_defs.specs.declared.report.ReportLine.{ReportLine}
 use Rattle.scenario_defs.specs.declared.report.ReportLine.TheVariants as lines
 use Rattle.scenario_defs.specs.declared.scenario.Scenario.{Scenario}
 use Rattle.selective_defs.specs.Selective.{Among}
-use Rattle.session_defs.specs.Message.{SessionMessage, same_direction}
-use Rattle.session_defs.specs.Octets as octets
-use Rattle.session_defs.specs.Octets.{OctetNetwork, octet_run}
-use Rattle.session_defs.specs.Refined.{IsLine}
-use Rattle.session_defs.specs.System.{Behind}
-use Rattle.session_defs.specs.declared.direction.Direction.{Direction}
-use Rattle.session_defs.proofs.Lines.{own_direction, direction_is}
+use Rattle.network_defs.specs.session_defs.Message.{SessionMessage, same_direction}
+use Rattle.network_defs.specs.session_defs.Octets as octets
+use Rattle.network_defs.specs.session_defs.Octets.{OctetNetwork, octet_run}
+use Rattle.network_defs.specs.session_defs.Refined.{IsLine}
+use Rattle.network_defs.specs.session_defs.System.{Behind}
+use Rattle.network_defs.specs.declared.session_defs.direction.Direction.{Direction}
+use Rattle.network_defs.proofs.session_defs.Lines.{own_direction, direction_is}
 use Rattle.network_laws.proofs.Costs.{Costs}
-use Rattle.calm_laws.proofs.Lists.{any_from}
+use Rattle.edge_words.proofs.calm_laws.Lists.{any_from}
 use Rattle.network_defs.specs.Acts.{Act, Move, Acted, with_network, act}
 use Rattle.network_defs.specs.Events.{Outcome, Done, Halted, one_act, row, each, times, turn}
 use Rattle.network_defs.specs.Nodes.{Nodes}

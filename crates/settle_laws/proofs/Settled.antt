@@ -4,28 +4,28 @@ use Rattle.std.specs.List.{AllByRecursion, sum_by}
 use Rattle.std.proofs.lemmas.Bool.{cases_lt, or_left, or_right}
 use Rattle.mv_base.specs.Number.{◌>>?◌}
 use Rattle.mv_base.specs.declared.ids.NodeId.{NodeId}
-use Rattle.mldp_fec.specs.declared.fec.Fec.{Fec}
-use Rattle.bgp_update.specs.Table.{changes_of}
+use Rattle.mldp.specs.declared.mldp_fec.fec.Fec.{Fec}
+use Rattle.bgp_messages.specs.bgp_update.Table.{changes_of}
 use Rattle.label_defs.proofs.KeyLemmas.{node_equal, node_itself}
 use Rattle.mvpn_model.specs.Sessions.{sessions}
 use Rattle.mvpn_model.specs.declared.session.Session.{Session}
 use Rattle.scenario_defs.specs.declared.event.Event.TheVariants as events
 use Rattle.scenario_defs.specs.declared.scenario.Scenario.{Scenario}
 use Rattle.selective_defs.specs.Selective.{Among}
-use Rattle.session_defs.specs.Message.{SessionMessage, Bgp, Label}
-use Rattle.session_defs.specs.Octets.{with_step}
-use Rattle.session_defs.specs.System.{Stepped, with_earlier}
-use Rattle.session_defs.specs.declared.direction.Direction.{Direction}
-use Rattle.session_defs.proofs.Lines.{own_direction}
+use Rattle.network_defs.specs.session_defs.Message.{SessionMessage, Bgp, Label}
+use Rattle.network_defs.specs.session_defs.Octets.{with_step}
+use Rattle.network_defs.specs.session_defs.System.{Stepped, with_earlier}
+use Rattle.network_defs.specs.declared.session_defs.direction.Direction.{Direction}
+use Rattle.network_defs.proofs.session_defs.Lines.{own_direction}
 use Rattle.mv_base.specs.declared.core_link.Link.{Link}
 use Rattle.edge_defs.specs.Place.{node_with, upstream}
-use Rattle.core_walks.specs.Core.{Core, IsCoreOf}
+use Rattle.mv_base.specs.core_walks.Core.{Core, IsCoreOf}
 use Rattle.network_defs.specs.Costs.{AreRepriced, AreCoresOf}
 use Rattle.network_laws.proofs.Costs.{Costs, costs_of}
 use Rattle.label_defs.proofs.SettleLemmas.{bind_some}
 use Rattle.std.proofs.lemmas.Option.{none-some}
 use Rattle.edge_defs.specs.Steps as steps
-use Rattle.calm_laws.proofs.Lists.{any_from}
+use Rattle.edge_words.proofs.calm_laws.Lists.{any_from}
 use Rattle.network_defs.specs.Acts.{Timers, with_network, act}
 use Rattle.network_defs.specs.Counts.{directions_of, directions, node_due, node_ids, all_nodes}
 use Rattle.network_defs.specs.Events.{Happened, Outcome, Done, and_then, one_act, row, each, times, turn}

@@ -9,14 +9,14 @@ use Rattle.std.specs.FinSet.{FinSet}
 use Rattle.std.proofs.lemmas.Option.{same_Some}
 use Rattle.mv_base.specs.declared.addr.Addr.{Addr}
 use Rattle.mv_base.specs.declared.ids.NodeId.{NodeId}
-use Rattle.mldp_fec.specs.declared.fec.Fec.{Fec}
-use Rattle.mldp_msgs.specs.declared.message.LabelMessage.{LabelMessage}
-use Rattle.mldp_msgs.specs.declared.message.LabelMessage.TheVariants as messages
-use Rattle.bgp_attributes.specs.declared.key.Key.{Key}
-use Rattle.bgp_attributes.specs.declared.update.Message.{Message}
-use Rattle.bgp_attributes.specs.declared.update.Message.TheVariants as bgp_messages
-use Rattle.bgp_update.specs.Table.{changes_of}
-use Rattle.bgp_update.specs.Written.{update_of}
+use Rattle.mldp.specs.declared.mldp_fec.fec.Fec.{Fec}
+use Rattle.mldp.specs.declared.mldp_msgs.message.LabelMessage.{LabelMessage}
+use Rattle.mldp.specs.declared.mldp_msgs.message.LabelMessage.TheVariants as messages
+use Rattle.bgp_messages.specs.declared.bgp_attributes.key.Key.{Key}
+use Rattle.bgp_messages.specs.declared.bgp_attributes.update.Message.{Message}
+use Rattle.bgp_messages.specs.declared.bgp_attributes.update.Message.TheVariants as bgp_messages
+use Rattle.bgp_messages.specs.bgp_update.Table.{changes_of}
+use Rattle.bgp_messages.specs.bgp_update.Written.{update_of}
 use Rattle.label_defs.specs.Keys.{node_cmp, fec_cmp}
 use Rattle.label_defs.specs.LabelData.{Place, LabelData}
 use Rattle.label_defs.specs.Settled.{AllSettled}
@@ -33,10 +33,10 @@ use Rattle.label_laws.specs.Rounds as label_rounds
 use Rattle.label_laws.proofs.Answers.{PutsBelow, answers_below}
 use Rattle.mvpn_model.specs.Sessions.{edges}
 use Rattle.selective_defs.specs.Selective.{Among}
-use Rattle.session_defs.specs.Message.{SessionMessage, Bgp, Label}
-use Rattle.session_defs.specs.System.{Put, Stepped}
-use Rattle.table_defs.specs.declared.change.Change.{Change}
-use Rattle.table_defs.specs.declared.change.Change.TheVariants.{Reach, Unreach}
+use Rattle.network_defs.specs.session_defs.Message.{SessionMessage, Bgp, Label}
+use Rattle.network_defs.specs.session_defs.System.{Put, Stepped}
+use Rattle.mv_base.specs.declared.table_defs.change.Change.{Change}
+use Rattle.mv_base.specs.declared.table_defs.change.Change.TheVariants.{Reach, Unreach}
 use Rattle.table_laws.proofs.CompareLemmas.{own_key}
 use Rattle.edge_defs.specs.Edge.{Control, EdgeData}
 use Rattle.edge_defs.specs.Held.{put_to}
@@ -44,11 +44,11 @@ use Rattle.edge_defs.specs.Keys.{Value}
 use Rattle.edge_defs.specs.Messages.{as_update}
 use Rattle.edge_defs.specs.Place.{EdgePlace, addr_of, label_place}
 use Rattle.edge_defs.specs.Steps as steps
-use Rattle.edge_defs.specs.Steps.{LabelStep, EdgeStepped, control_step, own_label_call, changed_leaves, one_call, label_row, part_after, edge_step}
+use Rattle.edge_defs.specs.Steps.{LabelStep, EdgeStepped, control_step, own_label_call, changed_leaves, one_call, label_row, part_after, raised_after, edge_step}
 use Rattle.edge_defs.specs.Tunnels.{leaves}
-use Rattle.calm_laws.proofs.Lists.{any_from}
+use Rattle.edge_words.proofs.calm_laws.Lists.{any_from}
 use Rattle.network_defs.specs.Nodes.{NodeState, Edge, CoreNode, Nodes, with_node, place_of, label_place_of, part_of}
-use Rattle.node_defs.specs.Puts.{bgp_put, bgp_puts, label_put, label_puts as puts_of}
+use Rattle.network_defs.specs.node_defs.Puts.{bgp_put, bgp_puts, label_put, label_puts as puts_of}
 use Rattle.network_defs.specs.System.{edge_stepped, core_called, node_called, call_of}
 use Rattle.network_defs.proofs.Nothing.{flat_none}
 use Rattle.network_laws.proofs.Lists.{each_append, each_of, each_map, each_flat, each_weaker}
@@ -113,7 +113,7 @@ abbrev pub edge_behind : Nodes → NodeId → EdgeData → steps.Call → List L
 edge_behind nodes n edge call row =
     let control = control_step (place_of nodes n) nodes.clock edge.control call in
     record {
-      state = with_node nodes n (Edge (record { control = control; part = part_after edge.part row }));
+      state = with_node nodes n (Edge (record { control = control; part = part_after edge.part row; raised = raised_after nodes.clock edge.raised call }));
       puts = bgp_puts (place_of nodes n) edge.control control ++ flat_map (puts_of n (addr_of nodes.scenario n) (label_place_of nodes n) nodes.clock) row;
     }
 
@@ -130,7 +130,7 @@ edge_row nodes n edge call new e =
       state = with_node nodes n (Edge made.edge);
       puts = bgp_puts place edge.control made.edge.control ++ flat_map (puts_of n (addr_of nodes.scenario n) (label_place_of nodes n) nodes.clock) made.row;
     } in
-    let behind_row : List LabelStep → EdgeStepped = λ row. record { edge = record { control = control; part = part_after edge.part row }; row = row } in
+    let behind_row : List LabelStep → EdgeStepped = λ row. record { edge = record { control = control; part = part_after edge.part row; raised = raised_after nodes.clock edge.raised call }; row = row } in
     let calls : List labels.Call = one_call (own_label_call call) ++ changed_leaves (leaves place edge.control) (leaves place control) in
     let x = bind_some (edge_step place nodes.clock edge call) (λ made. Some (stepped made)) new e in
     let y = bind_some (label_row place nodes.clock edge.part calls) (λ row. Some (behind_row row)) x.0 x.1 in
@@ -229,7 +229,7 @@ module _ (depth : NodeId → Fec → ℕ) (most : ℕ) where
         (numbered_below bound b (addr_of nodes.scenario b) (effect own_place nodes.clock edge.part (labels.Taken a message)).0.part.ends x.new.puts
         (answers_below own_place nodes.clock edge.part depth a b settled (λ v fec up. nearer b v fec up) message x.new x.made)) tt in
         record {
-          node = Edge (record { control = control; part = part_after edge.part r.row });
+          node = Edge (record { control = control; part = part_after edge.part r.row; raised = raised_after nodes.clock edge.raised (steps.Label a message) });
           state = sym (ap (λ (s : Stepped Nodes). s.state) r.same);
           still = (
             refl,
@@ -263,7 +263,7 @@ module _ (depth : NodeId → Fec → ℕ) (most : ℕ) where
         let made : Some [] ≡ Some r.row = ap (λ (calls : List labels.Call). label_row place nodes.clock edge.part calls) (sym none) ∙ r.made in
         let row : [] ≡ r.row = same_Some [] r.row made in
         record {
-          node = Edge (record { control = control; part = part_after edge.part r.row });
+          node = Edge (record { control = control; part = part_after edge.part r.row; raised = raised_after nodes.clock edge.raised (steps.Update a message) });
           state = sym (ap (λ (s : Stepped Nodes). s.state) r.same);
           still = (
             refl,
@@ -281,7 +281,7 @@ module _ (depth : NodeId → Fec → ℕ) (most : ℕ) where
         let r = edge_row nodes b edge (steps.Update a message) new e in
         let control : Control = control_step place nodes.clock edge.control (steps.Update a message) in
         record {
-          node = Edge (record { control = control; part = part_after edge.part r.row });
+          node = Edge (record { control = control; part = part_after edge.part r.row; raised = raised_after nodes.clock edge.raised (steps.Update a message) });
           state = sym (ap (λ (s : Stepped Nodes). s.state) r.same);
           still = (
             refl,
@@ -329,7 +329,7 @@ timers_run nodes n (Edge edge) new e =
     let old_leaves = leaves (place_of nodes n) edge.control in
     let new_leaves = leaves (place_of nodes n) control in
     record {
-      node = Edge (record { control = control; part = part_after edge.part r.row });
+      node = Edge (record { control = control; part = part_after edge.part r.row; raised = raised_after nodes.clock edge.raised steps.Timers });
       state = sym (ap (λ (s : Stepped Nodes). s.state) r.same);
       still = (refl, timed_control_rests (place_of nodes n) nodes.clock edge.control, timers_row_rests (place_of nodes n) nodes.clock (changed_leaves old_leaves new_leaves) (changed_inner old_leaves new_leaves) edge.part r.row r.made);
     }

@@ -4,20 +4,20 @@ use Rattle.std.proofs.Common.{◌≡◌, ℕ, zero, suc, ◌+◌, ◌-◌, ◌&&
 use Rattle.std.specs.List.{AllByRecursion}
 use Rattle.mv_base.specs.Number.{◌>>?◌}
 use Rattle.mv_base.specs.declared.ids.NodeId.{NodeId}
-use Rattle.framing.specs.Cut.{Front, Cut, with_front, cut_at}
-use Rattle.framing.specs.Cut.Front.{more, whole, bad}
-use Rattle.framing.specs.Feed.{Fed, fed, fed_unless, held_of, unfed}
+use Rattle.mv_base.specs.framing.Cut.{Front, Cut, with_front, cut_at}
+use Rattle.mv_base.specs.framing.Cut.Front.{more, whole, bad}
+use Rattle.mv_base.specs.framing.Feed.{Fed, fed, fed_unless, held_of, unfed}
 use Rattle.scenario_defs.specs.declared.event.Timed.{Timed}
 use Rattle.scenario_defs.specs.declared.report.ReportLine.{ReportLine}
 use Rattle.scenario_defs.specs.declared.report.ReportLine.TheVariants as lines
 use Rattle.scenario_defs.specs.declared.scenario.Scenario.{Scenario}
-use Rattle.session_defs.specs.Message.{SessionMessage, front_of, same_direction}
-use Rattle.session_defs.specs.Octets as octets
-use Rattle.session_defs.specs.Octets.{OctetNetwork, OctetAct, Stream, with_step, all_taken, moved, octet_act, octet_run}
-use Rattle.session_defs.specs.System.{Stepped, Behind, with_earlier}
-use Rattle.session_defs.specs.declared.direction.Direction.{Direction}
-use Rattle.session_defs.proofs.Fronts.{stream_of}
-use Rattle.session_defs.proofs.Lines.{direction_is}
+use Rattle.network_defs.specs.session_defs.Message.{SessionMessage, front_of, same_direction}
+use Rattle.network_defs.specs.session_defs.Octets as octets
+use Rattle.network_defs.specs.session_defs.Octets.{OctetNetwork, OctetAct, Stream, with_step, all_taken, moved, octet_act, octet_run}
+use Rattle.network_defs.specs.session_defs.System.{Stepped, Behind, with_earlier}
+use Rattle.network_defs.specs.declared.session_defs.direction.Direction.{Direction}
+use Rattle.network_defs.proofs.session_defs.Fronts.{stream_of}
+use Rattle.network_defs.proofs.session_defs.Lines.{direction_is}
 use Rattle.network_defs.specs.Costs.{Cores}
 use Rattle.edge_defs.specs.Steps as steps
 use Rattle.network_defs.specs.Acts.{Act, Tick, Timers, Move, Lose, Notice, RaiseFirst, RaiseSecond, Restart, At, Enter, Land, Drop, Tell, SetCost, Reroute, Acted, with_network, is_of_session, is_at, leads_to, is_from_peer, with_aged, act}

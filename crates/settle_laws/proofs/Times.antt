@@ -13,10 +13,10 @@ use Rattle.scenario_defs.specs.declared.report.ReportLine.TheVariants as lines
 use Rattle.scenario_defs.specs.declared.scenario.Scenario.{Scenario}
 use Rattle.scenario_defs.specs.declared.scenario.Vrf.{Vrf}
 use Rattle.mvpn_model.specs.Unready.{SessionsStand}
-use Rattle.session_defs.specs.Octets as octets
-use Rattle.session_defs.specs.Octets.{OctetNetwork, octet_run}
-use Rattle.session_defs.specs.System.{Behind}
-use Rattle.session_defs.specs.declared.direction.Direction.{Direction}
+use Rattle.network_defs.specs.session_defs.Octets as octets
+use Rattle.network_defs.specs.session_defs.Octets.{OctetNetwork, octet_run}
+use Rattle.network_defs.specs.session_defs.System.{Behind}
+use Rattle.network_defs.specs.declared.session_defs.direction.Direction.{Direction}
 use Rattle.edge_defs.specs.Datagrams.{entering_fate}
 use Rattle.edge_defs.specs.Steps as steps
 use Rattle.network_defs.specs.Acts.{Act, Tick, Timers, Move, Lose, Notice, RaiseFirst, RaiseSecond, Restart, At, Enter, Land, Drop, Tell, SetCost, Reroute, Acted, with_network, is_of_session, is_at, leads_to, is_from_peer, copy_on, with_branches, datagram_at, enters_at, entering, fate_at, landed, without_copy, landing, with_aged, act}
@@ -28,9 +28,9 @@ use Rattle.network_defs.specs.Run.{Traced, IsDrained, outcome, Runs}
 use Rattle.network_defs.specs.System.{Own, Elapse, Reset, Price, Follow, system}
 use Rattle.network_defs.specs.World.{World, Datagram, LinkCopy, scenario_of, clock_of, with_copies, start}
 use Rattle.network_defs.proofs.Kept.{Gives, Comes, both_give, then_comes, one_comes, row_keeps, each_keeps, times_keeps}
-use Rattle.ready_laws.proofs.ActsStand as stand
-use Rattle.ready_laws.proofs.ActsStand.{WorldStands, act_stand, act_gives}
-use Rattle.ready_laws.proofs.Nodes.{end_of}
+use Rattle.network_laws.proofs.ready_laws.ActsStand as stand
+use Rattle.network_laws.proofs.ready_laws.ActsStand.{WorldStands, act_stand, act_gives}
+use Rattle.network_laws.proofs.ready_laws.Nodes.{end_of}
 use Rattle.network_laws.proofs.Lists.{each_append, each_filter, each_of, each_weaker}
 use Rattle.settle_laws.proofs.Everywhere.{runs_holds}
 use Rattle.settle_laws.proofs.Ttl.{on_branches}

@@ -3,16 +3,16 @@ use Rattle.std.proofs.Common.{◌≡◌, ◌<◌, ◌≤◌, ℕ, suc, ◌==◌,
 use Rattle.std.specs.List.{AllByRecursion}
 use Rattle.std.proofs.lemmas.Option.{same_Some}
 use Rattle.mv_base.specs.declared.ids.NodeId.{NodeId}
-use Rattle.mldp_fec.specs.declared.fec.Fec.{Fec}
+use Rattle.mldp.specs.declared.mldp_fec.fec.Fec.{Fec}
 use Rattle.scenario_defs.specs.declared.event.Kind.{Kind}
 use Rattle.scenario_defs.specs.declared.scenario.Scenario.{Scenario}
 use Rattle.label_defs.proofs.KeyLemmas.{node_equal}
 use Rattle.label_defs.proofs.SettleLemmas.{bind_some}
-use Rattle.session_defs.specs.Message.{SessionMessage, same_direction}
-use Rattle.session_defs.specs.Refined.{IsCarried, Keeps, deliveries}
-use Rattle.session_defs.specs.System.{Put, Stepped, System, MessageNetwork, Behind, messages_over, with_messages, with_earlier, delivered, message_act, message_run, Deliver}
-use Rattle.session_defs.specs.declared.direction.Direction.{Direction}
-use Rattle.session_defs.proofs.Lines.{all_both, own_direction, direction_is}
+use Rattle.network_defs.specs.session_defs.Message.{SessionMessage, same_direction}
+use Rattle.network_defs.specs.session_defs.Refined.{IsCarried, Keeps, deliveries}
+use Rattle.network_defs.specs.session_defs.System.{Put, Stepped, System, MessageNetwork, Behind, messages_over, with_messages, with_earlier, delivered, message_act, message_run, Deliver}
+use Rattle.network_defs.specs.declared.session_defs.direction.Direction.{Direction}
+use Rattle.network_defs.proofs.session_defs.Lines.{all_both, own_direction, direction_is}
 use Rattle.network_defs.specs.Counts.{direction}
 use Rattle.network_defs.specs.Nodes.{NodeState, Nodes, label_place_of}
 use Rattle.network_defs.specs.World.{Datagram}

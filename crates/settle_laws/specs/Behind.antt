@@ -1,10 +1,10 @@
 -- The network behind an event of a run.
-use Rattle.std.specs.Prelude.{◌≡◌, ℕ, List, ◌++◌}
+use Rattle.std.specs.Prelude.{◌≡◌, ℕ, List, [], ◌∷◌, ◌++◌}
 use Rattle.scenario_defs.specs.declared.event.Event.TheVariants as events
 use Rattle.scenario_defs.specs.declared.event.Script.{Script}
 use Rattle.scenario_defs.specs.declared.event.Timed.{Timed}
 use Rattle.network_defs.specs.Costs.{Cores}
-use Rattle.network_defs.specs.Run.{Traced, Run}
+use Rattle.network_defs.specs.Run.{Traced, Run, IsSettled, IsDrained}
 use Rattle.network_defs.specs.World.{World}
 
 -- `heal`, `settle`, `drain`, `tick` and `state` on that line of a script
@@ -31,3 +31,10 @@ pub record IsBehind (cores : Cores) (script : Script) (events : List Timed) (tra
   pub parts : trace ≡ first ++ rest
   pub run : Run cores script events first world
   pub holds : P world
+
+-- After each `settle` among the events of a run no octet is in transit and no timer is due, and after each `drain` no copy is on a link.
+pub record Settles (cores : Cores) (script : Script) (events : List Timed) (trace : List Traced) : Type 0 where
+  pub settled : (before after : List Timed) (line : ℕ) → events ≡ before ++ settle_at line ∷ after →
+      IsBehind cores script (before ++ settle_at line ∷ []) trace IsSettled
+  pub drained : (before after : List Timed) (line : ℕ) → events ≡ before ++ drain_at line ∷ after →
+      IsBehind cores script (before ++ drain_at line ∷ []) trace IsDrained

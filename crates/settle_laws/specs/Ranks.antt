@@ -1,17 +1,17 @@
 -- How far a message is from being answered for the last time.
 use Rattle.std.specs.Prelude.{◌≡◌, ℕ, ◌+◌, ◌==◌, ◌&&◌, Bool, true, List, [], ◌∷◌, if◌then◌else◌}
 use Rattle.mv_base.specs.declared.ids.NodeId.{NodeId}
-use Rattle.mldp_fec.specs.declared.fec.Fec.{Fec}
-use Rattle.mvpn_nlri.specs.declared.route.Route.{Route}
-use Rattle.mvpn_nlri.specs.declared.route.Route.TheVariants as routes
-use Rattle.bgp_attributes.specs.declared.key.Key.{Key}
-use Rattle.bgp_attributes.specs.declared.key.Key.TheVariants.{Mcast, Unicast}
-use Rattle.bgp_attributes.specs.declared.update.Change.{Change}
-use Rattle.bgp_update.specs.Table.{key_of, changes_of}
+use Rattle.mldp.specs.declared.mldp_fec.fec.Fec.{Fec}
+use Rattle.bgp_values.specs.declared.mvpn_nlri.route.Route.{Route}
+use Rattle.bgp_values.specs.declared.mvpn_nlri.route.Route.TheVariants as routes
+use Rattle.bgp_messages.specs.declared.bgp_attributes.key.Key.{Key}
+use Rattle.bgp_messages.specs.declared.bgp_attributes.key.Key.TheVariants.{Mcast, Unicast}
+use Rattle.bgp_messages.specs.declared.bgp_attributes.update.Change.{Change}
+use Rattle.bgp_messages.specs.bgp_update.Table.{key_of, changes_of}
 use Rattle.label_laws.specs.Rounds as labels
-use Rattle.table_defs.specs.Changes as table_changes
-use Rattle.table_defs.specs.declared.change.Change as tables
-use Rattle.session_defs.specs.Message.{SessionMessage, Bgp, Label}
+use Rattle.mv_base.specs.table_defs.Changes as table_changes
+use Rattle.mv_base.specs.declared.table_defs.change.Change as tables
+use Rattle.network_defs.specs.session_defs.Message.{SessionMessage, Bgp, Label}
 use Rattle.edge_defs.specs.Edge.{Control}
 use Rattle.edge_defs.specs.Flows.{flows_at}
 use Rattle.edge_defs.specs.Held.{put_to}

@@ -2,9 +2,9 @@
 ghost use Rattle.std.specs.Prelude.{◌≡◌, ◌<◌, true, ◌++◌, ℕ, List, [], ◌∷◌, Some, length};
 ghost use Rattle.std.specs.List.{AllByRecursion};
 ghost use Rattle.mv_base.specs.declared.ids.NodeId.{NodeId};
-ghost use Rattle.mldp_msgs.specs.declared.message.LabelMessage.{LabelMessage};
-ghost use Rattle.bgp_attributes.specs.declared.update.Message.{Message};
-ghost use Rattle.bgp_update.specs.Table.{changes_of};
+ghost use Rattle.mldp.specs.declared.mldp_msgs.message.LabelMessage.{LabelMessage};
+ghost use Rattle.bgp_messages.specs.declared.bgp_attributes.update.Message.{Message};
+ghost use Rattle.bgp_messages.specs.bgp_update.Table.{changes_of};
 ghost use Rattle.scenario_defs.specs.declared.event.Script.{Script};
 ghost use Rattle.scenario_defs.specs.declared.event.Timed.{Timed};
 ghost use Rattle.scenario_defs.specs.declared.report.ReportLine.TheVariants.{State};

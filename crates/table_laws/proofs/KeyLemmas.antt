@@ -7,10 +7,10 @@ use Rattle.std.specs.Ordering.{eq_by_cmp}
 use Rattle.std.specs.Cmp.{IsTotalOrder}
 use Rattle.std.specs.FinMap.{FinMap, find, get, entries, entries_sorted, get-entries, get-retain_keys, get_tied}
 use Rattle.std.specs.FinMap.Entries.{is_sorted, below_all, find_tied}
-use Rattle.table_defs.specs.declared.change.Change.{Change}
-use Rattle.table_defs.specs.declared.change.Change.TheVariants.{Reach, Unreach}
+use Rattle.mv_base.specs.declared.table_defs.change.Change.{Change}
+use Rattle.mv_base.specs.declared.table_defs.change.Change.TheVariants.{Reach, Unreach}
 use Rattle.table_laws.proofs.CompareLemmas.{first, second, equal, apart}
-use Rattle.table_defs.specs.Changes.{key_of, value_of, withdrawals, advertisements, lost, news, changes, values_at, difference}
+use Rattle.mv_base.specs.table_defs.Changes.{key_of, value_of, withdrawals, advertisements, lost, news, changes, values_at, difference}
 
 joined : {X : Type 0} (b : Bool) (x : X) (xs ys : List X) → cond b (x ∷ xs ++ ys) (xs ++ ys) ≡ cond b (x ∷ xs) xs ++ ys
 joined true x xs ys = refl

@@ -8,9 +8,9 @@ use Rattle.std.specs.Ordering.{eq_by_cmp}
 use Rattle.std.specs.Cmp.{IsTotalOrder}
 use Rattle.std.specs.FinMap.{FinMap, IsAntisymmetric, get, get-empty, empty, entries, entries_sorted}
 use Rattle.std.specs.FinMap.Entries.{is_sorted, below_all}
-use Rattle.table_defs.specs.declared.change.Change.{Change}
-use Rattle.table_defs.specs.declared.change.Change.TheVariants.{Reach, Unreach}
-use Rattle.table_defs.specs.Changes.{key_of, value_of, lost, news, changes, advertisements, values_at, difference}
+use Rattle.mv_base.specs.declared.table_defs.change.Change.{Change}
+use Rattle.mv_base.specs.declared.table_defs.change.Change.TheVariants.{Reach, Unreach}
+use Rattle.mv_base.specs.table_defs.Changes.{key_of, value_of, lost, news, changes, advertisements, values_at, difference}
 use Rattle.table_laws.specs.Words.{AreChanges, IsExact, IsOrdered, Precedes}
 use Rattle.table_laws.proofs.CompareLemmas.{first, second, less, own_key, one_key, not_both}
 use Rattle.table_laws.proofs.KeyLemmas.{values_at-advertisements, values_at-changes}

@@ -4,8 +4,8 @@ use Rattle.std.specs.declared.cmp.Ordering.{Ordering}
 use Rattle.std.specs.Ordering.{eq_by_cmp}
 use Rattle.std.specs.Cmp.{IsTotalOrder}
 use Rattle.std.specs.FinMap.{FinMap, IsAntisymmetric, get, same_map}
-use Rattle.table_defs.specs.declared.change.Change.{Change}
-use Rattle.table_defs.specs.Changes.{key_of, value_of, applied, applied_all, changes, values_at, difference, last_value, Leads, LeadsTo}
+use Rattle.mv_base.specs.declared.table_defs.change.Change.{Change}
+use Rattle.mv_base.specs.table_defs.Changes.{key_of, value_of, applied, applied_all, changes, values_at, difference, last_value, Leads, LeadsTo}
 use Rattle.table_laws.specs.Words.{IsExact}
 use Rattle.table_laws.proofs.CompareLemmas.{own_key}
 use Rattle.table_laws.proofs.TableLemmas.{get-applied, get-applied_all}

@@ -4,9 +4,9 @@ use Rattle.std.specs.declared.cmp.Ordering.{Ordering}
 use Rattle.std.specs.Ordering.{eq_by_cmp}
 use Rattle.std.specs.Cmp.{IsTotalOrder}
 use Rattle.std.specs.FinMap.{FinMap, IsAntisymmetric, get, get-insert, get-remove, same_map}
-use Rattle.table_defs.specs.declared.change.Change.{Change}
-use Rattle.table_defs.specs.declared.change.Change.TheVariants.{Reach, Unreach}
-use Rattle.table_defs.specs.Changes.{key_of, value_of, applied, applied_all, values_at, last_value}
+use Rattle.mv_base.specs.declared.table_defs.change.Change.{Change}
+use Rattle.mv_base.specs.declared.table_defs.change.Change.TheVariants.{Reach, Unreach}
+use Rattle.mv_base.specs.table_defs.Changes.{key_of, value_of, applied, applied_all, values_at, last_value}
 use Rattle.table_laws.specs.Words.{IsBehind}
 use Rattle.table_laws.proofs.CompareLemmas.{own_key, one_key, other_key}
 

@@ -5,9 +5,9 @@ use Rattle.std.specs.declared.cmp.Ordering.TheVariants.{Less}
 use Rattle.std.specs.List.{AllByRecursion}
 use Rattle.std.specs.FinMap as table
 use Rattle.std.specs.FinMap.{FinMap}
-use Rattle.table_defs.specs.declared.change.Change.{Change}
-use Rattle.table_defs.specs.declared.change.Change.TheVariants.{Reach, Unreach}
-use Rattle.table_defs.specs.Changes.{key_of, value_of, values_at, difference}
+use Rattle.mv_base.specs.declared.table_defs.change.Change.{Change}
+use Rattle.mv_base.specs.declared.table_defs.change.Change.TheVariants.{Reach, Unreach}
+use Rattle.mv_base.specs.table_defs.Changes.{key_of, value_of, values_at, difference}
 
 -- the test holds of equal values alone, and of each of them
 abbrev pub IsExact : {V : Type 0} → (V → V → Bool) → Type 0

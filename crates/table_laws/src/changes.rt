@@ -1,9 +1,9 @@
 //! What changes do to a table, and which changes there are between two tables.
 ghost use Rattle.std.specs.Prelude.{◌≡◌, ◌≢◌, ◌↔◌, ◌++◌, [], ◌∷◌, List};
 ghost use Rattle.std.specs.FinMap.{FinMap, IsAntisymmetric, empty, get};
-ghost use Rattle.table_defs.specs.declared.change.Change.{Change};
-ghost use Rattle.table_defs.specs.Changes.{advertisements, applied, applied_all, changes};
-ghost use Rattle.table_defs.specs.Changes.{difference, key_of, last_value, value_of, values_at};
+ghost use Rattle.mv_base.specs.declared.table_defs.change.Change.{Change};
+ghost use Rattle.mv_base.specs.table_defs.Changes.{advertisements, applied, applied_all, changes};
+ghost use Rattle.mv_base.specs.table_defs.Changes.{difference, key_of, last_value, value_of, values_at};
 ghost use Rattle.table_laws.specs.Words.{AreChanges, IsBehind, IsExact};
 
 /// Behind a change its key has its value, and each other key what it had. No other table is so.

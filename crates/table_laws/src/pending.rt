@@ -1,8 +1,8 @@
 //! Changes that a receiver has not taken yet.
 ghost use Rattle.std.specs.Prelude.{◌≡◌, ◌≢◌, ◌++◌, [], ◌∷◌, List};
 ghost use Rattle.std.specs.FinMap.{FinMap, IsAntisymmetric, get};
-ghost use Rattle.table_defs.specs.declared.change.Change.{Change};
-ghost use Rattle.table_defs.specs.Changes.{LeadsTo, applied, applied_all, changes, key_of, value_of};
+ghost use Rattle.mv_base.specs.declared.table_defs.change.Change.{Change};
+ghost use Rattle.mv_base.specs.table_defs.Changes.{LeadsTo, applied, applied_all, changes, key_of, value_of};
 ghost use Rattle.table_laws.specs.Words.{IsExact};
 
 /// Pending changes lead from what the receiver has taken to what the sender holds out, at each step of either.

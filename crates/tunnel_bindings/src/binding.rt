@@ -4,7 +4,7 @@ ghost use Rattle.tunnel_bindings.specs.declared.state.LabelState.TheVariants as 
 ghost use Rattle.tunnel_bindings.specs.Labels.{IsOwned, IsLeastFree, NoneFree, set_label};
 
 use crate::space::LabelSpace;
-use mldp_fec::Fec;
+use mldp::mldp_fec::Fec;
 use mv_base::NodeId;
 
 /// Which raise of a session: a count.

@@ -6,7 +6,7 @@ ghost use Rattle.tunnel_bindings.specs.Labels.{IsLeastFree, IsOwned, set_label};
 ghost use Rattle.tunnel_bindings.specs.States.{label_of};
 
 use super::*;
-use mldp_fec::{Fec, FecKind};
+use mldp::mldp_fec::{Fec, FecKind};
 use mv_base::{Addr, Inline, NodeId};
 use std::process::Abort;
 use std::test::*;

@@ -1,5 +1,5 @@
 -- What is found at the greatest length that covers the source is what is chosen of all routes.
-use Rattle.std.proofs.Common.{◌≡◌, ◌<◌, ℕ, suc, ◌≤◌, ◌==◌, ◌&&◌, max, Bool, true, false, inl, inr, List, [], ◌∷◌, ◌++◌, map, filter, Option, Some, None, option_map, slice_index_or, refl, sym, ap, subst, ◌∙◌, cond, arith, eqb-true, eq-eqb}
+use Rattle.std.proofs.Common.{◌≡◌, ◌<◌, ℕ, zero, suc, replicate, ◌≤◌, ◌==◌, ◌&&◌, max, Bool, true, false, inl, inr, List, [], ◌∷◌, ◌++◌, map, filter, Option, Some, None, option_map, slice_index_or, refl, sym, ap, subst, ◌∙◌, cond, arith, eqb-true, eq-eqb}
 use Rattle.std.proofs.lemmas.Bool.{and_parts, cases_Bool, cases_lt}
 use Rattle.std.specs.BTreeMap.{is_at}
 use Rattle.std.specs.FinMap as maps
@@ -124,11 +124,11 @@ module _ {X : Type 0} (is_place : Place → Bool) (lengths : List Bool) (es : Li
       ap (at_length source bits) is
       ∙ none_there source bits (λ e m same. opposite (slice_index_or lengths bits false) (subst (λ (n : ℕ). slice_index_or lengths n false ≡ true) same (marked e m)) k)
 
-  -- no route is of a length above 255
-  pub too_long : (source : Addr) (bits : ℕ) → 256 ≤ bits → (map : FinMap key_cmp X) → maps.entries map ≡ es → at_length source bits (maps.entries map) ≡ []
-  too_long source bits k map is =
-      ap (at_length source bits) is
-      ∙ none_there source bits (λ e m same. there e es m (indexed.short e.0 (subst (λ (n : ℕ). 256 ≤ n) (sym same) k)))
+-- of lengths that are all unmarked none is marked
+pub none_marked : (count bits : ℕ) → slice_index_or (replicate count false) bits false ≡ false
+none_marked zero bits = refl
+none_marked (suc count) zero = refl
+none_marked (suc count) (suc bits) = none_marked count bits
 
 pub learned_inner : (lengths : List Bool) (es : List (RouteKey × Held)) → IsIndexed is_learned_place lengths es → (e : RouteKey × Held) → Among e es → IsInner e.0.place
 learned_inner lengths es indexed e m = learned_by e.0.place (placed is_learned_place lengths es indexed e m)

@@ -31,13 +31,18 @@ place_part Here = 1 ∷ []
 place_part (From peer rd) = 2 ∷ peer.0 ∷ rd.0
 place_part Last = 3 ∷ []
 
+-- of one length, family and first bits: by place, and then by address
+abbrev pub end_cmp : RouteKey → RouteKey → Ordering
+end_cmp = then_cmp (on (λ (key : RouteKey). place_part key.place) (slice_cmp nat_cmp)) (on (λ (key : RouteKey). key.prefix.addr) addr_cmp)
+
+-- of one length: by family and by the first bits before that
+abbrev pub family_cmp : RouteKey → RouteKey → Ordering
+family_cmp =
+    then_cmp (on (λ (key : RouteKey). family key.prefix.addr) nat_cmp)
+    (then_cmp (on (λ (key : RouteKey). front key.prefix.addr key.prefix.bits) nat_cmp) end_cmp)
+
 abbrev pub key_cmp : RouteKey → RouteKey → Ordering
-key_cmp =
-    then_cmp (on (λ (key : RouteKey). key.prefix.bits) nat_cmp)
-    (then_cmp (on (λ (key : RouteKey). family key.prefix.addr) nat_cmp)
-    (then_cmp (on (λ (key : RouteKey). front key.prefix.addr key.prefix.bits) nat_cmp)
-    (then_cmp (on (λ (key : RouteKey). place_part key.place) (slice_cmp nat_cmp))
-    (on (λ (key : RouteKey). key.prefix.addr) addr_cmp))))
+key_cmp = then_cmp (on (λ (key : RouteKey). key.prefix.bits) nat_cmp) family_cmp
 
 -- the order is total
 pub key_total : IsTotalOrder key_cmp

@@ -19,8 +19,8 @@ use Rattle.mv_base.specs.declared.rd.Rd.{Rd}
 use Rattle.mv_base.specs.declared.rd.Rule.{Rule}
 use Rattle.mv_base.specs.declared.rd.Rule.TheVariants.{Highest, Nearest, Hash}
 use Rattle.mv_base.specs.contracts.rd.Rule as rules
-use Rattle.core_walks.specs.Topology.{Topology}
-use Rattle.core_walks.specs.Walks.{IsLeast}
+use Rattle.mv_base.specs.core_walks.Topology.{Topology}
+use Rattle.mv_base.specs.core_walks.Walks.{IsLeast}
 use Rattle.choice_defs.specs.declared.known_route.KnownRoute.{KnownRoute}
 use Rattle.choice_defs.specs.declared.origin.Origin.{Origin}
 use Rattle.choice_defs.specs.declared.origin.Origin.TheVariants.{Local, Remote}
@@ -199,8 +199,12 @@ abbrev pub is_attached_place : Place → Bool
 is_attached_place Here = true
 is_attached_place other = false
 
--- No key is there of another kind of place, of a length that isn't marked, or of one above 255.
+-- No key is there of another kind of place, or of a length that isn't marked.
 pub record IsIndexed {X : Type 0} (is_place : Place → Bool) (lengths : List Bool) (entries : List (RouteKey × X)) : Type 0 where
   pub placed : (key : RouteKey) → is_place key.place ≡ false → lookup (is_at (key_cmp key)) entries ≡ None
-  pub short : (key : RouteKey) → 256 ≤ key.prefix.bits → lookup (is_at (key_cmp key)) entries ≡ None
   pub marked : (key : RouteKey) → slice_index_or lengths key.prefix.bits false ≡ false → lookup (is_at (key_cmp key)) entries ≡ None
+
+-- No length from the bound on is marked, and the bound is one of 256 lengths at most.
+pub record AreBelow (bound : ℕ) (lengths : List Bool) : Type 0 where
+  pub small : bound ≤ 256
+  pub none : (bits : ℕ) → bound ≤ bits → slice_index_or lengths bits false ≡ false

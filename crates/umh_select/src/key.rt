@@ -1,10 +1,10 @@
 //! The order of routes: by length and first bits of their prefixes, so that those which cover a source stand together.
 ghost use Rattle.std.specs.Prelude.{◌≡◌, refl};
-ghost use Rattle.std.specs.Ordering.{eq_by_cmp, as_partial_cmp, nat_cmp};
+ghost use Rattle.std.specs.Ordering.{eq_by_cmp, as_partial_cmp, nat_cmp, ordering_then};
 ghost use Rattle.std.specs.Cmp.Lexicographic.{slice_cmp};
 ghost use Rattle.std.specs.Cmp.{partial_equiv_from_equiv, eq_by_cmp_equiv, partial_order_from_total};
 ghost use Rattle.choice_defs.specs.Choice.{addr_cmp, rd_cmp};
-ghost use Rattle.umh_select.specs.Order.{family, front, key_cmp, key_total, place_part};
+ghost use Rattle.umh_select.specs.Order.{end_cmp, family_cmp, front, key_cmp, key_total, place_part};
 
 use mv_base::{Addr, NodeId, Prefix, Rd};
 use std::cmp::Ordering;
@@ -27,16 +27,6 @@ pub struct RouteKey {
     pub place: Place,
 }
 
-/// The version of the address: 4 or 6.
-fn family(addr: Addr) -> u8
-    ensures { result ≡ family addr }
-{
-    match addr {
-        Addr::V4(_) => 4,
-        Addr::V6(_) => 6,
-    }
-}
-
 /// The first bits of an IPv6 address, as a number.
 fn front_v6(octets: [u8; 16], bits: u8) -> u128
     ensures { result ≡ front (Addr.V6 octets) bits }
@@ -52,16 +42,6 @@ fn front_v4(octets: [u8; 4], bits: u8) -> u64
     ensures { result ≡ front (Addr.V4 octets) bits }
 {
     u64::from(u32::from_be_bytes(octets)) >> 32u8.saturating_sub(bits)
-}
-
-/// The first bits of a prefix, as a number.
-fn front(prefix: Prefix) -> u128
-    ensures { result ≡ front prefix.addr prefix.bits }
-{
-    match prefix.addr {
-        Addr::V4(octets) => u128::from(front_v4(octets, prefix.bits)),
-        Addr::V6(octets) => front_v6(octets, prefix.bits),
-    }
 }
 
 /// The order of addresses: those of IPv4 first, and then by their octets.
@@ -94,7 +74,11 @@ fn compare_places(one: Place, other: Place) -> Ordering
                 peer: next,
                 rd: its,
             },
-        ) => { peer.0.cmp(&next.0).then(compare_distinguishers(rd, its)) }
+        ) => match peer.0.cmp(&next.0) {
+            Ordering::Less => Ordering::Less,
+            Ordering::Equal => compare_distinguishers(rd, its),
+            Ordering::Greater => Ordering::Greater,
+        },
         (Place::First, Place::First) | (Place::Here, Place::Here) | (Place::Last, Place::Last) => {
             Ordering::Equal
         }
@@ -102,6 +86,48 @@ fn compare_places(one: Place, other: Place) -> Ordering
         (Place::Last, _) | (_, Place::First) => Ordering::Greater,
         (Place::Here, Place::From { peer: _, rd: _ }) => Ordering::Less,
         (Place::From { peer: _, rd: _ }, Place::Here) => Ordering::Greater,
+    }
+}
+
+/// The order of keys of one length, family and first bits: by place, and by address where that ties.
+fn compare_ends(one: &RouteKey, other: &RouteKey) -> Ordering
+    ensures { result ≡ end_cmp one.now other.now }
+{
+    match compare_places(one.place, other.place) {
+        Ordering::Less => Ordering::Less,
+        Ordering::Equal => compare_addrs(one.prefix.addr, other.prefix.addr),
+        Ordering::Greater => Ordering::Greater,
+    }
+}
+
+/// The order of keys of one length and family, whose first bits compare so: by the rest only where these tie.
+fn compare_behind(fronts: Ordering, one: &RouteKey, other: &RouteKey) -> Ordering
+    ensures { result ≡ ordering_then fronts (end_cmp one.now other.now) }
+{
+    match fronts {
+        Ordering::Less => Ordering::Less,
+        Ordering::Equal => compare_ends(one, other),
+        Ordering::Greater => Ordering::Greater,
+    }
+}
+
+/// The order of keys of one length: by family, by the first bits, and then by the rest.
+fn compare_families(one: &RouteKey, other: &RouteKey) -> Ordering
+    ensures { result ≡ family_cmp one.now other.now }
+{
+    match (one.prefix.addr, other.prefix.addr) {
+        (Addr::V4(own), Addr::V4(others)) => {
+            let own = front_v4(own, one.prefix.bits);
+            let others = front_v4(others, other.prefix.bits);
+            compare_behind(own.cmp(&others), one, other)
+        }
+        (Addr::V6(own), Addr::V6(others)) => {
+            let own = front_v6(own, one.prefix.bits);
+            let others = front_v6(others, other.prefix.bits);
+            compare_behind(own.cmp(&others), one, other)
+        }
+        (Addr::V4(_), Addr::V6(_)) => Ordering::Less,
+        (Addr::V6(_), Addr::V4(_)) => Ordering::Greater,
     }
 }
 
@@ -139,12 +165,10 @@ impl Ord for RouteKey {
     ghost matches_eq = { λ x y. refl };
 
     fn cmp(&self, other: &RouteKey) -> Ordering {
-        self.prefix
-            .bits
-            .cmp(&other.prefix.bits)
-            .then(family(self.prefix.addr).cmp(&family(other.prefix.addr)))
-            .then(front(self.prefix).cmp(&front(other.prefix)))
-            .then(compare_places(self.place, other.place))
-            .then(compare_addrs(self.prefix.addr, other.prefix.addr))
+        match self.prefix.bits.cmp(&other.prefix.bits) {
+            Ordering::Less => Ordering::Less,
+            Ordering::Equal => compare_families(self, other),
+            Ordering::Greater => Ordering::Greater,
+        }
     }
 }

@@ -1,5 +1,6 @@
 //! The routes that a VRF knows, and its choice among them.
-ghost use Rattle.std.specs.Prelude.{◌≡◌, ◌<◌, ◌≤◌, ℕ, not, None, Some, [], option_map, length, map, slice_get, IfOk, IfErr, OnOk, OnErr};
+ghost use Rattle.std.specs.Prelude.{◌≡◌, ◌<◌, ◌≤◌, ℕ, not, false, None, Some, [], option_map, length, map};
+ghost use Rattle.std.specs.Prelude.{slice_get, slice_index_or, IfOk, IfErr, OnOk, OnErr};
 ghost use Rattle.std.specs.FinMap.{empty, entries, insert, remove};
 ghost use Rattle.mv_base.specs.declared.addr.Addr.{Addr};
 ghost use Rattle.mv_base.specs.declared.ids.NodeId.{NodeId};
@@ -50,6 +51,13 @@ fn end(source: Addr, bits: u8, place: Place) -> RouteKey
     }
 }
 
+/// No length is marked.
+fn no_lengths() -> [bool; 256]
+    ensures { (bits : ℕ) → slice_index_or result bits false ≡ false }
+{
+    [false; 256]
+}
+
 /// The routes of a VRF: those that it learned, each one of its peer, route distinguisher and prefix, and its attached prefixes
 /// with their sites. Both stand by the lengths and first bits of their prefixes.
 #[derive(Drop)]
@@ -57,6 +65,8 @@ pub struct Umh {
     rule: Rule,
     /// The lengths that prefixes had.
     lengths: [bool; 256],
+    /// All of these are below it.
+    bound: usize,
     learned: BTreeMap<RouteKey, Held>,
     attached: BTreeMap<RouteKey, SiteId>,
 }
@@ -65,7 +75,7 @@ impl Model for Umh {
     ghost use Rattle.std.specs.FinMap.{from_sorted};
     ghost use Rattle.std.specs.BTreeMap.{IsOrdered};
     ghost use Rattle.umh_select.specs.Order.{key_cmp};
-    ghost use Rattle.umh_select.specs.Routes.{IsIndexed, Routes, is_attached_place, is_learned_place, routes_code};
+    ghost use Rattle.umh_select.specs.Routes.{AreBelow, IsIndexed, Routes, is_attached_place, is_learned_place, routes_code};
 
     ghost Value = { Routes };
 
@@ -74,7 +84,8 @@ impl Model for Umh {
     ghost view = { λ u. record { rule = u.rule; learned = from_sorted u.learned.entries; attached = from_sorted u.attached.entries } };
 
     ghost invariant = { λ u. IsOrdered key_cmp u.learned × IsOrdered key_cmp u.attached
-        × IsIndexed is_learned_place u.lengths u.learned.entries × IsIndexed is_attached_place u.lengths u.attached.entries };
+        × IsIndexed is_learned_place u.lengths u.learned.entries × IsIndexed is_attached_place u.lengths u.attached.entries
+        × AreBelow u.bound u.lengths };
 }
 
 impl Umh {
@@ -84,7 +95,8 @@ impl Umh {
     {
         Umh {
             rule,
-            lengths: [false; 256],
+            lengths: no_lengths(),
+            bound: 0,
             learned: BTreeMap::new(alloc),
             attached: BTreeMap::new(alloc),
         }
@@ -106,6 +118,7 @@ impl Umh {
         };
         self.learned.insert(key, held)?;
         self.lengths[usize::from(route.prefix.bits)] = true;
+        self.bound = self.bound.max(usize::from(route.prefix.bits) + 1);
         Ok(())
     }
 
@@ -141,6 +154,7 @@ impl Umh {
         };
         self.attached.insert(key, site)?;
         self.lengths[usize::from(prefix.bits)] = true;
+        self.bound = self.bound.max(usize::from(prefix.bits) + 1);
         Ok(())
     }
 
@@ -166,14 +180,12 @@ impl Umh {
         Choice::None
     }
 
-    /// How many lengths there may be: each prefix has a lower one.
+    /// A bound of the lengths: each prefix has a lower one.
     fn lengths(&self) -> usize
         ensures bound { result ≤ 256 }
         ensures none { (source : Addr) (bits : ℕ) → result ≤ bits → IsNoneAt self.now source bits }
     {
-        // A field is read, so that what is true of the tables is known here.
-        let _ = &self.rule;
-        self.lengths.len()
+        self.bound
     }
 
     /// The upstream among the prefixes of that length.

@@ -5,23 +5,23 @@ use Rattle.std.specs.Fmt.{decimal}
 use Rattle.hex.specs.Hex.{encode_lower}
 use Rattle.mv_base.specs.declared.prefix.Prefix.{Prefix}
 use Rattle.mv_base.specs.declared.rd.Rd.{Rd}
-use Rattle.mvpn_nlri.specs.declared.route.Afi.{Afi}
-use Rattle.mvpn_nlri.specs.declared.route.Afi.TheVariants.{Ipv4, Ipv6}
-use Rattle.route_targets.specs.declared.communities.ExtComm.{ExtComm}
-use Rattle.pmsi_attr.specs.declared.pmsi.Pmsi.{Pmsi}
-use Rattle.pmsi_attr.specs.Spelling as pmsis
-use Rattle.bgp_attributes.specs.declared.fault.StreamFault.{StreamFault}
-use Rattle.bgp_attributes.specs.declared.fault.StreamFault.TheVariants as bgp_reasons
-use Rattle.bgp_attributes.specs.declared.key.Key.{Key}
-use Rattle.bgp_attributes.specs.declared.key.Key.TheVariants as keys
-use Rattle.bgp_attributes.specs.declared.update.Advert.{Advert}
-use Rattle.bgp_attributes.specs.declared.update.Message.{Message}
-use Rattle.bgp_attributes.specs.declared.update.Message.TheVariants as messages
-use Rattle.mldp_fec.specs.declared.fec.Fec.{Fec}
-use Rattle.mldp_msgs.specs.declared.fault.LdpFault.{LdpFault}
-use Rattle.mldp_msgs.specs.declared.fault.LdpFault.TheVariants as ldp_reasons
-use Rattle.mldp_msgs.specs.declared.message.LabelMessage.{LabelMessage}
-use Rattle.mldp_msgs.specs.declared.message.LabelMessage.TheVariants.{Mapping, Withdraw, Release, Ignored}
+use Rattle.bgp_values.specs.declared.mvpn_nlri.route.Afi.{Afi}
+use Rattle.bgp_values.specs.declared.mvpn_nlri.route.Afi.TheVariants.{Ipv4, Ipv6}
+use Rattle.mv_base.specs.declared.route_targets.communities.ExtComm.{ExtComm}
+use Rattle.bgp_values.specs.declared.pmsi_attr.pmsi.Pmsi.{Pmsi}
+use Rattle.bgp_values.specs.pmsi_attr.Spelling as pmsis
+use Rattle.bgp_messages.specs.declared.bgp_attributes.fault.StreamFault.{StreamFault}
+use Rattle.bgp_messages.specs.declared.bgp_attributes.fault.StreamFault.TheVariants as bgp_reasons
+use Rattle.bgp_messages.specs.declared.bgp_attributes.key.Key.{Key}
+use Rattle.bgp_messages.specs.declared.bgp_attributes.key.Key.TheVariants as keys
+use Rattle.bgp_messages.specs.declared.bgp_attributes.update.Advert.{Advert}
+use Rattle.bgp_messages.specs.declared.bgp_attributes.update.Message.{Message}
+use Rattle.bgp_messages.specs.declared.bgp_attributes.update.Message.TheVariants as messages
+use Rattle.mldp.specs.declared.mldp_fec.fec.Fec.{Fec}
+use Rattle.mldp.specs.declared.mldp_msgs.fault.LdpFault.{LdpFault}
+use Rattle.mldp.specs.declared.mldp_msgs.fault.LdpFault.TheVariants as ldp_reasons
+use Rattle.mldp.specs.declared.mldp_msgs.message.LabelMessage.{LabelMessage}
+use Rattle.mldp.specs.declared.mldp_msgs.message.LabelMessage.TheVariants.{Mapping, Withdraw, Release, Ignored}
 use Rattle.value_text.specs.ValueText.{addr_text, fec_text, fec_word, pmsi_word, route_text, route_word}
 
 -- ---- BGP

@@ -6,23 +6,23 @@ use Rattle.mv_base.specs.declared.addr.Addr.{Addr}
 use Rattle.mv_base.specs.declared.addr.Addr.TheVariants.{V4, V6}
 use Rattle.mv_base.specs.declared.rd.Rd.{Rd}
 use Rattle.scenario_defs.specs.Text.{hex_text}
-use Rattle.pmsi_attr.specs.declared.fault.PmsiReason.{PmsiReason}
-use Rattle.pmsi_attr.specs.declared.fault.PmsiReason.TheVariants as pmsi_reasons
-use Rattle.pmsi_attr.specs.declared.pmsi.Pmsi.{Pmsi}
-use Rattle.pmsi_attr.specs.declared.pmsi.Tunnel.{Tunnel}
-use Rattle.pmsi_attr.specs.declared.pmsi.Tunnel.TheVariants as tunnels
-use Rattle.pmsi_attr.specs.Spelling.{type_octet}
-use Rattle.mvpn_nlri.specs.declared.fault.RouteReason.{RouteReason}
-use Rattle.mvpn_nlri.specs.declared.fault.RouteReason.TheVariants as route_reasons
-use Rattle.mvpn_nlri.specs.declared.route.LeafKey.{LeafKey}
-use Rattle.mvpn_nlri.specs.declared.route.LeafKey.TheVariants as keys
-use Rattle.mvpn_nlri.specs.declared.route.Route.{Route}
-use Rattle.mvpn_nlri.specs.declared.route.Route.TheVariants.{Intra, Inter, Selective, Leaf, Active, SharedJoin, SourceJoin, Other}
-use Rattle.mldp_fec.specs.declared.fault.FecReason.{FecReason}
-use Rattle.mldp_fec.specs.declared.fault.FecReason.TheVariants as fec_reasons
-use Rattle.mldp_fec.specs.declared.fec.Fec.{Fec}
-use Rattle.mldp_fec.specs.declared.fec.FecKind.{FecKind}
-use Rattle.mldp_fec.specs.declared.fec.FecKind.TheVariants.{P2mp, Up, Down}
+use Rattle.bgp_values.specs.declared.pmsi_attr.fault.PmsiReason.{PmsiReason}
+use Rattle.bgp_values.specs.declared.pmsi_attr.fault.PmsiReason.TheVariants as pmsi_reasons
+use Rattle.bgp_values.specs.declared.pmsi_attr.pmsi.Pmsi.{Pmsi}
+use Rattle.bgp_values.specs.declared.pmsi_attr.pmsi.Tunnel.{Tunnel}
+use Rattle.bgp_values.specs.declared.pmsi_attr.pmsi.Tunnel.TheVariants as tunnels
+use Rattle.bgp_values.specs.pmsi_attr.Spelling.{type_octet}
+use Rattle.bgp_values.specs.declared.mvpn_nlri.fault.RouteReason.{RouteReason}
+use Rattle.bgp_values.specs.declared.mvpn_nlri.fault.RouteReason.TheVariants as route_reasons
+use Rattle.bgp_values.specs.declared.mvpn_nlri.route.LeafKey.{LeafKey}
+use Rattle.bgp_values.specs.declared.mvpn_nlri.route.LeafKey.TheVariants as keys
+use Rattle.bgp_values.specs.declared.mvpn_nlri.route.Route.{Route}
+use Rattle.bgp_values.specs.declared.mvpn_nlri.route.Route.TheVariants.{Intra, Inter, Selective, Leaf, Active, SharedJoin, SourceJoin, Other}
+use Rattle.mldp.specs.declared.mldp_fec.fault.FecReason.{FecReason}
+use Rattle.mldp.specs.declared.mldp_fec.fault.FecReason.TheVariants as fec_reasons
+use Rattle.mldp.specs.declared.mldp_fec.fec.Fec.{Fec}
+use Rattle.mldp.specs.declared.mldp_fec.fec.FecKind.{FecKind}
+use Rattle.mldp.specs.declared.mldp_fec.fec.FecKind.TheVariants.{P2mp, Up, Down}
 
 -- two octets in four hexadecimal digits
 abbrev pub group_text : List ℕ → ℕ → List ℕ

@@ -9,12 +9,12 @@ use crate::addr_text::put_addr;
 use crate::lined::{Lined, Worded};
 use crate::pmsi_lines::put_pmsi_word;
 use crate::route_lines::{put_rd, put_route, route_word};
-use bgp_attributes::{Advert, Key, Message, StreamFault};
+use bgp_messages::bgp_attributes::{Advert, Key, Message, StreamFault};
+use bgp_values::mvpn_nlri::Afi;
+use bgp_values::pmsi_attr::Pmsi;
+use mv_base::route_targets::ExtComm;
 use mv_base::{Bytes, NoMemory, Prefix, Rd};
-use mvpn_nlri::Afi;
-use pmsi_attr::Pmsi;
 use report_text::{put_digits, put_number};
-use route_targets::ExtComm;
 
 fn put_prefix(out: &mut Bytes, prefix: &Prefix) -> Result<(), NoMemory>
     ensures { OnOk result (out.new ≡ out.old ++ prefix_text prefix.now) }
@@ -92,7 +92,7 @@ fn put_attribute(out: &mut Bytes, pmsi: &Option<Pmsi>) -> Result<(), NoMemory>
         None => out.extend(b"-"),
         Some(pmsi) => {
             let mut octets = [0; 101];
-            let len = pmsi_attr::encode(pmsi, &mut octets);
+            let len = bgp_values::pmsi_attr::encode(pmsi, &mut octets);
             put_digits(out, &octets[..len])
         }
     }

@@ -4,7 +4,7 @@ ghost use Rattle.value_text.specs.ValueText.{kind_text, fec_text, fec_line, fec_
 
 use crate::addr_text::put_addr;
 use crate::refused::put_refused;
-use mldp_fec::{Fec, FecFault, FecKind, FecReason};
+use mldp::mldp_fec::{Fec, FecFault, FecKind, FecReason};
 use mv_base::{Bytes, NoMemory};
 use report_text::put_hex;
 

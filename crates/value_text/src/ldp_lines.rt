@@ -4,8 +4,8 @@ ghost use Rattle.value_text.specs.MessageText.{label_line};
 
 use crate::fec_lines::{fec_word, put_fec};
 use crate::lined::{Lined, Worded};
-use mldp_fec::Fec;
-use mldp_msgs::{LabelMessage, LdpFault};
+use mldp::mldp_fec::Fec;
+use mldp::mldp_msgs::{LabelMessage, LdpFault};
 use mv_base::{Bytes, NoMemory};
 use report_text::put_number;
 

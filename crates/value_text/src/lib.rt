@@ -1,4 +1,11 @@
-//! The lines of values: routes, tunnel attributes, FEC elements, messages of BGP, LDP and PIM; and the line of a fault.
+//! The lines of values and messages, as `decode` writes them. A value or its fault comes in, and the octets of its
+//! lines go out: FEC elements (`fec_lines.rt`), tunnel attributes (`pmsi_lines.rt`) and MCAST-VPN routes
+//! (`route_lines.rt`), messages of BGP and LDP (`bgp_lines.rt`, `ldp_lines.rt`), Join/Prune messages (`pim_lines.rt`),
+//! addresses (`addr_text.rt`), and the line `refused` of a fault (`refused.rt`). `lined.rt` has the traits `Lined` and
+//! `Worded` by which messages and faults of any format are written. `specs/ValueText.antt`, `MessageText.antt` and
+//! `JoinPruneText.antt` say what the lines are, with no word of how they are written. Below it are the formats (`mldp`,
+//! `bgp_values`, `bgp_messages`, `pim_joinprune`) and `report_text` for numbers and digits; above it `decode_text`
+//! reads octets and has these lines written.
 #![tactic(auto)]
 
 mod addr_text;

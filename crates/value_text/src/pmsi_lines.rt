@@ -5,8 +5,8 @@ ghost use Rattle.value_text.specs.ValueText.{flag_text, label_text, tunnel_text,
 use crate::addr_text::put_addr;
 use crate::fec_lines::{fec_word, put_fec};
 use crate::refused::put_refused;
+use bgp_values::pmsi_attr::{Pmsi, PmsiFault, PmsiReason, Tunnel};
 use mv_base::{Bytes, NoMemory};
-use pmsi_attr::{Pmsi, PmsiFault, PmsiReason, Tunnel};
 use report_text::{put_hex, put_number};
 
 fn flag_word(flag: bool) -> &'static [u8]

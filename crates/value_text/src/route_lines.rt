@@ -6,8 +6,8 @@ ghost use Rattle.value_text.specs.ValueText.{key_text, route_text, route_line, r
 
 use crate::addr_text::put_addr;
 use crate::refused::put_refused;
+use bgp_values::mvpn_nlri::{LeafKey, Route, RouteFault, RouteReason};
 use mv_base::{Addr, Bytes, NoMemory, Rd};
-use mvpn_nlri::{LeafKey, Route, RouteFault, RouteReason};
 use report_text::{put_digits, put_hex, put_number};
 
 /// Appends a route distinguisher.

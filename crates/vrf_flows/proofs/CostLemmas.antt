@@ -4,8 +4,8 @@ use Rattle.std.specs.List.{list_all, All}
 use Rattle.std.proofs.lemmas.Bool.Decides.{nat_tests}
 use Rattle.mv_base.specs.declared.core_link.Link.{Link}
 use Rattle.mv_base.specs.declared.ids.NodeId.{NodeId}
-use Rattle.core_walks.specs.Walks.{IsLeast}
-use Rattle.core_walks.specs.Topology.{HasEnds, IsTopology, IsConnected}
+use Rattle.mv_base.specs.core_walks.Walks.{IsLeast}
+use Rattle.mv_base.specs.core_walks.Topology.{HasEnds, IsTopology, IsConnected}
 use Rattle.core_paths.specs.Rows.{far, relaxed_all, is_tight, IsCostRow}
 use Rattle.core_paths.proofs.RowLemmas.{HasWalk, IsSound, reached, relaxed_all_sound, relaxed_all_falls, cost_row}
 use Rattle.core_paths.proofs.TableLemmas.{all_near}

@@ -24,8 +24,8 @@ use Rattle.umh_select.specs.declared.route.Held.{Held}
 use Rattle.umh_select.specs.Order.{key_cmp, key_total}
 use Rattle.umh_select.specs.Routes.{Routes, choice_by, chosen, key_from, known, known_from, known_here, remote_choice}
 use Rattle.umh_select.proofs.OrderLemmas.{key_exact}
-use Rattle.tree_defs.specs.declared.flow.Flow.{Flow}
-use Rattle.tree_defs.specs.Flows.{chosen_for}
+use Rattle.vrf_words.specs.declared.tree_defs.flow.Flow.{Flow}
+use Rattle.vrf_words.specs.tree_defs.Flows.{chosen_for}
 use Rattle.vrf_flows.proofs.EntryLemmas.{entries-remove, filter-put, filter-within}
 
 -- ---- routes that cover a source

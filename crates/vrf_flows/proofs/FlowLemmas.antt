@@ -8,9 +8,9 @@ use Rattle.std.proofs.lemmas.Map.Keys.{IsDistinct-head, IsDistinct-tail}
 use Rattle.scenario_defs.specs.declared.event.IfaceEntry.{IfaceEntry}
 use Rattle.pim_defs.specs.declared.expiry.Expiry.{Expiry}
 use Rattle.pim_defs.specs.Expiry.{is_after}
-use Rattle.tree_defs.specs.declared.flow.Flow.{Flow}
-use Rattle.tree_defs.specs.Keys.{same_flow}
-use Rattle.tree_defs.proofs.KeyLemmas.{same_flow_equal, same_flow_symmetric}
+use Rattle.vrf_words.specs.declared.tree_defs.flow.Flow.{Flow}
+use Rattle.vrf_words.specs.tree_defs.Keys.{same_flow}
+use Rattle.vrf_words.proofs.tree_defs.KeyLemmas.{same_flow_equal, same_flow_symmetric}
 use Rattle.vrf_flows.specs.declared.held.Held.{Held}
 use Rattle.vrf_flows.specs.Held.{touches, mark, marked, unknown, held_too, forgotten, differ, lapsed, Now}
 use Rattle.vrf_flows.specs.Plan.{put_at, puts, sets, replan, planned, gain, loss, settled, settled_by}

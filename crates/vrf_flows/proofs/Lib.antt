@@ -1,3 +1,4 @@
+pub use Rattle.pim_state.proofs as pim_state
 pub mod FlowLemmas
 pub mod TreeLemmas
 pub mod SetLemmas

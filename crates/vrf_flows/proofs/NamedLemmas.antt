@@ -15,9 +15,9 @@ use Rattle.pim_defs.specs.Asking.{asks_by}
 use Rattle.pim_defs.specs.Entries.{Entries, asks, expiry_at}
 use Rattle.pim_state.specs.Plan.{is_at}
 use Rattle.pim_state.proofs.MapLemmas.{at-equal, not_both}
-use Rattle.tree_defs.specs.declared.flow.Flow.{Flow}
-use Rattle.tree_defs.specs.declared.flow.SiteIface.{SiteIface}
-use Rattle.tree_defs.proofs.KeyLemmas.{same_flow_itself}
+use Rattle.vrf_words.specs.declared.tree_defs.flow.Flow.{Flow}
+use Rattle.vrf_words.specs.declared.tree_defs.flow.SiteIface.{SiteIface}
+use Rattle.vrf_words.proofs.tree_defs.KeyLemmas.{same_flow_itself}
 use Rattle.vrf_flows.specs.Held.{touches}
 use Rattle.vrf_flows.specs.Sight.{asking_among, asking_of, is_named, may_change, named_in}
 use Rattle.vrf_flows.proofs.TreeLemmas.{expiry-found}

@@ -9,9 +9,9 @@ use Rattle.std.specs.FinMap.{IsAntisymmetric}
 use Rattle.std.specs.FinSet.{from_list, insert, remove, items, contains, contains-from_list, contains-insert, contains-remove, contains-items, len, len-empty, len-insert, same_set}
 use Rattle.std.proofs.lemmas.Bool.{or_left, or_right}
 use Rattle.pim_state.proofs.MapLemmas.{not_both}
-use Rattle.tree_defs.specs.declared.flow.Flow.{Flow}
-use Rattle.tree_defs.specs.Keys.{same_flow}
-use Rattle.tree_defs.proofs.KeyLemmas.{same_flow_equal}
+use Rattle.vrf_words.specs.declared.tree_defs.flow.Flow.{Flow}
+use Rattle.vrf_words.specs.tree_defs.Keys.{same_flow}
+use Rattle.vrf_words.proofs.tree_defs.KeyLemmas.{same_flow_equal}
 
 module _ {K : Type 0} {cmp : K → K → Ordering} (total : IsTotalOrder cmp) (exact : IsAntisymmetric cmp) (same : K → K → Bool) (ties : (a b : K) → same a b ≡ eq_by_cmp cmp a b) where
   pub listed : (keys : List K) (q : K) → contains (from_list {R = cmp} keys) q ≡ list_any (same q) keys

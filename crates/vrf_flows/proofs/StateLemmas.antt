@@ -15,13 +15,13 @@ use Rattle.mv_base.specs.declared.rd.Rule.TheVariants.{Highest, Nearest, Hash}
 use Rattle.choice_defs.specs.Choice.{best_route, cost_by}
 use Rattle.umh_select.specs.declared.route.Choice.{Choice}
 use Rattle.umh_select.specs.Routes.{Routes, chosen, known}
-use Rattle.tree_defs.specs.declared.flow.Flow.{Flow}
-use Rattle.tree_defs.specs.declared.flow.Note.{Note}
-use Rattle.tree_defs.specs.declared.flow.ActiveRoute.{ActiveRoute}
-use Rattle.tree_defs.specs.declared.flow.SiteIface.{SiteIface}
-use Rattle.tree_defs.specs.Keys.{same_flow, flow_cmp}
-use Rattle.tree_defs.specs.Flows.{asking, chosen_for, flow_of, is_active}
-use Rattle.tree_defs.proofs.KeyLemmas.{flow_total, flow_exact, flow_ties, same_flow_equal, note_total, note_exact, same_note, note_ties, active_total, active_exact, same_active, active_ties}
+use Rattle.vrf_words.specs.declared.tree_defs.flow.Flow.{Flow}
+use Rattle.vrf_words.specs.declared.tree_defs.flow.Note.{Note}
+use Rattle.vrf_words.specs.declared.tree_defs.flow.ActiveRoute.{ActiveRoute}
+use Rattle.vrf_words.specs.declared.tree_defs.flow.SiteIface.{SiteIface}
+use Rattle.vrf_words.specs.tree_defs.Keys.{same_flow, flow_cmp}
+use Rattle.vrf_words.specs.tree_defs.Flows.{asking, chosen_for, flow_of, is_active}
+use Rattle.vrf_words.proofs.tree_defs.KeyLemmas.{flow_total, flow_exact, flow_ties, same_flow_equal, note_total, note_exact, same_note, note_ties, active_total, active_exact, same_active, active_ties}
 use Rattle.vrf_flows.specs.declared.held.Held.{Held}
 use Rattle.vrf_flows.specs.declared.held.Kept.{Kept}
 use Rattle.vrf_flows.specs.declared.state.State.{State}

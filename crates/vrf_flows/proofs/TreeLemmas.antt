@@ -25,12 +25,12 @@ use Rattle.pim_defs.proofs.KeyLemmas.{same_entry_equal}
 use Rattle.pim_state.specs.Plan.{is_at}
 use Rattle.pim_state.proofs.MapLemmas.{get-lookup, at-equal}
 use Rattle.umh_select.specs.declared.route.Choice.{Choice}
-use Rattle.tree_defs.specs.declared.flow.Flow.{Flow}
-use Rattle.tree_defs.specs.declared.flow.SiteIface.{SiteIface}
-use Rattle.tree_defs.specs.declared.flow.Upstream.{Upstream}
-use Rattle.tree_defs.specs.Keys.{same_flow}
-use Rattle.tree_defs.specs.Flows.{gained, lost}
-use Rattle.tree_defs.proofs.KeyLemmas.{same_flow_itself, same_upstream_itself}
+use Rattle.vrf_words.specs.declared.tree_defs.flow.Flow.{Flow}
+use Rattle.vrf_words.specs.declared.tree_defs.flow.SiteIface.{SiteIface}
+use Rattle.vrf_words.specs.declared.tree_defs.flow.Upstream.{Upstream}
+use Rattle.vrf_words.specs.tree_defs.Keys.{same_flow}
+use Rattle.vrf_words.specs.tree_defs.Flows.{gained, lost}
+use Rattle.vrf_words.proofs.tree_defs.KeyLemmas.{same_flow_itself, same_upstream_itself}
 use Rattle.vrf_flows.specs.declared.held.Held.{Held}
 use Rattle.vrf_flows.specs.Held.{Now, kept_of, is_stale, touches, marked, held_too, joins_in, joins_itself, holds_entry, names, names_in, lapsed, ended, differ}
 use Rattle.vrf_flows.specs.Sight.{flow_by, is_joined, is_sent, is_needed, flow_at}

@@ -10,13 +10,13 @@ use Rattle.pim_state.specs.Codes.{entries_code}
 use Rattle.umh_select.specs.declared.route.Choice.{Choice}
 use Rattle.umh_select.specs.contracts.route.Choice as choices
 use Rattle.umh_select.specs.Routes.{Routes, routes_code}
-use Rattle.tree_defs.specs.declared.flow.SiteIface.{SiteIface}
-use Rattle.tree_defs.specs.contracts.flow.SiteIface as ifaces
-use Rattle.tree_defs.specs.contracts.flow.Note as notes
-use Rattle.tree_defs.specs.contracts.flow.ActiveRoute as actives
-use Rattle.tree_defs.specs.contracts.flow.Flow as flows
-use Rattle.tree_defs.specs.Keys.{flow_cmp, note_cmp, active_cmp}
-use Rattle.tree_defs.specs.Flows.{VrfData}
+use Rattle.vrf_words.specs.declared.tree_defs.flow.SiteIface.{SiteIface}
+use Rattle.vrf_words.specs.contracts.tree_defs.flow.SiteIface as ifaces
+use Rattle.vrf_words.specs.contracts.tree_defs.flow.Note as notes
+use Rattle.vrf_words.specs.contracts.tree_defs.flow.ActiveRoute as actives
+use Rattle.vrf_words.specs.contracts.tree_defs.flow.Flow as flows
+use Rattle.vrf_words.specs.tree_defs.Keys.{flow_cmp, note_cmp, active_cmp}
+use Rattle.vrf_words.specs.tree_defs.Flows.{VrfData}
 
 abbrev Parts : Type 0
 Parts = List SiteIface × (Entries × (FinSet note_cmp × (FinSet active_cmp × (Routes × FinMap flow_cmp Choice))))

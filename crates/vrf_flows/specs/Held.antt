@@ -15,8 +15,8 @@ use Rattle.pim_joinprune.specs.declared.group.Group.{Group}
 use Rattle.pim_defs.specs.declared.expiry.Expiry.{Expiry}
 use Rattle.pim_defs.specs.Expiry.{is_after}
 use Rattle.pim_defs.specs.Mention.{entry_of, same_entry}
-use Rattle.tree_defs.specs.declared.flow.Flow.{Flow}
-use Rattle.tree_defs.specs.Keys.{same_flow}
+use Rattle.vrf_words.specs.declared.tree_defs.flow.Flow.{Flow}
+use Rattle.vrf_words.specs.tree_defs.Keys.{same_flow}
 use Rattle.vrf_flows.specs.declared.held.Held.{Held}
 use Rattle.vrf_flows.specs.declared.held.Kept.{Kept}
 use Rattle.vrf_flows.specs.declared.held.Cause.{Cause}

@@ -1,3 +1,4 @@
+pub use Rattle.pim_defs.specs as pim_defs
 pub mod Held
 pub mod Sight
 pub mod Plan

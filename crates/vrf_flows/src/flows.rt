@@ -6,9 +6,9 @@ ghost use Rattle.indexmap.specs.IndexMap.{get, IsUnique};
 ghost use Rattle.mv_base.specs.declared.ids.NodeId.{NodeId};
 ghost use Rattle.pim_defs.specs.Entries.{applied, are_too_many, due, kept_at};
 ghost use Rattle.umh_select.specs.Routes.{AreCosts, AreOfCore, held_of, key_from, key_here, without_peer};
-ghost use Rattle.tree_defs.specs.declared.flow.Flow.{Flow};
-ghost use Rattle.tree_defs.specs.Keys.{same_flow};
-ghost use Rattle.tree_defs.specs.Flows.{chosen_for, flow_of, gained, is_from, is_noted, lost, outgoing, upstream_of};
+ghost use Rattle.vrf_words.specs.declared.tree_defs.flow.Flow.{Flow};
+ghost use Rattle.vrf_words.specs.tree_defs.Keys.{same_flow};
+ghost use Rattle.vrf_words.specs.tree_defs.Flows.{chosen_for, flow_of, gained, is_from, is_noted, lost, outgoing, upstream_of};
 ghost use Rattle.vrf_flows.specs.State.{active_by, flow_by_addrs, no_vrf, note_at};
 
 use crate::state::{FlowChanges, State};
@@ -19,8 +19,8 @@ use pim_state::TakeFault;
 use scenario_defs::IfaceList;
 use std::alloc::Global;
 use std::marker::Model;
-use tree_defs::{ActiveRoute, Flow, Note, Origin, Upstream};
 use umh_select::Learned;
+use vrf_words::tree_defs::{ActiveRoute, Flow, Note, Origin, Upstream};
 
 /// What one VRF keeps: its interfaces, their joined and pruned entries, what tells that sources send, and the routes that it
 /// knows; with its flows as the last refresh left them, each with its upstream. A refresh looks only at flows that something
@@ -31,7 +31,7 @@ pub struct VrfFlows {
 }
 
 impl Model for VrfFlows {
-    ghost use Rattle.tree_defs.specs.Flows.{VrfData};
+    ghost use Rattle.vrf_words.specs.tree_defs.Flows.{VrfData};
     ghost use Rattle.vrf_flows.specs.Codes.{vrf_code};
     ghost use Rattle.vrf_flows.specs.State.{IsSound, vrf_of};
 

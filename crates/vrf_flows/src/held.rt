@@ -2,8 +2,8 @@
 ghost use Rattle.std.specs.Prelude.{◌≡◌, is_some, OnOk};
 ghost use Rattle.std.specs.List.{list_any};
 ghost use Rattle.indexmap.specs.IndexMap.{get, IsUnique};
-ghost use Rattle.tree_defs.specs.declared.flow.Flow.{Flow};
-ghost use Rattle.tree_defs.specs.Keys.{same_flow};
+ghost use Rattle.vrf_words.specs.declared.tree_defs.flow.Flow.{Flow};
+ghost use Rattle.vrf_words.specs.tree_defs.Keys.{same_flow};
 ghost use Rattle.vrf_flows.specs.Held.{cause_of, concerns, held_too, joins_flow, joins_in, joins_itself, holds_entry};
 
 use indexmap::IndexMap;
@@ -11,8 +11,8 @@ use mv_base::{Addr, NoMemory, Prefix, Seq};
 use pim_defs::Expiry;
 use pim_joinprune::{Group, JpSource, SourceKind};
 use scenario_defs::{IfaceEntry, JoinEntry};
-use tree_defs::{Flow, SiteIface};
 use umh_select::Choice;
+use vrf_words::tree_defs::{Flow, SiteIface};
 
 /// A flow of the VRF: its upstream, and the interfaces that ask for it, in order.
 #[derive(Drop)]

@@ -1,5 +1,13 @@
-//! The flows of a VRF, with the upstream of each, kept and brought up to date by what was touched (RFC 7761 section 4.1.6;
-//! RFC 6513 section 5.1).
+//! The flows of one VRF, as code (RFC 7761 section 4.1.6, RFC 6513 section 5.1, RFC 6514 section 14). Messages of
+//! customers, notes, routes and time come in and touch flows; a refresh goes out, with the joins that are gained and
+//! lost by it, and where a datagram leaves. Contracts see `VrfData` of `vrf_words`. One map has each flow that the VRF
+//! may have, with what it was at the last refresh and whether something touched it since: where an entry joins it, or
+//! where its source is known to send. A refresh computes anew what is marked (`marks.rt`, `plan.rt`); that what is not
+//! marked is what recomputing gives is the invariant (`specs/State.antt`). The interfaces that ask are kept with a
+//! flow. A join or prune of (S,G) marks one flow, one of (*,G) looks at all that are held; where the clock moved, a
+//! refresh looks once at each entry. By the rule of the nearest edge all flows are chosen for again, since the core may
+//! have changed. Where a refresh runs out of memory, all flows are marked, and the next one computes each anew. Below
+//! it are `pim_state`, `umh_select` and `core_paths`; above it `vrf_trees` adds the tunnels of the VRF.
 #![tactic(auto)]
 
 mod flows;
@@ -10,5 +18,7 @@ mod sight;
 mod state;
 
 pub use flows::VrfFlows;
+// The names `of_..`: words of lower crates that this crate's contracts are made of.
+pub use pim_state as of_pim_state;
 pub use plan::{Joins, put};
 pub use state::FlowChanges;

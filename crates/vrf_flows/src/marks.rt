@@ -2,8 +2,8 @@
 ghost use Rattle.std.specs.Prelude.{◌≡◌, ◌&&◌, true};
 ghost use Rattle.std.specs.List.{list_any};
 ghost use Rattle.indexmap.specs.IndexMap.{get, IsUnique};
-ghost use Rattle.tree_defs.specs.declared.flow.Flow.{Flow};
-ghost use Rattle.tree_defs.specs.Keys.{same_flow};
+ghost use Rattle.vrf_words.specs.declared.tree_defs.flow.Flow.{Flow};
+ghost use Rattle.vrf_words.specs.tree_defs.Keys.{same_flow};
 ghost use Rattle.vrf_flows.specs.Held.{concerns, mark, marked, forgotten, unknown, names, names_in, lapses, ends, lapsed, ended, differ};
 
 use crate::held::{Cause, FlowTable, Held, cause_of};
@@ -12,7 +12,7 @@ use mv_base::Addr;
 use pim_defs::{Expiry, entry_of};
 use pim_joinprune::{Group, JpSource};
 use scenario_defs::IfaceEntry;
-use tree_defs::Flow;
+use vrf_words::tree_defs::Flow;
 
 /// Marks the flow, where it is held.
 fn mark_flow(flows: &mut FlowTable, flow: Flow)

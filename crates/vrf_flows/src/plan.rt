@@ -3,9 +3,9 @@ ghost use Rattle.std.specs.Prelude.{◌≡◌, ◌<◌, ℕ, is_some, true, None
 ghost use Rattle.indexmap.specs.IndexMap.{get, IsUnique};
 ghost use Rattle.mv_base.specs.declared.ids.NodeId.{NodeId};
 ghost use Rattle.umh_select.specs.Routes.{AreCosts, AreOfCore};
-ghost use Rattle.tree_defs.specs.declared.flow.Flow.{Flow};
-ghost use Rattle.tree_defs.specs.Keys.{same_flow};
-ghost use Rattle.tree_defs.specs.Flows.{gained, same_upstream, upstream_of};
+ghost use Rattle.vrf_words.specs.declared.tree_defs.flow.Flow.{Flow};
+ghost use Rattle.vrf_words.specs.tree_defs.Keys.{same_flow};
+ghost use Rattle.vrf_words.specs.tree_defs.Flows.{gained, same_upstream, upstream_of};
 ghost use Rattle.vrf_flows.specs.Held.{kept_of};
 ghost use Rattle.vrf_flows.specs.Sight.{seen, needs};
 ghost use Rattle.vrf_flows.specs.Plan.{choice_in, joined_by, replan, put_at, planned, gain, loss, settled, settled_by};
@@ -15,8 +15,8 @@ use crate::sight::{Sight, flow_at, is_needed};
 use indexmap::IndexMap;
 use mv_base::NoMemory;
 use std::alloc::Global;
-use tree_defs::{Flow, Upstream};
 use umh_select::Choice;
+use vrf_words::tree_defs::{Flow, Upstream};
 
 /// Flows that are computed anew, each with what it is then.
 pub(crate) type Plan = IndexMap<Flow, Option<Kept>>;

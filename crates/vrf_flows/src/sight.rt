@@ -2,7 +2,7 @@
 ghost use Rattle.std.specs.Prelude.{◌≡◌, ◌<◌, ℕ, IfOk};
 ghost use Rattle.mv_base.specs.declared.ids.NodeId.{NodeId};
 ghost use Rattle.umh_select.specs.Routes.{AreCosts, AreOfCore};
-ghost use Rattle.tree_defs.specs.Flows.{chosen_for};
+ghost use Rattle.vrf_words.specs.tree_defs.Flows.{chosen_for};
 ghost use Rattle.vrf_flows.specs.Sight.{asking_among, asking_of, is_named, is_joined, is_needed, is_sent, flow_by, named_in, seen};
 
 use crate::held::{Kept, cause_of};
@@ -13,8 +13,8 @@ use pim_defs::Expiry;
 use pim_state::Downstream;
 use scenario_defs::{IfaceEntry, JoinEntry};
 use std::alloc::Global;
-use tree_defs::{Flow, SiteIface};
 use umh_select::{Choice, Umh};
+use vrf_words::tree_defs::{Flow, SiteIface};
 
 /// Entries, flows that are known to be sent, and routes, at a clock and in the core as the edge knows it.
 #[derive(Clone, Copy)]

@@ -9,9 +9,9 @@ ghost use Rattle.indexmap.specs.IndexSet.{spare};
 ghost use Rattle.mv_base.specs.declared.ids.NodeId.{NodeId};
 ghost use Rattle.pim_defs.specs.Entries.{applied, are_too_many, kept_at};
 ghost use Rattle.umh_select.specs.Routes.{AreCosts, AreOfCore, held_of, key_from, key_here, without_peer};
-ghost use Rattle.tree_defs.specs.declared.flow.Flow.{Flow};
-ghost use Rattle.tree_defs.specs.Keys.{same_flow};
-ghost use Rattle.tree_defs.specs.Flows.{asking, chosen_for, flow_of, gained, lost, is_from, is_noted, is_outside, outgoing, upstream_of};
+ghost use Rattle.vrf_words.specs.declared.tree_defs.flow.Flow.{Flow};
+ghost use Rattle.vrf_words.specs.tree_defs.Keys.{same_flow};
+ghost use Rattle.vrf_words.specs.tree_defs.Flows.{asking, chosen_for, flow_of, gained, lost, is_from, is_noted, is_outside, outgoing, upstream_of};
 ghost use Rattle.vrf_flows.specs.Held.{lapsed, marked};
 ghost use Rattle.vrf_flows.specs.Sight.{ifaces_of, is_sent};
 ghost use Rattle.vrf_flows.specs.State.{IsSound, iface_in, no_vrf, compares_costs};
@@ -28,8 +28,8 @@ use pim_joinprune::JoinPrune;
 use pim_state::{Downstream, TakeFault};
 use scenario_defs::IfaceList;
 use std::alloc::Global;
-use tree_defs::{ActiveRoute, Flow, Note, Origin, SiteIface, Upstream};
 use umh_select::{Choice, Learned, Umh};
+use vrf_words::tree_defs::{ActiveRoute, Flow, Note, Origin, SiteIface, Upstream};
 
 /// What changed since the last refresh: the flows that are joined at another edge, and those that were and are left.
 #[derive(Drop)]

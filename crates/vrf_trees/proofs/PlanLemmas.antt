@@ -1,7 +1,7 @@
 -- What plans say at their end.
 use Rattle.std.proofs.Common.{◌≡◌, Option, None, Some, refl}
-use Rattle.tree_defs.specs.declared.flow.Flow.{Flow}
-use Rattle.tree_defs.specs.declared.flow.Upstream.{Upstream}
+use Rattle.vrf_words.specs.declared.tree_defs.flow.Flow.{Flow}
+use Rattle.vrf_words.specs.declared.tree_defs.flow.Upstream.{Upstream}
 use Rattle.selective.specs.Leaves.{Leaf}
 use Rattle.vrf_flows.proofs.FlowLemmas.{given_by, given_or, or_old}
 use Rattle.vrf_trees.specs.declared.wants.Wants.{Wants}

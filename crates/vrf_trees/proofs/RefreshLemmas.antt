@@ -11,18 +11,18 @@ use Rattle.std.proofs.lemmas.Map.Keys.{IsDistinct-from_sorted}
 use Rattle.indexmap.specs.IndexMap.{IsUnique, get}
 use Rattle.mv_base.specs.declared.ids.NodeId.{NodeId}
 use Rattle.mv_base.proofs.SortedMaps.{map_sorted}
-use Rattle.mldp_fec.specs.declared.fec.Fec.{Fec}
+use Rattle.mldp.specs.declared.mldp_fec.fec.Fec.{Fec}
 use Rattle.label_defs.specs.Keys.{fec_cmp}
 use Rattle.label_defs.proofs.KeyLemmas.{fec_cmp_exact, fec_cmp_total}
 use Rattle.selective.specs.Leaves.{Leaf}
 use Rattle.umh_select.specs.declared.route.Choice.{Choice}
 use Rattle.umh_select.specs.declared.route.Choice.TheVariants as choices
-use Rattle.tree_defs.specs.declared.flow.Flow.{Flow}
-use Rattle.tree_defs.specs.declared.flow.Upstream.{Upstream}
-use Rattle.tree_defs.specs.Keys.{flow_cmp, same_flow}
-use Rattle.tree_defs.specs.Flows.{gained, lost, same_upstream, upstream_of}
-use Rattle.tree_defs.specs.Trees.{flow_wants, wanted_by}
-use Rattle.tree_defs.proofs.KeyLemmas.{flow_ties, same_upstream_equal, same_upstream_itself}
+use Rattle.vrf_words.specs.declared.tree_defs.flow.Flow.{Flow}
+use Rattle.vrf_words.specs.declared.tree_defs.flow.Upstream.{Upstream}
+use Rattle.vrf_words.specs.tree_defs.Keys.{flow_cmp, same_flow}
+use Rattle.vrf_words.specs.tree_defs.Flows.{gained, lost, same_upstream, upstream_of}
+use Rattle.vrf_words.specs.tree_defs.Trees.{flow_wants, wanted_by}
+use Rattle.vrf_words.proofs.tree_defs.KeyLemmas.{flow_ties, same_upstream_equal, same_upstream_itself}
 use Rattle.vrf_flows.proofs.SetLemmas.{listed}
 use Rattle.vrf_trees.specs.declared.wants.Wants.{Wants}
 use Rattle.vrf_trees.specs.Changes.{AreJoins, flow_in, join_of, joined_at}

@@ -26,7 +26,7 @@ use Rattle.selective.specs.Patterns.{same_pattern}
 use Rattle.selective.specs.Leaves.{Leaf, Routes, fecs_of, is_of_peer, is_waiting, key_of, patterns_of, routes_at, routes_run, run_due, until_run, without_peer}
 use Rattle.selective.proofs.LeafLemmas.{wanted_found}
 use Rattle.selective.proofs.OrderLemmas.{route_exact}
-use Rattle.tree_defs.specs.declared.flow.Flow.{Flow}
+use Rattle.vrf_words.specs.declared.tree_defs.flow.Flow.{Flow}
 use Rattle.vrf_flows.proofs.EntryLemmas.{entries-remove, filter-put, filter-within}
 use Rattle.vrf_trees.specs.declared.wants.Cause.TheVariants as causes
 use Rattle.vrf_trees.specs.Wants.{touches, tunnels_of}

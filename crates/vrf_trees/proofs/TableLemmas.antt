@@ -8,14 +8,14 @@ use Rattle.std.specs.FinSet as sets
 use Rattle.std.proofs.lemmas.Bool.{or_left, or_right}
 use Rattle.std.proofs.lemmas.List.Folds.{list_any-append, list_any_more}
 use Rattle.std.proofs.lemmas.Map.Keys.{IsDistinct-head, IsDistinct-tail}
-use Rattle.mldp_fec.specs.declared.fec.Fec.{Fec}
-use Rattle.mldp_fec.proofs.SameLemmas.{fec_equal, fec_itself}
+use Rattle.mldp.specs.declared.mldp_fec.fec.Fec.{Fec}
+use Rattle.mldp.proofs.mldp_fec.SameLemmas.{fec_equal, fec_itself}
 use Rattle.label_defs.specs.Keys.{fec_cmp}
 use Rattle.label_defs.proofs.KeyLemmas.{fec_cmp_exact, fec_cmp_total}
-use Rattle.pim_state.proofs.MapLemmas.{not_both}
-use Rattle.tree_defs.specs.declared.flow.Flow.{Flow}
-use Rattle.tree_defs.specs.Keys.{same_flow}
-use Rattle.tree_defs.proofs.KeyLemmas.{same_flow_equal, same_flow_itself, tied}
+use Rattle.vrf_flows.proofs.pim_state.MapLemmas.{not_both}
+use Rattle.vrf_words.specs.declared.tree_defs.flow.Flow.{Flow}
+use Rattle.vrf_words.specs.tree_defs.Keys.{same_flow}
+use Rattle.vrf_words.proofs.tree_defs.KeyLemmas.{same_flow_equal, same_flow_itself, tied}
 use Rattle.vrf_flows.proofs.SetLemmas.{listed}
 use Rattle.vrf_trees.specs.declared.wants.Wants.{Wants}
 use Rattle.vrf_trees.specs.Changes.{AreNew}

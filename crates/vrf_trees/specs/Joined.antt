@@ -6,11 +6,11 @@ use Rattle.std.specs.FinSet.{FinSet}
 use Rattle.std.specs.Coded.{Coded}
 use Rattle.mv_base.specs.declared.addr.Addr.{Addr}
 use Rattle.mv_base.specs.declared.ids.NodeId.{NodeId}
-use Rattle.tree_defs.specs.declared.flow.Flow.{Flow}
-use Rattle.tree_defs.specs.declared.flow.TakenJoin.{TakenJoin}
-use Rattle.tree_defs.specs.contracts.flow.TakenJoin as joins
-use Rattle.tree_defs.specs.Keys.{same_flow}
-use Rattle.tree_defs.specs.Trees.{join_cmp}
+use Rattle.vrf_words.specs.declared.tree_defs.flow.Flow.{Flow}
+use Rattle.vrf_words.specs.declared.tree_defs.flow.TakenJoin.{TakenJoin}
+use Rattle.vrf_words.specs.contracts.tree_defs.flow.TakenJoin as joins
+use Rattle.vrf_words.specs.tree_defs.Keys.{same_flow}
+use Rattle.vrf_words.specs.tree_defs.Trees.{join_cmp}
 use Rattle.vrf_flows.specs.State.{flow_by_addrs}
 
 abbrev pub joins_code : Coded (FinSet join_cmp)

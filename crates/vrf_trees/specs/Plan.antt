@@ -1,10 +1,10 @@
 -- What flows want anew.
 use Rattle.std.specs.Prelude.{Bool, List, [], Option, None, Some, if◌then◌else◌}
 use Rattle.std.specs.List.{list_any}
-use Rattle.mldp_fec.specs.declared.fec.Fec.{Fec}
+use Rattle.mldp.specs.declared.mldp_fec.fec.Fec.{Fec}
 use Rattle.selective.specs.Leaves.{Leaf}
-use Rattle.tree_defs.specs.declared.flow.Flow.{Flow}
-use Rattle.tree_defs.specs.declared.flow.Upstream.{Upstream}
+use Rattle.vrf_words.specs.declared.tree_defs.flow.Flow.{Flow}
+use Rattle.vrf_words.specs.declared.tree_defs.flow.Upstream.{Upstream}
 use Rattle.vrf_trees.specs.declared.wants.Wants.{Wants}
 use Rattle.vrf_trees.specs.Wants.{is_in, wants_of}
 

@@ -5,13 +5,13 @@ use Rattle.std.specs.FinMap as maps
 use Rattle.std.specs.FinSet as sets
 use Rattle.std.specs.FinSet.{FinSet}
 use Rattle.mv_base.specs.declared.rd.Rule.{Rule}
-use Rattle.mldp_fec.specs.contracts.fec.Fec as fecs
+use Rattle.mldp.specs.contracts.mldp_fec.fec.Fec as fecs
 use Rattle.label_defs.specs.Keys.{fec_cmp}
 use Rattle.selective.specs.Roots.{Root}
 use Rattle.selective.specs.Leaves.{Leaf, leaf_code}
 use Rattle.selective.specs.contracts.root.RootTunnels as roots
-use Rattle.tree_defs.specs.Flows.{VrfData}
-use Rattle.tree_defs.specs.Trees.{TreeData, join_cmp}
+use Rattle.vrf_words.specs.tree_defs.Flows.{VrfData}
+use Rattle.vrf_words.specs.tree_defs.Trees.{TreeData, join_cmp}
 use Rattle.vrf_flows.specs.Codes.{vrf_code}
 use Rattle.vrf_flows.specs.State.{no_vrf}
 use Rattle.vrf_trees.specs.Joined.{joins_code}

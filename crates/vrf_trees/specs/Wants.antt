@@ -7,15 +7,15 @@ use Rattle.std.specs.declared.hash.FoldHasher.{FoldHasher}
 use Rattle.std.specs.declared.hash.BuildHasherDefault.{BuildHasherDefault}
 use Rattle.indexmap.specs.IndexMap.{IndexMap, get, IsUnique}
 use Rattle.mv_base.specs.declared.ids.NodeId.{NodeId}
-use Rattle.mldp_fec.specs.declared.fec.Fec.{Fec}
-use Rattle.mldp_fec.specs.contracts.fec.FecPartialEq.TheImpl as fecs_equal
+use Rattle.mldp.specs.declared.mldp_fec.fec.Fec.{Fec}
+use Rattle.mldp.specs.contracts.mldp_fec.fec.FecPartialEq.TheImpl as fecs_equal
 use Rattle.selective_defs.specs.Selective.{matches, wanted}
 use Rattle.selective.specs.Leaves.{Leaf, peer_routes}
 use Rattle.umh_select.specs.declared.route.Choice.{Choice}
-use Rattle.tree_defs.specs.declared.flow.Flow.{Flow}
-use Rattle.tree_defs.specs.declared.flow.Upstream.{Upstream}
-use Rattle.tree_defs.specs.Keys.{flow_cmp, same_flow}
-use Rattle.tree_defs.specs.Flows.{upstream_of}
+use Rattle.vrf_words.specs.declared.tree_defs.flow.Flow.{Flow}
+use Rattle.vrf_words.specs.declared.tree_defs.flow.Upstream.{Upstream}
+use Rattle.vrf_words.specs.tree_defs.Keys.{flow_cmp, same_flow}
+use Rattle.vrf_words.specs.tree_defs.Flows.{upstream_of}
 use Rattle.vrf_trees.specs.declared.wants.Wants.{Wants}
 use Rattle.vrf_trees.specs.declared.wants.Cause.{Cause}
 use Rattle.vrf_trees.specs.declared.wants.Cause.TheVariants as causes

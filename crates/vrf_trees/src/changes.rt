@@ -5,8 +5,8 @@ ghost use Rattle.vrf_trees.specs.Changes.{join_of};
 use mv_base::{Addr, NoMemory, NodeId, Rd, Seq};
 use selective::Fecs;
 use std::alloc::Global;
-use tree_defs::{Flow, Upstream};
 use vrf_flows::Joins;
+use vrf_words::tree_defs::{Flow, Upstream};
 
 /// A Source Tree Join towards another edge, with what its route says (RFC 6514 section 11.1.3).
 #[derive(Clone, Copy, PartialEq, Eq)]

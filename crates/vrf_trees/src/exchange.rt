@@ -3,9 +3,9 @@ ghost use Rattle.std.specs.Prelude.{◌≡◌, ◌||◌, not, filter, if◌then�
 ghost use Rattle.std.specs.FinSet as sets;
 ghost use Rattle.std.specs.List.{IsDistinct};
 ghost use Rattle.indexmap.specs.IndexMap.{get, IsUnique};
-ghost use Rattle.mldp_fec.specs.declared.fec.Fec.{Fec};
-ghost use Rattle.tree_defs.specs.declared.flow.Flow.{Flow};
-ghost use Rattle.tree_defs.specs.Keys.{same_flow};
+ghost use Rattle.mldp.specs.declared.mldp_fec.fec.Fec.{Fec};
+ghost use Rattle.vrf_words.specs.declared.tree_defs.flow.Flow.{Flow};
+ghost use Rattle.vrf_words.specs.tree_defs.Keys.{same_flow};
 ghost use Rattle.vrf_trees.specs.Changes.{AreNew};
 ghost use Rattle.vrf_trees.specs.Plan.{carried, comes, fecs_in, goes};
 ghost use Rattle.vrf_trees.specs.Wants.{is_fec, is_in, tunnels_in};
@@ -13,11 +13,11 @@ ghost use Rattle.vrf_trees.specs.Wants.{is_fec, is_in, tunnels_in};
 use crate::plan::Plan;
 use crate::wants::{WantTable, Wants, is_wanted};
 use indexmap::{IndexMap, IndexSet};
-use mldp_fec::Fec;
+use mldp::mldp_fec::Fec;
 use mv_base::{NoMemory, Seq};
 use selective::Fecs;
 use std::alloc::Global;
-use tree_defs::Flow;
+use vrf_words::tree_defs::Flow;
 
 /// Tunnels, each once.
 type FecSet = IndexSet<Fec>;

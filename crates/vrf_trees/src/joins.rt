@@ -3,15 +3,15 @@ ghost use Rattle.std.specs.Prelude.{◌≡◌, ◌≤◌, true, false, if◌then
 ghost use Rattle.std.specs.FinSet as sets;
 ghost use Rattle.std.specs.List.{list_any};
 ghost use Rattle.indexmap.specs.IndexSet.{spare};
-ghost use Rattle.tree_defs.specs.declared.flow.Flow.{Flow};
-ghost use Rattle.tree_defs.specs.Keys.{same_flow};
+ghost use Rattle.vrf_words.specs.declared.tree_defs.flow.Flow.{Flow};
+ghost use Rattle.vrf_words.specs.tree_defs.Keys.{same_flow};
 ghost use Rattle.vrf_trees.specs.Joined.{is_for, is_joined};
 
 use indexmap::IndexSet;
 use mv_base::NoMemory;
 use std::alloc::Global;
 use std::marker::Model;
-use tree_defs::{Flow, TakenJoin};
+use vrf_words::tree_defs::{Flow, TakenJoin};
 
 /// The joins of other edges, and the flows that some edge has joined.
 #[derive(Drop)]
@@ -23,7 +23,7 @@ pub(crate) struct TakenJoins {
 impl Model for TakenJoins {
     ghost use Rattle.std.specs.FinSet as sets;
     ghost use Rattle.std.specs.FinSet.{FinSet};
-    ghost use Rattle.tree_defs.specs.Trees.{join_cmp};
+    ghost use Rattle.vrf_words.specs.tree_defs.Trees.{join_cmp};
     ghost use Rattle.vrf_trees.specs.Joined.{AreFlowsOf, joins_code};
 
     ghost Value = { FinSet join_cmp };

@@ -1,8 +1,8 @@
 //! What flows want anew.
 ghost use Rattle.std.specs.Prelude.{◌≡◌, None, Some, IfOk, OnOk};
 ghost use Rattle.indexmap.specs.IndexMap.{get, IsUnique};
-ghost use Rattle.tree_defs.specs.declared.flow.Flow.{Flow};
-ghost use Rattle.tree_defs.specs.Keys.{same_flow};
+ghost use Rattle.vrf_words.specs.declared.tree_defs.flow.Flow.{Flow};
+ghost use Rattle.vrf_words.specs.tree_defs.Keys.{same_flow};
 ghost use Rattle.vrf_flows.specs.Plan.{put_at};
 ghost use Rattle.vrf_trees.specs.Wants.{wants_of};
 ghost use Rattle.vrf_trees.specs.Plan.{planned, renewal, with_joins, with_leaves};
@@ -12,8 +12,8 @@ use indexmap::IndexMap;
 use mv_base::NoMemory;
 use selective::LeafTunnels;
 use std::alloc::Global;
-use tree_defs::{Flow, Upstream};
 use vrf_flows::{Joins, put};
+use vrf_words::tree_defs::{Flow, Upstream};
 
 /// Flows, each with what it wants from now on; `None` where its upstream is no other edge any more.
 pub(crate) type Plan = IndexMap<Flow, Option<Wants>>;

@@ -5,9 +5,9 @@ ghost use Rattle.std.specs.FinSet as sets;
 ghost use Rattle.mv_base.specs.declared.ids.NodeId.{NodeId};
 ghost use Rattle.umh_select.specs.Routes.{AreCosts, AreOfCore};
 ghost use Rattle.label_defs.specs.Keys.{fec_cmp};
-ghost use Rattle.tree_defs.specs.declared.flow.Flow.{Flow};
-ghost use Rattle.tree_defs.specs.Flows.{flow_of, gained, lost, upstream_of};
-ghost use Rattle.tree_defs.specs.Trees.{wanted_by};
+ghost use Rattle.vrf_words.specs.declared.tree_defs.flow.Flow.{Flow};
+ghost use Rattle.vrf_words.specs.tree_defs.Flows.{flow_of, gained, lost, upstream_of};
+ghost use Rattle.vrf_words.specs.tree_defs.Trees.{wanted_by};
 ghost use Rattle.vrf_trees.specs.Changes.{AreJoins, AreNew};
 ghost use Rattle.vrf_trees.specs.Wants.{IsSound, tunnels_in};
 

@@ -5,11 +5,11 @@ ghost use Rattle.std.specs.FinMap.{FinMap};
 ghost use Rattle.indexmap.specs.IndexMap.{IsUnique};
 ghost use Rattle.selective.specs.Leaves.{key_of, learned_now, routes_run, without_peer};
 ghost use Rattle.umh_select.specs.declared.route.Choice.{Choice};
-ghost use Rattle.tree_defs.specs.Keys.{flow_cmp, same_flow};
+ghost use Rattle.vrf_words.specs.tree_defs.Keys.{flow_cmp, same_flow};
 ghost use Rattle.vrf_trees.specs.Wants.{IsSound, tunnels_in};
 
 use crate::wants::{Cause, WantTable, mark};
-use mldp_fec::Fec;
+use mldp::mldp_fec::Fec;
 use mv_base::{NoMemory, NodeId, Pattern, Rd};
 use selective::LeafTunnels;
 

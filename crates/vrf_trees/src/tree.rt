@@ -10,11 +10,11 @@ ghost use Rattle.selective.specs.Roots.{is_waiting as selection_waits};
 ghost use Rattle.selective.specs.Leaves.{key_of, learned_now, routes_run};
 ghost use Rattle.selective.specs.Leaves.{is_waiting as route_waits};
 ghost use Rattle.selective.specs.Leaves.{without_peer as without_leaves};
-ghost use Rattle.pim_defs.specs.Entries.{applied, are_too_many, due, kept_at};
+ghost use Rattle.vrf_flows.specs.pim_defs.Entries.{applied, are_too_many, due, kept_at};
 ghost use Rattle.umh_select.specs.Routes.{AreCosts, AreOfCore, held_of, key_from, key_here, without_peer};
-ghost use Rattle.tree_defs.specs.declared.flow.Flow.{Flow};
-ghost use Rattle.tree_defs.specs.Flows.{chosen_for, flow_of, gained, is_from, is_noted, lost, outgoing, upstream_of};
-ghost use Rattle.tree_defs.specs.Trees.{wanted_by};
+ghost use Rattle.vrf_words.specs.declared.tree_defs.flow.Flow.{Flow};
+ghost use Rattle.vrf_words.specs.tree_defs.Flows.{chosen_for, flow_of, gained, is_from, is_noted, lost, outgoing, upstream_of};
+ghost use Rattle.vrf_words.specs.tree_defs.Trees.{wanted_by};
 ghost use Rattle.vrf_flows.specs.State.{active_by, flow_by_addrs, note_at};
 ghost use Rattle.vrf_trees.specs.Changes.{AreJoins, AreNew};
 ghost use Rattle.vrf_trees.specs.Joined.{is_joined, join_by};
@@ -27,17 +27,17 @@ use crate::routes::{forget, forget_peer, learn, run_routes};
 use crate::wants::{WantTable, is_wanted};
 use core_paths::Core;
 use indexmap::IndexMap;
-use mldp_fec::Fec;
+use mldp::mldp_fec::Fec;
 use mv_base::{Addr, IfaceId, NoMemory, NodeId, Pattern, Prefix, Rd, Rule, SiteId};
 use pim_joinprune::JoinPrune;
-use pim_state::TakeFault;
 use scenario_defs::IfaceList;
 use selective::{LeafTunnels, RootTunnels};
 use std::alloc::Global;
 use std::marker::Model;
-use tree_defs::{Flow, Origin, TakenJoin, Upstream};
 use umh_select::Learned;
 use vrf_flows::VrfFlows;
+use vrf_flows::of_pim_state::TakeFault;
+use vrf_words::tree_defs::{Flow, Origin, TakenJoin, Upstream};
 
 /// What one VRF keeps: its flows with the upstream of each, and what they are found by; what it selected as a root; the
 /// selective routes that it learned as an egress; the joins of other edges; and the selective tunnels that its flows wanted at
@@ -54,7 +54,7 @@ pub struct VrfTree {
 
 impl Model for VrfTree {
     ghost use Rattle.std.specs.FinSet as sets;
-    ghost use Rattle.tree_defs.specs.Trees.{TreeData};
+    ghost use Rattle.vrf_words.specs.tree_defs.Trees.{TreeData};
     ghost use Rattle.vrf_trees.specs.Trees.{tree_code};
     ghost use Rattle.vrf_trees.specs.Wants.{IsSound, tunnels_in};
 

@@ -3,16 +3,16 @@ ghost use Rattle.std.specs.Prelude.{◌≡◌, true, IfOk};
 ghost use Rattle.std.specs.List.{list_any};
 ghost use Rattle.indexmap.specs.IndexMap.{get, IsUnique};
 ghost use Rattle.selective_defs.specs.Selective.{matches};
-ghost use Rattle.tree_defs.specs.declared.flow.Flow.{Flow};
-ghost use Rattle.tree_defs.specs.Keys.{same_flow};
+ghost use Rattle.vrf_words.specs.declared.tree_defs.flow.Flow.{Flow};
+ghost use Rattle.vrf_words.specs.tree_defs.Keys.{same_flow};
 ghost use Rattle.vrf_trees.specs.Wants.{has_fec, is_fec, is_in, mark, marked, touches, tunnels_in, wants_of};
 
 use indexmap::IndexMap;
-use mldp_fec::Fec;
+use mldp::mldp_fec::Fec;
 use mv_base::{Addr, NoMemory, NodeId, Pattern};
 use selective::{Fecs, LeafTunnels};
 use std::alloc::Global;
-use tree_defs::Flow;
+use vrf_words::tree_defs::Flow;
 
 /// What a flow wants whose upstream is another edge.
 #[derive(Drop)]

@@ -8,12 +8,12 @@ use Rattle.scenario_defs.specs.Kinds.{same_kind}
 use Rattle.label_defs.proofs.KeyLemmas.{node_apart}
 use Rattle.label_defs.specs.Node.{LacksLabel}
 use Rattle.label_defs.specs.Steps as labels
-use Rattle.framing.specs.Feed.{fed}
-use Rattle.session_defs.specs.Message.{front_of, same_direction}
-use Rattle.session_defs.specs.Octets as octets
-use Rattle.session_defs.specs.Octets.{OctetNetwork, octet_act}
-use Rattle.session_defs.specs.System.{Behind, Stepped}
-use Rattle.session_defs.specs.declared.direction.Direction.{Direction}
+use Rattle.mv_base.specs.framing.Feed.{fed}
+use Rattle.network_defs.specs.session_defs.Message.{front_of, same_direction}
+use Rattle.network_defs.specs.session_defs.Octets as octets
+use Rattle.network_defs.specs.session_defs.Octets.{OctetNetwork, octet_act}
+use Rattle.network_defs.specs.session_defs.System.{Behind, Stepped}
+use Rattle.network_defs.specs.declared.session_defs.direction.Direction.{Direction}
 use Rattle.edge_defs.specs.Steps as steps
 use Rattle.edge_defs.specs.Steps.{Call, Rerouted, own_label_call}
 use Rattle.network_defs.specs.Counts.{direction}

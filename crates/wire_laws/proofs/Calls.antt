@@ -7,22 +7,22 @@ use Rattle.std.proofs.lemmas.List.{append-nil}
 use Rattle.std.proofs.lemmas.Option.{none-some, same_Some}
 use Rattle.mv_base.specs.Number.{◌>>?◌}
 use Rattle.mv_base.specs.declared.ids.NodeId.{NodeId}
-use Rattle.framing.specs.Feed.{fed, unfed}
+use Rattle.mv_base.specs.framing.Feed.{fed, unfed}
 use Rattle.scenario_defs.specs.Kinds.{same_kind}
 use Rattle.scenario_defs.specs.declared.event.Kind.{Kind}
 use Rattle.scenario_defs.specs.declared.event.Kind.TheVariants as kinds
 use Rattle.label_defs.specs.Node.{LacksLabel}
 use Rattle.label_defs.proofs.KeyLemmas.{node_apart, node_cases, node_itself}
 use Rattle.label_defs.proofs.SettleLemmas.{bind_some}
-use Rattle.session_defs.specs.Message.{SessionMessage, Bgp, Label as LabelMessage, front_of, same_direction}
-use Rattle.session_defs.specs.Octets as octets
-use Rattle.session_defs.specs.Octets.{OctetNetwork, Stream, octet_act}
-use Rattle.session_defs.specs.PeerSession.{PeerSession, fault_at, peer_cmp, stream_at}
-use Rattle.session_defs.specs.System.{Behind, Put, Stepped, octets_over, with_earlier}
-use Rattle.session_defs.specs.declared.direction.Direction.{Direction}
+use Rattle.network_defs.specs.session_defs.Message.{SessionMessage, Bgp, Label as LabelMessage, front_of, same_direction}
+use Rattle.network_defs.specs.session_defs.Octets as octets
+use Rattle.network_defs.specs.session_defs.Octets.{OctetNetwork, Stream, octet_act}
+use Rattle.network_defs.specs.session_defs.PeerSession.{PeerSession, fault_at, peer_cmp, stream_at}
+use Rattle.network_defs.specs.session_defs.System.{Behind, Put, Stepped, octets_over, with_earlier}
+use Rattle.network_defs.specs.declared.session_defs.direction.Direction.{Direction}
 use Rattle.edge_defs.specs.Place.{EdgePlace}
 use Rattle.edge_defs.specs.Steps.{Call, Update, Label, Pim, Active, Idle, Select, Unselect, Raised, Noticed, Timers, Rerouted, EdgeStepped, edge_step}
-use Rattle.node_defs.specs.EdgeState.{EdgeState, all_taken, call_of, called, edge_puts, prepared, took, took_unless, waiting_at}
+use Rattle.network_defs.specs.node_defs.EdgeState.{EdgeState, all_taken, call_of, called, edge_puts, prepared, took, took_unless, waiting_at}
 use Rattle.node_laws.proofs.EdgeLemmas.{edge_after, edge_called}
 use Rattle.node_laws.proofs.OctetLemmas.{peer_total, waiting_less}
 use Rattle.node_laws.proofs.TakenLemmas.{message_called, spent_takes}

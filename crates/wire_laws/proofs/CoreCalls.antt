@@ -9,8 +9,8 @@ use Rattle.std.proofs.lemmas.Option.{none-some, same_Some}
 use Rattle.mv_base.specs.Number.{◌>>?◌}
 use Rattle.mv_base.specs.declared.addr.Addr.{Addr}
 use Rattle.mv_base.specs.declared.ids.NodeId.{NodeId}
-use Rattle.core_walks.specs.Core.{Core}
-use Rattle.framing.specs.Feed.{fed, unfed}
+use Rattle.mv_base.specs.core_walks.Core.{Core}
+use Rattle.mv_base.specs.framing.Feed.{fed, unfed}
 use Rattle.scenario_defs.specs.declared.event.Kind.TheVariants as kinds
 use Rattle.label_defs.specs.Keys.{node_cmp}
 use Rattle.label_defs.specs.LabelData.{LabelData, Place}
@@ -20,16 +20,16 @@ use Rattle.label_defs.specs.Settling as settling
 use Rattle.label_defs.specs.Steps.{Call, Numbered, Taken, Want, Unwant, Raised, Noticed, Timers, Rerouted, label_step, step_puts}
 use Rattle.label_defs.proofs.KeyLemmas.{node_cmp_total, node_equal, node_itself}
 use Rattle.label_defs.proofs.SettleLemmas.{bind_some}
-use Rattle.session_defs.specs.Message.{SessionMessage, Bgp, Label as LabelMessage, front_of, same_direction}
-use Rattle.session_defs.specs.Octets as octets
-use Rattle.session_defs.specs.Octets.{OctetNetwork, Stream, octet_act}
-use Rattle.session_defs.specs.PeerSession.{fault_at, peer_cmp, stream_at}
-use Rattle.session_defs.specs.System.{Behind, Put, Stepped, octets_over, with_earlier}
-use Rattle.session_defs.specs.declared.direction.Direction.{Direction}
+use Rattle.network_defs.specs.session_defs.Message.{SessionMessage, Bgp, Label as LabelMessage, front_of, same_direction}
+use Rattle.network_defs.specs.session_defs.Octets as octets
+use Rattle.network_defs.specs.session_defs.Octets.{OctetNetwork, Stream, octet_act}
+use Rattle.network_defs.specs.session_defs.PeerSession.{fault_at, peer_cmp, stream_at}
+use Rattle.network_defs.specs.session_defs.System.{Behind, Put, Stepped, octets_over, with_earlier}
+use Rattle.network_defs.specs.declared.session_defs.direction.Direction.{Direction}
 use Rattle.edge_defs.specs.Place.{addr_of}
 use Rattle.edge_defs.specs.Steps as steps
 use Rattle.edge_defs.specs.Steps.{LabelStep, own_label_call}
-use Rattle.node_defs.specs.Puts.{label_put, label_puts}
+use Rattle.network_defs.specs.node_defs.Puts.{label_put, label_puts}
 use Rattle.node_laws.specs.Places.{node_place}
 use Rattle.node_laws.proofs.OctetLemmas.{peer_total}
 use Rattle.node_laws.proofs.PlaceLemmas.{one_addr, one_place}

@@ -5,8 +5,8 @@ use Rattle.std.specs.FinMap as maps
 use Rattle.std.specs.FinMap.{FinMap, find}
 use Rattle.mv_base.specs.Number.{◌>>?◌}
 use Rattle.mv_base.specs.declared.ids.NodeId.{NodeId}
-use Rattle.bgp_attributes.specs.declared.update.Message.{Message}
-use Rattle.bgp_update.specs.Table.{changes_of}
+use Rattle.bgp_messages.specs.declared.bgp_attributes.update.Message.{Message}
+use Rattle.bgp_messages.specs.bgp_update.Table.{changes_of}
 use Rattle.scenario_defs.specs.declared.event.Kind.{Kind}
 use Rattle.scenario_defs.specs.declared.event.Kind.TheVariants as kinds
 use Rattle.mvpn_model.specs.Unready.{SessionsStand, is_held}
@@ -18,24 +18,24 @@ use Rattle.label_defs.specs.Steps as label_steps
 use Rattle.label_defs.specs.declared.end.End.{End}
 use Rattle.label_defs.proofs.KeyLemmas.{node_apart, node_cases, node_cmp_exact, node_cmp_total, node_itself}
 use Rattle.label_defs.proofs.SetLemmas.{cut_here, cut_other, put_here, put_other}
-use Rattle.session_defs.specs.Message.{Bgp, Label, SessionMessage}
-use Rattle.session_defs.specs.Octets as octets
-use Rattle.session_defs.specs.Octets.{OctetNetwork, octet_act}
-use Rattle.session_defs.specs.System.{Behind, Stepped}
-use Rattle.session_defs.specs.declared.direction.Direction.{Direction}
+use Rattle.network_defs.specs.session_defs.Message.{Bgp, Label, SessionMessage}
+use Rattle.network_defs.specs.session_defs.Octets as octets
+use Rattle.network_defs.specs.session_defs.Octets.{OctetNetwork, octet_act}
+use Rattle.network_defs.specs.session_defs.System.{Behind, Stepped}
+use Rattle.network_defs.specs.declared.session_defs.direction.Direction.{Direction}
 use Rattle.edge_defs.specs.Edge.{Control, EdgeData, Taken}
 use Rattle.edge_defs.specs.Place.{EdgePlace, addr_of}
 use Rattle.edge_defs.specs.Steps as steps
-use Rattle.edge_defs.specs.Steps.{Call, EdgeStepped, LabelStep, Noticed, Raised, Rerouted, Timers, changed_leaves, control_step, edge_step, label_row, one_call, own_label_call, part_after, peers_run, taken_change, taken_run, with_update}
+use Rattle.edge_defs.specs.Steps.{Call, EdgeStepped, LabelStep, Noticed, Raised, Rerouted, Timers, changed_leaves, control_step, edge_step, label_row, one_call, own_label_call, part_after, peers_run, raised_after, taken_change, taken_run, with_update}
 use Rattle.edge_defs.specs.Tunnels.{leaves}
-use Rattle.node_defs.specs.EdgeState.{call_of, edge_puts}
-use Rattle.node_defs.specs.Puts.{label_puts}
+use Rattle.network_defs.specs.node_defs.EdgeState.{call_of, edge_puts}
+use Rattle.network_defs.specs.node_defs.Puts.{label_puts}
 use Rattle.network_defs.specs.Counts.{direction, is_bgp_up, is_end_up}
 use Rattle.network_defs.specs.Nodes.{Nodes, NodeState, Edge, CoreNode, following, part_of, place_of, label_place_of, with_node}
 use Rattle.network_defs.specs.System.{Follow, Own, core_called, edge_stepped, node_called, system}
-use Rattle.ready_laws.proofs.Ends.{Holds, end_run, end_with, holds_then, new_end, up_end}
-use Rattle.ready_laws.proofs.Nodes.{call_stand, end_of, holds_as}
-use Rattle.ready_laws.proofs.Octets.{Leads, Stands, call_stands, follow_stands, leads_then, move_stands}
+use Rattle.network_laws.proofs.ready_laws.Ends.{Holds, end_run, end_with, holds_then, new_end, up_end}
+use Rattle.network_laws.proofs.ready_laws.Nodes.{call_stand, end_of, holds_as}
+use Rattle.network_laws.proofs.ready_laws.Octets.{Leads, Stands, call_stands, follow_stands, leads_then, move_stands}
 use Rattle.wire_laws.specs.Edges.{begins}
 use Rattle.wire_laws.specs.Ends.{HasCall, end_behind, hold_behind, hold_timed, is_hold_run, is_raise}
 
@@ -157,7 +157,7 @@ edge_ends n call old edge is =
     let calls = one_call (own_label_call call) ++ changed_leaves (leaves place edge.control) (leaves place control) in
     holds_then (λ (new : EdgeStepped). new.edge.control ≡ control) (λ (new : Stepped Nodes). BgpBehind n call old new.state) (edge_step place old.clock edge call)
     (λ new. Some (record { state = with_node old n (Edge new.edge); puts = edge_puts place old.clock edge new }))
-    (always (λ (new : EdgeStepped). new.edge.control ≡ control) (label_row place old.clock edge.part calls) (λ row. record { edge = record { control = control; part = part_after edge.part row }; row = row }) (λ row. refl))
+    (always (λ (new : EdgeStepped). new.edge.control ≡ control) (label_row place old.clock edge.part calls) (λ row. record { edge = record { control = control; part = part_after edge.part row; raised = raised_after old.clock edge.raised call }; row = row }) (λ row. refl))
     (λ new h. node_ends n call old (Edge new.edge) (λ peer.
     ap (λ (c : Control). is_some (maps.get c.peers peer)) h
     ∙ (peers_up place old.clock edge.control call peer ∙ ap (λ (x : NodeState). up_by call kinds.Bgp peer (is_bgp_up x peer)) (sym is))))

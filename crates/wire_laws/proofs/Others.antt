@@ -9,15 +9,15 @@ use Rattle.label_defs.specs.Steps as labels
 use Rattle.label_defs.specs.Steps.{label_step, step_puts}
 use Rattle.label_defs.proofs.KeyLemmas.{node_apart}
 use Rattle.label_defs.proofs.SettleLemmas.{bind_some}
-use Rattle.session_defs.specs.Message.{SessionMessage, same_direction}
-use Rattle.session_defs.specs.Octets as octets
-use Rattle.session_defs.specs.Octets.{OctetNetwork}
-use Rattle.session_defs.specs.System.{Behind, Put, Stepped, octets_over, with_earlier}
-use Rattle.session_defs.specs.declared.direction.Direction.{Direction}
+use Rattle.network_defs.specs.session_defs.Message.{SessionMessage, same_direction}
+use Rattle.network_defs.specs.session_defs.Octets as octets
+use Rattle.network_defs.specs.session_defs.Octets.{OctetNetwork}
+use Rattle.network_defs.specs.session_defs.System.{Behind, Put, Stepped, octets_over, with_earlier}
+use Rattle.network_defs.specs.declared.session_defs.direction.Direction.{Direction}
 use Rattle.edge_defs.specs.Place.{addr_of}
 use Rattle.edge_defs.specs.Steps.{Call, edge_step, own_label_call}
-use Rattle.node_defs.specs.EdgeState.{call_of, edge_puts}
-use Rattle.node_defs.specs.Puts.{label_puts}
+use Rattle.network_defs.specs.node_defs.EdgeState.{call_of, edge_puts}
+use Rattle.network_defs.specs.node_defs.Puts.{label_puts}
 use Rattle.network_defs.specs.Nodes.{Nodes, NodeState, Edge, CoreNode, label_place_of, place_of, with_node}
 use Rattle.network_defs.specs.System.{core_called, node_called, system, unchanged}
 use Rattle.wire_laws.specs.AnyNodes.{IsElsewhere}

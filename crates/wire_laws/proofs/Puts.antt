@@ -14,19 +14,19 @@ use Rattle.label_defs.specs.Keys.{node_cmp}
 use Rattle.label_defs.specs.LabelData.{Place}
 use Rattle.label_defs.specs.Steps.{Numbered, step_puts}
 use Rattle.label_defs.proofs.KeyLemmas.{apart, node_apart, node_cases, node_cmp_exact, node_cmp_total, node_equal, node_itself, ties}
-use Rattle.session_defs.specs.Message.{same_direction}
-use Rattle.session_defs.specs.PeerSession.{PeerSession, peer_cmp}
-use Rattle.session_defs.specs.System.{Put, octets_over}
-use Rattle.table_defs.specs.declared.change.Change.{Change}
-use Rattle.bgp_attributes.specs.declared.key.Key.{Key}
+use Rattle.network_defs.specs.session_defs.Message.{same_direction}
+use Rattle.network_defs.specs.session_defs.PeerSession.{PeerSession, peer_cmp}
+use Rattle.network_defs.specs.session_defs.System.{Put, octets_over}
+use Rattle.mv_base.specs.declared.table_defs.change.Change.{Change}
+use Rattle.bgp_messages.specs.declared.bgp_attributes.key.Key.{Key}
 use Rattle.edge_defs.specs.Edge.{Control, EdgeData}
 use Rattle.edge_defs.specs.Held.{put_to}
 use Rattle.edge_defs.specs.Keys.{Value}
 use Rattle.edge_defs.specs.Place.{EdgePlace, addr_of, label_place}
 use Rattle.edge_defs.specs.Steps.{EdgeStepped, LabelStep}
 use Rattle.mvpn_model.specs.Sessions.{edges}
-use Rattle.node_defs.specs.EdgeState.{edge_puts, session_of, waiting_at, with_puts}
-use Rattle.node_defs.specs.Puts.{bgp_put, bgp_puts, label_put, label_puts}
+use Rattle.network_defs.specs.node_defs.EdgeState.{edge_puts, session_of, waiting_at, with_puts}
+use Rattle.network_defs.specs.node_defs.Puts.{bgp_put, bgp_puts, label_put, label_puts}
 use Rattle.node_laws.proofs.OctetLemmas.{then_equal, waiting_then}
 use Rattle.network_defs.specs.Counts.{direction}
 use Rattle.wire_laws.specs.Edges.{session_with}

@@ -9,7 +9,7 @@ use Rattle.scenario_defs.specs.declared.event.Kind.{Kind}
 use Rattle.scenario_defs.specs.declared.event.Kind.TheVariants as kinds
 use Rattle.scenario_defs.specs.declared.scenario.Node.{Node}
 use Rattle.scenario_defs.specs.declared.scenario.Scenario.{Scenario}
-use Rattle.edge_home.specs.Home.{home_of, peers_from, peers_of}
+use Rattle.edge_routes.specs.edge_home.Home.{home_of, peers_from, peers_of}
 use Rattle.mvpn_model.specs.Sessions.{bgp_session, bgp_sessions, edges, edges_from, ldp_session, sessions}
 use Rattle.mvpn_model.specs.declared.session.Session.{Session}
 use Rattle.wire_laws.proofs.AmongLemmas.{Once, among_back, among_either, among_front, among_map, contained, mapped}

@@ -7,15 +7,15 @@ use Rattle.std.proofs.lemmas.Option.{slice_get_within}
 use Rattle.mv_base.specs.Lists.{Among}
 use Rattle.mv_base.specs.declared.core_link.Link.{Link}
 use Rattle.mv_base.specs.declared.ids.NodeId.{NodeId}
-use Rattle.core_walks.specs.Topology.{HasEnds, JoinsSamePair}
-use Rattle.core_walks.proofs.WalkLemmas.{good}
+use Rattle.mv_base.specs.core_walks.Topology.{HasEnds, JoinsSamePair}
+use Rattle.mv_base.proofs.core_walks.WalkLemmas.{good}
 use Rattle.label_defs.specs.Between.{is_between}
 use Rattle.scenario_defs.specs.Kinds.{same_kind}
 use Rattle.scenario_defs.specs.Rules.{HaveSession, Rules}
 use Rattle.scenario_defs.specs.declared.event.Kind.{Kind}
 use Rattle.scenario_defs.specs.declared.event.Kind.TheVariants as kinds
 use Rattle.scenario_defs.specs.declared.scenario.Scenario.{Scenario}
-use Rattle.session_defs.specs.declared.direction.Direction.{Direction}
+use Rattle.network_defs.specs.declared.session_defs.direction.Direction.{Direction}
 use Rattle.mvpn_model.specs.Sessions.{bgp_session, bgp_sessions, edges, ldp_session, sessions}
 use Rattle.mvpn_model.specs.Unready.{is_that}
 use Rattle.mvpn_model.specs.declared.session.Session.{Session}

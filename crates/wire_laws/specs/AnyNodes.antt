@@ -5,13 +5,13 @@ use Rattle.scenario_defs.specs.declared.event.Kind.{Kind}
 use Rattle.scenario_defs.specs.declared.event.Kind.TheVariants as kinds
 use Rattle.label_defs.specs.Node.{Spent}
 use Rattle.label_defs.specs.Steps as labels
-use Rattle.session_defs.specs.Message.{SessionFault, same_direction}
-use Rattle.session_defs.specs.Octets.{OctetNetwork}
-use Rattle.session_defs.specs.PeerSession.{fault_at}
-use Rattle.session_defs.specs.System.{Behind, Put, octets_over}
-use Rattle.session_defs.specs.declared.direction.Direction.{Direction}
+use Rattle.network_defs.specs.session_defs.Message.{SessionFault, same_direction}
+use Rattle.network_defs.specs.session_defs.Octets.{OctetNetwork}
+use Rattle.network_defs.specs.session_defs.PeerSession.{fault_at}
+use Rattle.network_defs.specs.session_defs.System.{Behind, Put, octets_over}
+use Rattle.network_defs.specs.declared.session_defs.direction.Direction.{Direction}
 use Rattle.edge_defs.specs.Steps.{Call, own_label_call}
-use Rattle.node_defs.specs.EdgeState.{EdgeState, called, took}
+use Rattle.network_defs.specs.node_defs.EdgeState.{EdgeState, called, took}
 use Rattle.node_laws.specs.Places.{node_place}
 use Rattle.network_defs.specs.Nodes.{Nodes, core_at, following, place_of}
 use Rattle.wire_laws.specs.CoreNodes.{CoreState, IsCoreAt, IsCoreBefore, core_called, core_took, ldp_with}

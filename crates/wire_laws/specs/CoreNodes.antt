@@ -3,15 +3,15 @@ use Rattle.std.specs.Prelude.{◌≡◌, ℕ, true, false, List, [], ◌∷◌, 
 use Rattle.std.specs.FinMap as maps
 use Rattle.std.specs.FinMap.{FinMap}
 use Rattle.mv_base.specs.declared.ids.NodeId.{NodeId}
-use Rattle.core_walks.specs.Core.{Core}
-use Rattle.framing.specs.Feed.{fed, unfed}
+use Rattle.mv_base.specs.core_walks.Core.{Core}
+use Rattle.mv_base.specs.framing.Feed.{fed, unfed}
 use Rattle.scenario_defs.specs.declared.event.Kind.TheVariants as kinds
 use Rattle.label_defs.specs.Node.{LabelNode, NodePlace, Spent, called, fresh_node, handed_out, waiting_for}
 use Rattle.label_defs.specs.Steps.{Call, Taken, Raised, Noticed}
-use Rattle.session_defs.specs.Message.{SessionFault, SessionMessage, Bgp, Label, front_of}
-use Rattle.session_defs.specs.Octets.{OctetNetwork, Stream}
-use Rattle.session_defs.specs.PeerSession.{PeerSession, fault_at, peer_cmp, stream_at}
-use Rattle.session_defs.specs.System.{Put, octets_over}
+use Rattle.network_defs.specs.session_defs.Message.{SessionFault, SessionMessage, Bgp, Label, front_of}
+use Rattle.network_defs.specs.session_defs.Octets.{OctetNetwork, Stream}
+use Rattle.network_defs.specs.session_defs.PeerSession.{PeerSession, fault_at, peer_cmp, stream_at}
+use Rattle.network_defs.specs.session_defs.System.{Put, octets_over}
 use Rattle.network_defs.specs.Counts.{direction}
 use Rattle.network_defs.specs.Nodes.{Nodes, CoreNode}
 use Rattle.edge_defs.specs.Steps as steps

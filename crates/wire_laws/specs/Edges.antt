@@ -1,17 +1,17 @@
 -- An edge of the whole network, as its callers have it.
 use Rattle.std.specs.Prelude.{◌≡◌, ◌==◌, ◌&&◌, Bool, true, false, List, [], None}
-use Rattle.framing.specs.Feed.{unfed}
+use Rattle.mv_base.specs.framing.Feed.{unfed}
 use Rattle.mv_base.specs.Lists.{Among}
 use Rattle.mv_base.specs.declared.ids.NodeId.{NodeId}
 use Rattle.scenario_defs.specs.Kinds.{same_kind}
 use Rattle.scenario_defs.specs.declared.event.Kind.{Kind}
 use Rattle.scenario_defs.specs.declared.scenario.Scenario.{Scenario}
-use Rattle.session_defs.specs.Octets.{OctetNetwork}
-use Rattle.session_defs.specs.PeerSession.{PeerSession, stream_at}
-use Rattle.session_defs.specs.System.{Put, octets_over}
-use Rattle.session_defs.specs.declared.direction.Direction.{Direction}
+use Rattle.network_defs.specs.session_defs.Octets.{OctetNetwork}
+use Rattle.network_defs.specs.session_defs.PeerSession.{PeerSession, stream_at}
+use Rattle.network_defs.specs.session_defs.System.{Put, octets_over}
+use Rattle.network_defs.specs.declared.session_defs.direction.Direction.{Direction}
 use Rattle.edge_defs.specs.Steps.{Call, Raised, Noticed}
-use Rattle.node_defs.specs.EdgeState.{EdgeState, waiting_at}
+use Rattle.network_defs.specs.node_defs.EdgeState.{EdgeState, waiting_at}
 use Rattle.network_defs.specs.Counts.{direction, directions}
 use Rattle.network_defs.specs.Nodes.{Nodes, Edge}
 

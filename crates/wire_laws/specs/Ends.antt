@@ -5,7 +5,7 @@ use Rattle.mv_base.specs.declared.ids.NodeId.{NodeId}
 use Rattle.scenario_defs.specs.declared.event.Kind.{Kind}
 use Rattle.scenario_defs.specs.declared.event.Kind.TheVariants as kinds
 use Rattle.label_defs.specs.LabelData as labels
-use Rattle.session_defs.specs.Octets.{OctetNetwork}
+use Rattle.network_defs.specs.session_defs.Octets.{OctetNetwork}
 use Rattle.edge_defs.specs.Edge.{EdgeData}
 use Rattle.edge_defs.specs.Steps.{Call, Raised}
 use Rattle.network_defs.specs.Nodes.{Nodes, NodeState, Edge, part_of}

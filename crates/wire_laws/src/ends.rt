@@ -2,9 +2,9 @@
 ghost use Rattle.std.specs.Prelude.{◌≡◌, ℕ, Some};
 ghost use Rattle.mv_base.specs.declared.ids.NodeId.{NodeId};
 ghost use Rattle.scenario_defs.specs.declared.event.Kind.{Kind};
-ghost use Rattle.session_defs.specs.Octets.{Call, Move, OctetNetwork, octet_act};
-ghost use Rattle.session_defs.specs.System.{Behind};
-ghost use Rattle.session_defs.specs.declared.direction.Direction.{Direction};
+ghost use Rattle.network_defs.specs.session_defs.Octets.{Call, Move, OctetNetwork, octet_act};
+ghost use Rattle.network_defs.specs.session_defs.System.{Behind};
+ghost use Rattle.network_defs.specs.declared.session_defs.direction.Direction.{Direction};
 ghost use Rattle.edge_defs.specs.Steps.{Call as NodeStep, Timers};
 ghost use Rattle.network_defs.specs.Counts.{is_end_up};
 ghost use Rattle.network_defs.specs.Nodes.{Nodes};

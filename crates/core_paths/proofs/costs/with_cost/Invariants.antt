@@ -1,5 +1,5 @@
 use Rattle.std.proofs.Common.{◌≡◌, map, take}
-use Rattle.core_walks.specs.Costs.{priced}
+use Rattle.mv_base.specs.core_walks.Costs.{priced}
 use Rattle.core_paths.proofs.costs.with_cost.Given as goal
 
 abbrev pub invariant-loop-link : goal.invariant-loop-link

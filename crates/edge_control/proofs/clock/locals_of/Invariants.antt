@@ -1,5 +1,5 @@
 use Rattle.std.proofs.Common.{◌≡◌, map, take}
-use Rattle.edge_home.specs.declared.own_vrf.OwnVrf.{OwnVrf}
+use Rattle.edge_routes.specs.declared.edge_home.own_vrf.OwnVrf.{OwnVrf}
 use Rattle.edge_control.proofs.clock.locals_of.Given as goal
 
 abbrev pub invariant-loop-own : goal.invariant-loop-own

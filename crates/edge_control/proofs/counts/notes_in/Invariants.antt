@@ -1,7 +1,7 @@
 use Rattle.std.specs.Prelude.{sum_by}
 use Rattle.std.proofs.Common.{◌≡◌, min, take}
 use Rattle.std.specs.FinSet as sets
-use Rattle.tree_defs.specs.Trees.{TreeData}
+use Rattle.vrf_words.specs.tree_defs.Trees.{TreeData}
 use Rattle.edge_control.proofs.CountLemmas.{most}
 use Rattle.edge_control.proofs.counts.notes_in.Given as goal
 

@@ -1,6 +1,6 @@
 use Rattle.std.specs.Prelude.{sum_by}
 use Rattle.std.proofs.Common.{◌≡◌, length, min, take}
-use Rattle.tree_defs.specs.Trees.{TreeData}
+use Rattle.vrf_words.specs.tree_defs.Trees.{TreeData}
 use Rattle.edge_control.proofs.CountLemmas.{most}
 use Rattle.edge_control.proofs.counts.selections_in.Given as goal
 

@@ -1,7 +1,7 @@
 use Rattle.std.proofs.Common.{◌<◌, length, refl, ap, ◌∙◌, arith}
 use Rattle.std.proofs.lemmas.List.{length-set}
 use Rattle.edge_defs.specs.Place.{vrfs_from}
-use Rattle.edge_home.specs.Home.{as_own, place_of}
+use Rattle.edge_routes.specs.edge_home.Home.{as_own, place_of}
 use Rattle.edge_control.specs.Taking.{forgetting}
 use Rattle.edge_control.proofs.PeerTurns.{turned_end, turned_more}
 use Rattle.edge_control.proofs.each.forget_in.Goals as goal

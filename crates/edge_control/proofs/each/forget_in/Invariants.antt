@@ -1,5 +1,5 @@
 use Rattle.std.proofs.Common.{◌≡◌, ℕ, length, Option}
-use Rattle.core_walks.specs.Core.{Core}
+use Rattle.mv_base.specs.core_walks.Core.{Core}
 use Rattle.edge_defs.specs.Edge.{TakenRoute}
 use Rattle.edge_defs.specs.Place.{vrfs_from}
 use Rattle.edge_control.specs.Taking.{Says, forgetting, turned}

@@ -1,7 +1,7 @@
 use Rattle.std.proofs.Common.{◌<◌, length, set, refl, ap, ◌∙◌, arith}
 use Rattle.std.proofs.lemmas.List.{length-set}
 use Rattle.edge_defs.specs.Place.{vrfs_from}
-use Rattle.edge_home.specs.Home.{as_own, place_of}
+use Rattle.edge_routes.specs.edge_home.Home.{as_own, place_of}
 use Rattle.edge_control.specs.Taking.{learning}
 use Rattle.edge_control.proofs.PeerTurns.{on_err, set_itself, turned_end, turned_more}
 use Rattle.edge_control.proofs.each.learn_in.Goals as goal

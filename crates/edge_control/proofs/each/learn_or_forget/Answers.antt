@@ -1,7 +1,7 @@
 use Rattle.std.proofs.Common.{List, ap, ◌∙◌}
-use Rattle.tree_defs.specs.Trees.{TreeData}
+use Rattle.vrf_words.specs.tree_defs.Trees.{TreeData}
 use Rattle.edge_defs.specs.Place.{vrfs_from}
-use Rattle.edge_home.specs.Home.{place_of}
+use Rattle.edge_routes.specs.edge_home.Home.{place_of}
 use Rattle.edge_control.specs.Taking.{forgetting, learning, turned_all}
 use Rattle.edge_control.proofs.PeerKinds.{with_back}
 use Rattle.edge_control.proofs.PeerTurns.{turned_back}

@@ -3,8 +3,8 @@ use Rattle.std.proofs.lemmas.List.{length-map}
 use Rattle.std.proofs.lemmas.Option.{slice_get-map, slice_get_read}
 use Rattle.mv_base.specs.declared.addr.Addr.TheVariants.{V4}
 use Rattle.edge_defs.specs.Place.{vrfs_from}
-use Rattle.edge_home.specs.Home.{AreOwn, Home, IsOf, as_own}
-use Rattle.edge_home.specs.declared.own_vrf.OwnVrf.{OwnVrf}
+use Rattle.edge_routes.specs.edge_home.Home.{AreOwn, Home, IsOf, as_own}
+use Rattle.edge_routes.specs.declared.edge_home.own_vrf.OwnVrf.{OwnVrf}
 use Rattle.control_laws.proofs.Parts.{no_core}
 use Rattle.edge_control.proofs.PlaceLemmas.{all_at}
 use Rattle.edge_control.proofs.each.own_at.Goals as goal

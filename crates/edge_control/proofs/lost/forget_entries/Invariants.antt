@@ -1,6 +1,6 @@
 use Rattle.std.proofs.Common.{◌≡◌, fold}
 use Rattle.edge_defs.specs.Place.{EdgePlace}
-use Rattle.edge_home.specs.Home.{as_own}
+use Rattle.edge_routes.specs.edge_home.Home.{as_own}
 use Rattle.edge_routes.specs.Local.{IsAt}
 use Rattle.control_laws.specs.Peers.{tree_without}
 use Rattle.edge_control.proofs.lost.forget_entries.Given as goal

@@ -1,6 +1,6 @@
 use Rattle.std.proofs.Common.{Some, refl, sym, ◌∙◌}
 use Rattle.edge_defs.specs.Place.{addr_of}
-use Rattle.edge_home.specs.Home.{as_own}
+use Rattle.edge_routes.specs.edge_home.Home.{as_own}
 use Rattle.edge_control.proofs.PeerKinds.{losing_is}
 use Rattle.edge_control.proofs.lost.forget_entry.Goals as goal
 

@@ -1,5 +1,5 @@
 use Rattle.std.proofs.Common.{fold, sym, ap, ◌∙◌}
-use Rattle.edge_home.specs.Home.{as_own}
+use Rattle.edge_routes.specs.edge_home.Home.{as_own}
 use Rattle.control_laws.specs.Peers.{tree_without}
 use Rattle.edge_control.proofs.PeerCalls.{no_table, some_table}
 use Rattle.edge_control.proofs.lost.forget_table.Goals as goal

@@ -1,5 +1,5 @@
 use Rattle.std.proofs.Common.{◌≡◌, length}
-use Rattle.core_walks.specs.Core.{Core}
+use Rattle.mv_base.specs.core_walks.Core.{Core}
 use Rattle.edge_defs.specs.Place.{vrfs_from}
 use Rattle.edge_control.specs.Taking.{losing, table_of, turned}
 use Rattle.edge_control.proofs.lost.lose_in.Given as goal

@@ -1,5 +1,5 @@
-use Rattle.edge_home.specs.Home.{as_own}
-use Rattle.edge_words.proofs.Prefixes.{among_at}
+use Rattle.edge_routes.specs.edge_home.Home.{as_own}
+use Rattle.control_laws.proofs.edge_words.Prefixes.{among_at}
 use Rattle.edge_control.specs.Places.{vrfs_of}
 use Rattle.edge_control.proofs.places.own_of_iface.Goals as goal
 

@@ -1,10 +1,10 @@
 use Rattle.std.proofs.Common.{◌≡◌, ◌<◌, List, length, get_or, inl, refl, set, sym, subst, ◌∙◌, arith}
 use Rattle.std.proofs.lemmas.List.{length-set}
 use Rattle.std.specs.List.{AllZip}
-use Rattle.mldp_fec.specs.declared.fec.Fec.{Fec}
+use Rattle.mldp.specs.declared.mldp_fec.fec.Fec.{Fec}
 use Rattle.umh_select.specs.Routes.{AreOfCore}
-use Rattle.tree_defs.specs.Flows.{flow_of}
-use Rattle.tree_defs.specs.Trees.{TreeData}
+use Rattle.vrf_words.specs.tree_defs.Flows.{flow_of}
+use Rattle.vrf_words.specs.tree_defs.Trees.{TreeData}
 use Rattle.vrf_trees.specs.Changes.{flow_in}
 use Rattle.control_laws.specs.Between.{IsRefreshed}
 use Rattle.edge_control.specs.Refreshing.{AreAllMoved, IsRestOf}

@@ -1,8 +1,8 @@
 use Rattle.std.proofs.Common.{ap, ◌∙◌}
 use Rattle.scenario_defs.specs.Home.{local_routes}
 use Rattle.scenario_defs.specs.declared.scenario.Vrf.{Vrf}
-use Rattle.tree_defs.specs.Trees.{TreeData}
-use Rattle.tree_laws.specs.TreeOf.{site_ifaces}
+use Rattle.vrf_words.specs.tree_defs.Trees.{TreeData}
+use Rattle.vrf_words.specs.tree_laws.TreeOf.{site_ifaces}
 use Rattle.vrf_trees.specs.Trees.{no_tree}
 use Rattle.edge_control.specs.Start.{with_ifaces, with_routes}
 use Rattle.edge_control.proofs.starting.first_tree.Goals as goal

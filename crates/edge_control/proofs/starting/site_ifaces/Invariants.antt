@@ -1,5 +1,5 @@
 use Rattle.std.proofs.Common.{◌≡◌, ◌++◌, drop}
-use Rattle.tree_laws.specs.TreeOf.{site_ifaces}
+use Rattle.vrf_words.specs.tree_laws.TreeOf.{site_ifaces}
 use Rattle.edge_control.proofs.starting.site_ifaces.Given as goal
 
 abbrev pub invariant-loop-number : goal.invariant-loop-number

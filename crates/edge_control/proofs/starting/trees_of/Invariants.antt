@@ -1,5 +1,5 @@
 use Rattle.std.proofs.Common.{◌≡◌, map, take}
-use Rattle.edge_home.specs.Home.{as_own}
+use Rattle.edge_routes.specs.edge_home.Home.{as_own}
 use Rattle.edge_control.specs.Start.{first_tree}
 use Rattle.edge_control.proofs.starting.trees_of.Given as goal
 

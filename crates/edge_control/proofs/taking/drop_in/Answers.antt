@@ -1,5 +1,5 @@
 use Rattle.std.proofs.Common.{Option, Some, sym, ap, ◌∙◌}
-use Rattle.bgp_attributes.specs.declared.key.Key.{Key}
+use Rattle.bgp_messages.specs.declared.bgp_attributes.key.Key.{Key}
 use Rattle.edge_defs.specs.Edge.{TakenRoute}
 use Rattle.edge_defs.specs.Place.{vrfs_from}
 use Rattle.edge_control.specs.Taking.{dropping, forgetting, turned_all}

@@ -1,9 +1,9 @@
 use Rattle.std.proofs.Common.{Option, Some, sym, ap, ◌∙◌}
 use Rattle.std.proofs.lemmas.Result.{on_err_weaker, on_ok_weaker}
-use Rattle.bgp_attributes.specs.declared.key.Key.{Key}
+use Rattle.bgp_messages.specs.declared.bgp_attributes.key.Key.{Key}
 use Rattle.edge_defs.specs.Edge.{TakenRoute}
 use Rattle.edge_defs.specs.Place.{vrfs_from}
-use Rattle.edge_home.specs.Home.{place_of}
+use Rattle.edge_routes.specs.edge_home.Home.{place_of}
 use Rattle.edge_control.specs.Taking.{coming, dropping, turned_all}
 use Rattle.edge_control.proofs.PeerKinds.{with_split}
 use Rattle.edge_control.proofs.PeerTaken.{none_turned}

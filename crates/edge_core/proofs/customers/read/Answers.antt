@@ -1,4 +1,4 @@
-use Rattle.group_laws.proofs.Messages.{spelled_has_groups}
+use Rattle.edge_routing.proofs.control_laws.group_laws.Messages.{spelled_has_groups}
 use Rattle.edge_core.proofs.customers.read.Goals as goal
 
 pub returns-in-Ok-clause-groups : goal.returns-in-Ok-clause-groups

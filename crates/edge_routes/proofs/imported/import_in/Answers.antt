@@ -1,5 +1,5 @@
 use Rattle.std.proofs.Common.{◌≡◌, sym, ◌∙◌, ap, Some}
-use Rattle.route_targets.specs.Communities.{import_octets}
+use Rattle.mv_base.specs.route_targets.Communities.{import_octets}
 use Rattle.edge_defs.specs.Edge.{Import}
 use Rattle.edge_routes.proofs.ValueLemmas.{import_read}
 use Rattle.edge_routes.proofs.imported.import_in.Goals as goal

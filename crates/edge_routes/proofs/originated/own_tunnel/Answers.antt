@@ -1,7 +1,7 @@
 use Rattle.std.proofs.Common.{rules, false, None, Some, length, ◌≡◌, sym, subst}
-use Rattle.bgp_update.specs.Written.{IsTunnel}
-use Rattle.pmsi_attr.specs.declared.pmsi.Tunnel.TheVariants as tunnels
-use Rattle.mldp_fec.specs.declared.fec.Fec.{Fec}
+use Rattle.edge_defs.specs.bgp_messages.bgp_update.Written.{IsTunnel}
+use Rattle.bgp_values.specs.declared.pmsi_attr.pmsi.Tunnel.TheVariants as tunnels
+use Rattle.bgp_values.specs.mldp.declared.mldp_fec.fec.Fec.{Fec}
 use Rattle.edge_routes.proofs.ValueLemmas.{tunnel_writable}
 use Rattle.edge_routes.proofs.originated.own_tunnel.Goals as goal
 

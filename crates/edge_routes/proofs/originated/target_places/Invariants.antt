@@ -1,5 +1,5 @@
 use Rattle.std.proofs.Common.{◌≡◌, map, take}
-use Rattle.bgp_attributes.specs.Spelling.{AreComms}
+use Rattle.edge_defs.specs.bgp_messages.bgp_attributes.Spelling.{AreComms}
 use Rattle.edge_routes.proofs.originated.target_places.Given as goal
 
 abbrev pub invariant-loop-i : goal.invariant-loop-i

@@ -1,6 +1,6 @@
 use Rattle.std.proofs.Common.{sym}
 use Rattle.std.proofs.lemmas.Result.{on_ok_weaker}
-use Rattle.edge_home.specs.Home.{place_of}
+use Rattle.edge_routes.specs.edge_home.Home.{place_of}
 use Rattle.edge_routing.proofs.CustomerCalls.{of_kept, own_at}
 use Rattle.edge_routing.proofs.Notes.{alone, held_still, held_without}
 use Rattle.edge_routing.proofs.customers.drop_unnoted.Goals as goal

@@ -1,5 +1,5 @@
 use Rattle.std.proofs.Common.{ap, subst, ◌∙◌}
-use Rattle.edge_home.specs.Home.{Home, place_of, peers_of}
+use Rattle.edge_routes.specs.edge_home.Home.{Home, place_of, peers_of}
 use Rattle.edge_defs.specs.Edge.{no_control}
 use Rattle.held_tables.specs.Holding.{HoldAll}
 use Rattle.edge_routing.proofs.First.{are_empty, first_silent, first_step}

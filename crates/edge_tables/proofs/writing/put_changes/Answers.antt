@@ -1,7 +1,7 @@
 use Rattle.std.proofs.Common.{length, arith, ap}
-use Rattle.table_defs.specs.declared.change.Change.{Change}
+use Rattle.mv_base.specs.declared.table_defs.change.Change.{Change}
 use Rattle.std.specs.Prelude.{List}
-use Rattle.bgp_attributes.specs.declared.key.Key.{Key}
+use Rattle.bgp_messages.specs.declared.bgp_attributes.key.Key.{Key}
 use Rattle.edge_defs.specs.Keys.{Value}
 use Rattle.edge_tables.proofs.PutLemmas.{all_put, front_put, none_put, one_put}
 use Rattle.edge_tables.proofs.WayLemmas.{on_err}

@@ -1,10 +1,10 @@
 use Rattle.std.proofs.Common.{◌∙◌, sym}
 use Rattle.std.specs.FinMap.{remove}
 use Rattle.std.proofs.lemmas.Result.{on_ok_weaker}
-use Rattle.mvpn_nlri.specs.declared.route.Route.TheVariants as routes
-use Rattle.bgp_attributes.specs.declared.key.Key.{Key}
-use Rattle.bgp_attributes.specs.declared.key.Key.TheVariants.{Mcast}
-use Rattle.bgp_update.specs.Written.{afi_of}
+use Rattle.bgp_values.specs.declared.mvpn_nlri.route.Route.TheVariants as routes
+use Rattle.bgp_messages.specs.declared.bgp_attributes.key.Key.{Key}
+use Rattle.bgp_messages.specs.declared.bgp_attributes.key.Key.TheVariants.{Mcast}
+use Rattle.bgp_messages.specs.bgp_update.Written.{afi_of}
 use Rattle.edge_defs.specs.Keys.{Table}
 use Rattle.held_tables.proofs.HoldLemmas.{at_less}
 use Rattle.held_tables.proofs.JoinLemmas.{apart_gone, here_gone, one_less}

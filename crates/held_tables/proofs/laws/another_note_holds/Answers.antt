@@ -1,5 +1,5 @@
 use Rattle.std.proofs.Common.{◌∙◌, sym}
-use Rattle.held_laws.proofs.Calls.{unnoted_beside}
+use Rattle.vrf_words.proofs.edge_words.held_laws.Calls.{unnoted_beside}
 use Rattle.held_tables.proofs.laws.another_note_holds.Goals as goal
 
 pub returns : goal.returns

@@ -1,4 +1,4 @@
-use Rattle.tree_laws.proofs.Joins.{joins_by_vrfs}
+use Rattle.vrf_words.proofs.tree_laws.Joins.{joins_by_vrfs}
 use Rattle.held_tables.proofs.laws.joins_are_of_first_flows.Goals as goal
 
 pub returns : goal.returns

@@ -1,10 +1,10 @@
 use Rattle.std.specs.FinMap.{remove}
 use Rattle.std.proofs.lemmas.Result.{on_ok_weaker}
-use Rattle.held_laws.proofs.Calls.{selected_less}
-use Rattle.held_laws.specs.Held.{without_selected}
+use Rattle.vrf_words.proofs.edge_words.held_laws.Calls.{selected_less}
+use Rattle.vrf_words.specs.edge_words.held_laws.Held.{without_selected}
 use Rattle.edge_defs.specs.Keys.{Table}
 use Rattle.edge_defs.specs.Originated.{selective_key}
-use Rattle.edge_home.specs.Home.{as_own}
+use Rattle.edge_routes.specs.edge_home.Home.{as_own}
 use Rattle.held_tables.proofs.HoldLemmas.{hold_each, less_as}
 use Rattle.held_tables.proofs.selections.drop_selection.Goals as goal
 

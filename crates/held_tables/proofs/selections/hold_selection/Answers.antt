@@ -1,12 +1,12 @@
 use Rattle.std.proofs.Common.{ap, ◌∙◌, sym}
 use Rattle.std.specs.FinMap.{insert}
 use Rattle.std.proofs.lemmas.Result.{on_ok_weaker, on_err_weaker}
-use Rattle.held_laws.proofs.Calls.{selected_more}
-use Rattle.held_laws.specs.Held.{with_selected}
+use Rattle.vrf_words.proofs.edge_words.held_laws.Calls.{selected_more}
+use Rattle.vrf_words.specs.edge_words.held_laws.Held.{with_selected}
 use Rattle.edge_defs.specs.Keys.{Table}
 use Rattle.edge_defs.specs.Originated.{selective_key, tunnel_value}
 use Rattle.edge_defs.specs.Place.{tunnel_number}
-use Rattle.edge_home.specs.Home.{as_own}
+use Rattle.edge_routes.specs.edge_home.Home.{as_own}
 use Rattle.held_tables.proofs.HoldLemmas.{hold_each, each_as, partly_as}
 use Rattle.held_tables.proofs.selections.hold_selection.Goals as goal
 

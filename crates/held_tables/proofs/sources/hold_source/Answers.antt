@@ -1,10 +1,10 @@
 use Rattle.std.specs.FinMap.{insert}
 use Rattle.std.proofs.lemmas.Result.{on_ok_weaker}
-use Rattle.held_laws.proofs.Calls.{noted}
-use Rattle.held_laws.specs.Held.{note_of, with_note}
+use Rattle.vrf_words.proofs.edge_words.held_laws.Calls.{noted}
+use Rattle.vrf_words.specs.edge_words.held_laws.Held.{note_of, with_note}
 use Rattle.edge_defs.specs.Keys.{Table}
 use Rattle.edge_defs.specs.Originated.{active_key, plain_value}
-use Rattle.edge_home.specs.Home.{as_own}
+use Rattle.edge_routes.specs.edge_home.Home.{as_own}
 use Rattle.held_tables.proofs.HoldLemmas.{hold_each, each_as}
 use Rattle.held_tables.proofs.sources.hold_source.Goals as goal
 

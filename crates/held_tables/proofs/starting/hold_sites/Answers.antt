@@ -5,7 +5,7 @@ use Rattle.scenario_defs.specs.Rules.{IsSitePrefix}
 use Rattle.scenario_defs.specs.declared.scenario.Route.{Route}
 use Rattle.scenario_defs.specs.declared.scenario.Scenario.{Scenario}
 use Rattle.edge_tables.specs.Tables.{EachPeer}
-use Rattle.calm_laws.proofs.Entries.{Entry}
+use Rattle.vrf_words.proofs.edge_words.calm_laws.Entries.{Entry}
 use Rattle.held_tables.specs.Starting.{HasFront, home_place, prefix_routes}
 use Rattle.held_tables.proofs.PrefixLemmas.{local_prefixes}
 use Rattle.held_tables.proofs.StartLemmas.{Given}

@@ -1,6 +1,6 @@
 use Rattle.std.proofs.lemmas.Result.{on_err_weaker, on_ok_weaker}
 use Rattle.edge_defs.specs.Originated.{unicast_routes}
-use Rattle.edge_home.specs.Home.{as_own}
+use Rattle.edge_routes.specs.edge_home.Home.{as_own}
 use Rattle.edge_tables.proofs.WayLemmas.{on_err}
 use Rattle.held_tables.specs.Starting.{home_place, inclusive_routes}
 use Rattle.held_tables.proofs.StartLemmas.{front_more, front_then, given_then}

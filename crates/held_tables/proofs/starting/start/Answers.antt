@@ -1,8 +1,8 @@
 use Rattle.std.proofs.Common.{List, subst}
 use Rattle.std.proofs.lemmas.Result.{on_err_weaker, on_ok_weaker}
-use Rattle.edge_home.specs.Home.{place_of}
+use Rattle.edge_routes.specs.edge_home.Home.{place_of}
 use Rattle.edge_tables.specs.Tables.{EachPeer}
-use Rattle.calm_laws.proofs.Entries.{Entry}
+use Rattle.vrf_words.proofs.edge_words.calm_laws.Entries.{Entry}
 use Rattle.held_tables.specs.Starting.{HasFront, home_place}
 use Rattle.held_tables.proofs.StartLemmas.{Given, home_routes, start_all, told_either, vrf_routes}
 use Rattle.held_tables.proofs.starting.start.Goals as goal

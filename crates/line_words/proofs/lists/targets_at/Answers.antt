@@ -1,8 +1,8 @@
 use Rattle.std.proofs.Common.{◌≡◌, ◌≤◌, ◌<◌, ◌∙◌, ℕ, sym, ap, arith, length, List, Err, refl}
-use Rattle.route_targets.specs.Targets.{same_target}
-use Rattle.route_targets.specs.declared.communities.Target.{Target}
-use Rattle.route_targets.specs.declared.targets.TargetsFault.{TargetsFault}
-use Rattle.route_targets.specs.declared.targets.TargetsFault.TheVariants.{Empty, TooMany}
+use Rattle.mv_base.specs.route_targets.Targets.{same_target}
+use Rattle.mv_base.specs.declared.route_targets.communities.Target.{Target}
+use Rattle.mv_base.specs.declared.route_targets.targets.TargetsFault.{TargetsFault}
+use Rattle.mv_base.specs.declared.route_targets.targets.TargetsFault.TheVariants.{Empty, TooMany}
 use Rattle.line_words.specs.Forms.{target_of}
 use Rattle.line_words.proofs.ListFacts.{list_is}
 use Rattle.line_words.proofs.lists.targets_at.Goals as goal

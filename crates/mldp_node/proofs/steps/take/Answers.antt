@@ -1,5 +1,5 @@
 use Rattle.std.proofs.Common.{subst, sym}
-use Rattle.mldp_msgs.specs.declared.message.LabelMessage.{LabelMessage}
+use Rattle.mldp.specs.declared.mldp_msgs.message.LabelMessage.{LabelMessage}
 use Rattle.label_defs.specs.Steps.{Taken}
 use Rattle.mldp_node.specs.Parts.{Made, LacksLabels}
 use Rattle.mldp_node.proofs.SettleLemmas.{on_ok}

@@ -1,5 +1,5 @@
 use Rattle.std.proofs.Common.{◌≡◌, drop}
-use Rattle.label_ends.specs.Ends.{with_puts}
+use Rattle.mldp_node.specs.label_ends.Ends.{with_puts}
 use Rattle.mldp_node.proofs.telling.tell_all.Given as goal
 
 abbrev pub invariant-loop-put : goal.invariant-loop-put

@@ -4,8 +4,12 @@ use Rattle.mvpn_tool.proofs.laws.runs_are_known.Goals as goal
 
 pub returns : goal.returns
 returns c =
-    let whole = whole_run c.readable_events_are_sound.ensures.run c.each_run_is_safe.ensures c.runs_deliver_once.ensures c.runs_are_local.ensures in
-    let halted = halted_run c.readable_events_are_sound.ensures.events c.halting_runs_are_safe.ensures c.halting_runs_deliver_once.ensures c.halting_runs_are_local.ensures in
+    let rule = c.runs_keep_the_label_rule.ensures.throughout in
+    let tells = c.state_lines_report_unready.ensures in
+    let settled = c.settle_settles.ensures.within in
+    let drained = c.drain_drains.ensures.within in
+    let whole = whole_run c.readable_events_are_sound.ensures.run rule tells settled drained c.each_run_is_safe.ensures c.runs_deliver_once.ensures c.runs_are_local.ensures in
+    let halted = halted_run c.readable_events_are_sound.ensures.events rule tells settled drained c.halting_runs_are_safe.ensures c.halting_runs_deliver_once.ensures c.halting_runs_are_local.ensures in
     record {
       cores = c.each_scenario_has_cores.ensures;
       whole = whole;

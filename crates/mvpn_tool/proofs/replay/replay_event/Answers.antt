@@ -1,5 +1,12 @@
-use Rattle.mvpn_tool.proofs.EventLemmas.{event_lacks, event_made, event_stops, lacking_are_known, made_are_known}
+use Rattle.mvpn_tool.proofs.EventLemmas.{event_lacks, event_made, event_stops, lacking_are_known, made_are_known, reached}
+use Rattle.mvpn_tool.proofs.FirstEventLemmas.{reached_clock, reached_event}
 use Rattle.mvpn_tool.proofs.replay.replay_event.Goals as goal
+
+pub step-requires-clause-event : goal.step-requires-clause-event
+step-requires-clause-event g c = λ going. reached_event c.args.timed.now c.args.world.now (reached c.args.scenario.now c.args.timed.now c.args.world.now c.requires)
+
+pub step-requires-clause-clock : goal.step-requires-clause-clock
+step-requires-clause-clock g c = λ going. reached_clock c.args.timed.now c.args.world.now (reached c.args.scenario.now c.args.timed.now c.args.world.now c.requires)
 
 pub write_lines-requires : goal.write_lines-requires
 write_lines-requires g c =

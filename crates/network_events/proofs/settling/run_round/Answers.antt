@@ -1,6 +1,6 @@
 use Rattle.std.proofs.Common.{refl, subst, arith, List, [], take, Ok}
 use Rattle.std.proofs.lemmas.List.{take_all}
-use Rattle.session_defs.specs.declared.direction.Direction.{Direction}
+use Rattle.network_defs.specs.declared.session_defs.direction.Direction.{Direction}
 use Rattle.network_defs.specs.Events.{each, turn}
 use Rattle.network_acts.specs.Words.{same_moment}
 use Rattle.network_events.specs.Doing.{Does}

@@ -1,4 +1,4 @@
-use Rattle.session_defs.proofs.Moves.{moves_first_while}
+use Rattle.network_defs.proofs.session_defs.Moves.{moves_first_while}
 use Rattle.network_laws.specs.Honest.{sound_system}
 use Rattle.network_laws.specs.Sound.{Sound}
 use Rattle.network_laws.proofs.Nodes.{honest_nodes}

@@ -1,4 +1,4 @@
-use Rattle.session_defs.proofs.Runs.{run_refined_while, run_ended_while}
+use Rattle.network_defs.proofs.session_defs.Runs.{run_refined_while, run_ended_while}
 use Rattle.network_laws.specs.Honest.{sound_system}
 use Rattle.network_laws.specs.Sound.{Sound}
 use Rattle.network_laws.proofs.Nodes.{honest_nodes}

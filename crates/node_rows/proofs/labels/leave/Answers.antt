@@ -1,5 +1,5 @@
 use Rattle.std.proofs.Common.{◌∙◌, sym}
-use Rattle.label_uses.proofs.SeenLemmas.{found_mapped}
+use Rattle.label_trees.proofs.label_uses.SeenLemmas.{found_mapped}
 use Rattle.node_rows.proofs.labels.leave.Goals as goal
 
 pub leave-requires : goal.leave-requires

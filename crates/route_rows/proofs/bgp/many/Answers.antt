@@ -1,7 +1,7 @@
 use Rattle.std.proofs.Common.{[], ◌∷◌, List, refl, sym, subst, ◌∙◌}
-use Rattle.route_targets.specs.declared.communities.ExtComm.{ExtComm}
-use Rattle.bgp_attributes.specs.Spelling.{AreComms}
-use Rattle.bgp_update.proofs.Appending.{alike}
+use Rattle.mv_base.specs.declared.route_targets.communities.ExtComm.{ExtComm}
+use Rattle.bgp_messages.specs.bgp_attributes.Spelling.{AreComms}
+use Rattle.bgp_messages.proofs.bgp_update.Appending.{alike}
 use Rattle.route_rows.proofs.bgp.many.Goals as goal
 
 pub returns : goal.returns

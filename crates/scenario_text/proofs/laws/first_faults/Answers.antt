@@ -1,6 +1,6 @@
 use Rattle.std.proofs.Common.{◌∙◌, sym}
 use Rattle.std.specs.Str.Lines.{lines}
-use Rattle.scenario_draft.specs.Adding.{empty_draft}
+use Rattle.scenario_lines.specs.scenario_draft.Adding.{empty_draft}
 use Rattle.scenario_text.proofs.FaultsLemmas.{read_text, accepts, first_fault, short_text, long_text}
 use Rattle.scenario_text.proofs.laws.first_faults.Goals as goal
 

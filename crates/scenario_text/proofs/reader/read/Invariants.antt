@@ -1,6 +1,6 @@
 use Rattle.std.proofs.Common.{◌≡◌, ◌+◌, ◌≤◌, length}
 use Rattle.std.specs.Str.Lines.{lines}
-use Rattle.scenario_draft.specs.Adding.{empty_draft}
+use Rattle.scenario_lines.specs.scenario_draft.Adding.{empty_draft}
 use Rattle.scenario_text.specs.Grammar.{script_from}
 use Rattle.scenario_text.proofs.RulesLemmas.{Holds}
 use Rattle.scenario_text.proofs.reader.read.Given as goal

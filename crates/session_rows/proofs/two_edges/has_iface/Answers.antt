@@ -2,7 +2,7 @@ use Rattle.std.proofs.Common.{ap, ◌∙◌}
 use Rattle.std.specs.List.{list_any}
 use Rattle.scenario_defs.specs.declared.scenario.Scenario.{Scenario}
 use Rattle.edge_defs.specs.Originated.{is_iface_of}
-use Rattle.edge_home.specs.declared.own_vrf.OwnVrf.{OwnVrf}
+use Rattle.edge_routes.specs.declared.edge_home.own_vrf.OwnVrf.{OwnVrf}
 use Rattle.session_rows.proofs.RoleLemmas.{any_own}
 use Rattle.session_rows.proofs.two_edges.has_iface.Goals as goal
 

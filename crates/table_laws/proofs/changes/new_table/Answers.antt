@@ -1,4 +1,4 @@
-use Rattle.table_defs.specs.Changes.{changes}
+use Rattle.mv_base.specs.table_defs.Changes.{changes}
 use Rattle.table_laws.proofs.OrderLemmas.{none_are}
 use Rattle.table_laws.proofs.PendingLemmas.{changes_lead, changes_changing, all_taken}
 use Rattle.table_laws.proofs.changes.new_table.Goals as goal

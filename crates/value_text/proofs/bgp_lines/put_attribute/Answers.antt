@@ -4,7 +4,7 @@ use Rattle.std.proofs.lemmas.List.{take_at}
 use Rattle.hex.specs.Hex.{encode_lower}
 use Rattle.mv_base.specs.Writing.{put_at}
 use Rattle.mv_base.proofs.Fields.{put_at_front}
-use Rattle.pmsi_attr.specs.Spelling.{written}
+use Rattle.bgp_values.specs.pmsi_attr.Spelling.{written}
 use Rattle.value_text.specs.MessageText.{attribute_text}
 use Rattle.value_text.proofs.bgp_lines.put_attribute.Goals as goal
 

@@ -1,8 +1,8 @@
 use Rattle.std.proofs.Common.{rules, ◌≡◌, List, ap, ◌∙◌}
 use Rattle.std.specs.Map.{lookup}
-use Rattle.tree_defs.specs.declared.flow.Flow.{Flow}
+use Rattle.vrf_words.specs.declared.tree_defs.flow.Flow.{Flow}
 use Rattle.vrf_flows.specs.declared.held.Held.{Held}
-use Rattle.tree_defs.specs.Keys.{same_flow}
+use Rattle.vrf_words.specs.tree_defs.Keys.{same_flow}
 use Rattle.vrf_flows.proofs.FlowLemmas.{change_each, forget_by, lookup-forgotten, retained}
 use Rattle.vrf_flows.proofs.marks.forget.Goals as goal
 

@@ -1,6 +1,6 @@
 use Rattle.std.proofs.Common.{rules, ◌≡◌, ap, sym, ◌∙◌, Bool}
 use Rattle.indexmap.specs.IndexMap.{get}
-use Rattle.tree_defs.specs.Keys.{same_flow}
+use Rattle.vrf_words.specs.tree_defs.Keys.{same_flow}
 use Rattle.vrf_flows.specs.Held.{marked}
 use Rattle.vrf_flows.proofs.FlowLemmas.{unlapsed, marked-not}
 use Rattle.vrf_flows.proofs.marks.mark_between.Goals as goal

@@ -1,6 +1,6 @@
 use Rattle.std.proofs.Common.{rules, ◌≡◌, true, Some}
 use Rattle.indexmap.specs.IndexMap.{get}
-use Rattle.tree_defs.specs.Keys.{same_flow}
+use Rattle.vrf_words.specs.tree_defs.Keys.{same_flow}
 use Rattle.vrf_flows.proofs.FlowLemmas.{mark-one}
 use Rattle.vrf_flows.proofs.marks.mark_flow.Goals as goal
 

@@ -2,8 +2,8 @@ use Rattle.std.proofs.Common.{◌≡◌, List, [], Option, None, sym, ap, ◌∙
 use Rattle.std.specs.Map.Iter.{deref_pair}
 use Rattle.std.proofs.lemmas.Map.Iter.{rest_all, rest_more}
 use Rattle.indexmap.specs.IndexMap.{get}
-use Rattle.tree_defs.specs.declared.flow.Flow.{Flow}
-use Rattle.tree_defs.specs.Keys.{same_flow}
+use Rattle.vrf_words.specs.declared.tree_defs.flow.Flow.{Flow}
+use Rattle.vrf_words.specs.tree_defs.Keys.{same_flow}
 use Rattle.vrf_flows.specs.declared.held.Held.{Held}
 use Rattle.vrf_flows.specs.Held.{Now}
 use Rattle.vrf_flows.specs.Plan.{puts, replan}

@@ -2,8 +2,8 @@ use Rattle.std.proofs.Common.{◌≡◌, ℕ, None}
 use Rattle.indexmap.specs.IndexMap.{get, IsUnique}
 use Rattle.mv_base.specs.declared.ids.NodeId.{NodeId}
 use Rattle.umh_select.specs.Routes.{AreCosts}
-use Rattle.tree_defs.specs.declared.flow.Flow.{Flow}
-use Rattle.tree_defs.specs.Keys.{same_flow}
+use Rattle.vrf_words.specs.declared.tree_defs.flow.Flow.{Flow}
+use Rattle.vrf_words.specs.tree_defs.Keys.{same_flow}
 use Rattle.vrf_flows.specs.Plan.{puts, replan}
 use Rattle.vrf_flows.specs.Sight.{seen}
 use Rattle.vrf_flows.proofs.plan.plan.Given as goal

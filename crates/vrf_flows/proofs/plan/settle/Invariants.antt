@@ -1,7 +1,7 @@
 use Rattle.std.proofs.Common.{◌≡◌, is_some, true}
 use Rattle.indexmap.specs.IndexMap.{get, IsUnique}
-use Rattle.tree_defs.specs.declared.flow.Flow.{Flow}
-use Rattle.tree_defs.specs.Keys.{same_flow}
+use Rattle.vrf_words.specs.declared.tree_defs.flow.Flow.{Flow}
+use Rattle.vrf_words.specs.tree_defs.Keys.{same_flow}
 use Rattle.vrf_flows.specs.Sight.{needs}
 use Rattle.vrf_flows.specs.Plan.{sets, settled_by}
 use Rattle.vrf_flows.proofs.plan.settle.Given as goal

@@ -1,5 +1,5 @@
 use Rattle.std.proofs.Common.{◌≡◌, ◌++◌, map, filter, drop}
-use Rattle.tree_defs.specs.Flows.{is_outside}
+use Rattle.vrf_words.specs.tree_defs.Flows.{is_outside}
 use Rattle.vrf_flows.specs.State.{iface_in}
 use Rattle.vrf_flows.proofs.state.leaving.Given as goal
 

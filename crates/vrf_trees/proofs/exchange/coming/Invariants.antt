@@ -1,6 +1,6 @@
 use Rattle.std.proofs.Common.{◌≡◌, ◌||◌}
 use Rattle.std.specs.List.{IsDistinct}
-use Rattle.mldp_fec.specs.declared.fec.Fec.{Fec}
+use Rattle.mldp.specs.declared.mldp_fec.fec.Fec.{Fec}
 use Rattle.vrf_trees.specs.Plan.{comes}
 use Rattle.vrf_trees.specs.Wants.{is_fec, is_in}
 use Rattle.vrf_trees.proofs.exchange.coming.Given as goal

@@ -1,5 +1,5 @@
 use Rattle.std.proofs.Common.{not, filter, List, ap, ◌∙◌}
-use Rattle.mldp_fec.specs.declared.fec.Fec.{Fec}
+use Rattle.mldp.specs.declared.mldp_fec.fec.Fec.{Fec}
 use Rattle.vrf_trees.specs.Wants.{is_in, tunnels_in}
 use Rattle.vrf_trees.proofs.TableLemmas.{less-new, more-new}
 use Rattle.vrf_trees.proofs.exchange.exchange.Goals as goal

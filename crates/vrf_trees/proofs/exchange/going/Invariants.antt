@@ -1,8 +1,8 @@
 use Rattle.std.proofs.Common.{◌≡◌, ◌||◌}
 use Rattle.std.specs.List.{IsDistinct}
 use Rattle.indexmap.specs.IndexMap.{get}
-use Rattle.mldp_fec.specs.declared.fec.Fec.{Fec}
-use Rattle.tree_defs.specs.Keys.{same_flow}
+use Rattle.mldp.specs.declared.mldp_fec.fec.Fec.{Fec}
+use Rattle.vrf_words.specs.tree_defs.Keys.{same_flow}
 use Rattle.vrf_trees.specs.Plan.{goes}
 use Rattle.vrf_trees.specs.Wants.{is_fec, is_in}
 use Rattle.vrf_trees.proofs.exchange.going.Given as goal

@@ -1,6 +1,6 @@
 use Rattle.std.proofs.Common.{rules, ◌≡◌, ◌∙◌}
 use Rattle.indexmap.specs.IndexMap.{get}
-use Rattle.tree_defs.specs.Keys.{same_flow}
+use Rattle.vrf_words.specs.tree_defs.Keys.{same_flow}
 use Rattle.vrf_flows.specs.Plan.{puts}
 use Rattle.vrf_flows.proofs.FlowLemmas.{puts-lookup}
 use Rattle.vrf_trees.specs.Plan.{joins_for}

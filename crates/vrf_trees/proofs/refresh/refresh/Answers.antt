@@ -1,10 +1,10 @@
 use Rattle.std.proofs.Common.{List, Option, sym, subst}
 use Rattle.std.specs.FinMap as maps
 use Rattle.indexmap.specs.IndexMap.{get}
-use Rattle.tree_defs.specs.declared.flow.Flow.{Flow}
-use Rattle.tree_defs.specs.declared.flow.Upstream.{Upstream}
-use Rattle.tree_defs.specs.Keys.{same_flow}
-use Rattle.tree_defs.specs.Flows.{flow_of, gained, lost, upstream_of}
+use Rattle.vrf_words.specs.declared.tree_defs.flow.Flow.{Flow}
+use Rattle.vrf_words.specs.declared.tree_defs.flow.Upstream.{Upstream}
+use Rattle.vrf_words.specs.tree_defs.Keys.{same_flow}
+use Rattle.vrf_words.specs.tree_defs.Flows.{flow_of, gained, lost, upstream_of}
 use Rattle.vrf_flows.proofs.CostLemmas.{least_costs}
 use Rattle.vrf_trees.specs.declared.changes.TreeJoin.{TreeJoin}
 use Rattle.vrf_trees.specs.Changes.{AreJoins}

@@ -1,7 +1,7 @@
 use Rattle.std.proofs.Common.{sym, subst}
 use Rattle.indexmap.specs.IndexMap.{get}
 use Rattle.selective.specs.Leaves.{Leaf, without_peer}
-use Rattle.tree_defs.specs.Keys.{same_flow}
+use Rattle.vrf_words.specs.tree_defs.Keys.{same_flow}
 use Rattle.vrf_trees.specs.declared.wants.Cause.TheVariants as causes
 use Rattle.vrf_trees.specs.Wants.{Holds, ups_in}
 use Rattle.vrf_trees.proofs.MarkLemmas.{marked-holds}

@@ -1,7 +1,7 @@
 use Rattle.std.proofs.Common.{rules, ◌≡◌, List, ap, ◌∙◌}
 use Rattle.std.specs.Map.{lookup}
-use Rattle.tree_defs.specs.declared.flow.Flow.{Flow}
-use Rattle.tree_defs.specs.Keys.{same_flow}
+use Rattle.vrf_words.specs.declared.tree_defs.flow.Flow.{Flow}
+use Rattle.vrf_words.specs.tree_defs.Keys.{same_flow}
 use Rattle.vrf_trees.specs.declared.wants.Wants.{Wants}
 use Rattle.vrf_trees.specs.Wants.{tunnels_in}
 use Rattle.vrf_trees.proofs.MarkLemmas.{lookup-marked, mark_each, retained, tunnels-marked}

@@ -4,8 +4,8 @@ use Rattle.std.proofs.lemmas.Result.{on_err_weaker, on_ok_weaker}
 use Rattle.label_defs.specs.Keys.{node_cmp}
 use Rattle.edge_defs.specs.Edge.{Control, Taken}
 use Rattle.edge_defs.specs.Steps.{taken_change}
-use Rattle.taken_tables.specs.Routes.{handed}
-use Rattle.taken_tables.specs.Tables.{changed_at, is_news, reach, route_at}
+use Rattle.edge_tables.specs.taken_tables.Routes.{handed}
+use Rattle.edge_tables.specs.taken_tables.Tables.{changed_at, is_news, reach, route_at}
 use Rattle.control_laws.specs.Control.{Kept, control_of}
 use Rattle.edge_control.proofs.PeerAnnounced.{none_left, table_anew, table_stays}
 use Rattle.edge_control.proofs.PeerTurns.{on_err}

@@ -8,7 +8,7 @@ use Rattle.edge_control.specs.Sound.{IsSound, kept_of, wants_of}
 use Rattle.edge_control.proofs.PeerCalls.{lost_control, lost_sound}
 use Rattle.control_laws.proofs.Parts.{no_core}
 use Rattle.control_laws.proofs.PeersLost.{lost_leaves}
-use Rattle.edge_home.specs.Home.{place_of}
+use Rattle.edge_routes.specs.edge_home.Home.{place_of}
 use Rattle.edge_control.specs.Places.{vrfs_of}
 use Rattle.edge_control.specs.Taking.{losing, table_of}
 use Rattle.edge_control.proofs.PeerSound.{as_many}

@@ -1,5 +1,5 @@
 use Rattle.std.proofs.Common.{sym, subst}
-use Rattle.edge_home.specs.Home.{Home, IsHome}
+use Rattle.edge_routes.specs.edge_home.Home.{Home, IsHome}
 use Rattle.edge_control.proofs.StartLemmas.{control_first, sound_first, wanted_first}
 use Rattle.edge_control.proofs.control.EdgeControl.of.Goals as goal
 

@@ -4,7 +4,7 @@ use Rattle.mv_base.specs.declared.ids.NodeId.{NodeId}
 use Rattle.umh_select.specs.Routes.{AreCosts}
 use Rattle.edge_defs.specs.Edge.{Control}
 use Rattle.edge_defs.specs.Steps.{refreshed}
-use Rattle.edge_home.specs.Home.{place_of}
+use Rattle.edge_routes.specs.edge_home.Home.{place_of}
 use Rattle.control_laws.specs.Control.{Kept, control_of}
 use Rattle.edge_control.specs.Sound.{kept_of}
 use Rattle.edge_control.specs.Refreshing.{AreChanged, AreTold}

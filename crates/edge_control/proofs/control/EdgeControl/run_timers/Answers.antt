@@ -1,6 +1,6 @@
 use Rattle.std.proofs.Common.{sym, ap, subst, ◌∙◌, refl}
 use Rattle.edge_defs.specs.Steps.{Timers, effect}
-use Rattle.edge_home.specs.Home.{place_of}
+use Rattle.edge_routes.specs.edge_home.Home.{place_of}
 use Rattle.control_laws.specs.Control.{Kept, control_of}
 use Rattle.control_laws.proofs.Parts.{no_core}
 use Rattle.edge_control.specs.Sound.{IsSound, kept_of, wants_of}

@@ -1,7 +1,7 @@
 use Rattle.std.specs.Prelude.{sum_by}
 use Rattle.std.proofs.Common.{List, length, min, ℕ, sym, ap, ◌∙◌}
 use Rattle.std.specs.FinMap as maps
-use Rattle.tree_defs.specs.Trees.{TreeData}
+use Rattle.vrf_words.specs.tree_defs.Trees.{TreeData}
 use Rattle.control_laws.specs.Control.{Kept, control_of}
 use Rattle.control_laws.proofs.CustomersCounts.{selections_counted}
 use Rattle.edge_control.specs.Sound.{kept_of}

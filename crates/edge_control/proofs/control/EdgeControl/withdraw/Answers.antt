@@ -1,17 +1,17 @@
 use Rattle.std.proofs.Common.{sym, ap, subst, ◌∙◌, None}
 use Rattle.std.specs.FinMap.{FinMap}
-use Rattle.bgp_attributes.specs.declared.update.Change.TheVariants.{Unreach}
+use Rattle.bgp_messages.specs.declared.bgp_attributes.update.Change.TheVariants.{Unreach}
 use Rattle.label_defs.specs.Keys.{node_cmp}
 use Rattle.edge_defs.specs.Edge.{Taken}
 use Rattle.edge_defs.specs.Steps.{taken_change}
-use Rattle.taken_tables.specs.Tables.{changed_at, route_at}
+use Rattle.edge_tables.specs.taken_tables.Tables.{changed_at, route_at}
 use Rattle.control_laws.specs.Control.{Kept, control_of}
 use Rattle.edge_control.specs.Sound.{IsSound, kept_of, wants_of}
 use Rattle.edge_control.proofs.PeerSound.{as_many}
 use Rattle.edge_control.proofs.PeerTaken.{withdrawn}
 use Rattle.control_laws.proofs.Parts.{no_core}
 use Rattle.control_laws.proofs.PeersChange.{change_leaves}
-use Rattle.edge_home.specs.Home.{place_of}
+use Rattle.edge_routes.specs.edge_home.Home.{place_of}
 use Rattle.edge_control.specs.Places.{vrfs_of}
 use Rattle.edge_control.specs.Taking.{dropping}
 use Rattle.edge_control.proofs.WantLemmas.{turned_wants}

@@ -1,10 +1,10 @@
 use Rattle.std.proofs.Common.{◌≡◌, subst}
 use Rattle.mv_base.specs.Lists.{Among}
-use Rattle.core_walks.specs.Core.{Core}
+use Rattle.mv_base.specs.core_walks.Core.{Core}
 use Rattle.edge_defs.specs.Place.{OwnVrf}
-use Rattle.edge_home.specs.Home.{place_of}
-use Rattle.tree_laws.specs.Imports.{imports}
-use Rattle.edge_control.specs.Places.{vrfs_of}
+use Rattle.edge_routes.specs.edge_home.Home.{place_of}
+use Rattle.edge_routing.specs.vrf_words.tree_laws.Imports.{imports}
+use Rattle.edge_routing.specs.edge_control.Places.{vrfs_of}
 use Rattle.edge_core.specs.State.{data_of, home_of}
 use Rattle.edge_core.specs.View.{EdgeView}
 use Rattle.edge_core.proofs.edge.Edge.imports.Goals as goal

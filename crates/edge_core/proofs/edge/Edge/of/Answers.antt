@@ -9,5 +9,5 @@ invariant_of-result c = λ unspent.
     (c.in_ok-labels.ensures.live c.in_ok-routing.routing c.in_ok-routing.ensures.step c.in_ok-routing.ensures.home c.in_ok-routing.ensures.nothing)
 
 pub returns-clause-is : goal.returns-clause-is
-returns-clause-is c = first_in c.args.scenario.now.labels c.in_ok-routing.routing c.in_ok-labels.labels c.of-streams.result
-    c.in_ok-labels.ensures.fresh c.in_ok-routing.ensures.nothing c.in_ok-routing.ensures.silent c.of-streams.ensures
+returns-clause-is c = first_in c.args.scenario.now.labels c.in_ok-routing.routing c.in_ok-labels.labels c.of-streams.result c.of-2.result
+    c.in_ok-labels.ensures.fresh c.in_ok-routing.ensures.nothing c.in_ok-routing.ensures.silent c.of-streams.ensures c.of-2.ensures

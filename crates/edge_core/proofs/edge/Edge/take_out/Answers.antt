@@ -1,8 +1,9 @@
 use Rattle.std.proofs.Common.{refl, sym, ap, subst, ◌∙◌}
-use Rattle.control_laws.proofs.Parts.{no_core}
+use Rattle.edge_routing.proofs.control_laws.Parts.{no_core}
 use Rattle.scenario_defs.specs.declared.event.Kind.{Kind}
-use Rattle.node_defs.specs.EdgeState.{handed, handed_out}
-use Rattle.edge_streams.specs.Kept.{session}
+use Rattle.network_defs.specs.node_defs.EdgeState.{handed, handed_out}
+use Rattle.edge_routing.specs.edge_streams.Kept.{session}
+use Rattle.mldp_node.specs.NodeData.{NodeData}
 use Rattle.edge_core.specs.Called.{seen}
 use Rattle.edge_core.specs.State.{IsIn, IsPeer}
 use Rattle.edge_core.specs.View.{EdgeView}
@@ -53,3 +54,12 @@ returns-in-Ldp-clause-rest c = λ none state in_old.
     let edge = seen c.self.inside.parts c.self.inside.spent in
     subst (λ (kind : Kind). IsIn (handed_out (session kind c.args.peer) state) (record edge { labels = c.take_out-in-Ldp.new.self })) (sym c.in-Ldp.is)
     (ldp_handed state edge c.take_out-in-Ldp.new.self c.args.peer c.take_out-in-Ldp.ensures.rest (subst (IsIn state) (sym c.self.view_is) in_old))
+
+pub returns-in-Bgp-clause-waits : goal.returns-in-Bgp-clause-waits
+returns-in-Bgp-clause-waits c = (ap (λ (e : EdgeView). e.labels.place) c.self.view_is, ap (λ (e : EdgeView). e.labels.awaited) c.self.view_is)
+
+pub returns-in-Ldp-clause-waits : goal.returns-in-Ldp-clause-waits
+returns-in-Ldp-clause-waits c = (
+  ap (λ (l : NodeData). l.place) c.take_out-in-Ldp.ensures.rest ∙ ap (λ (e : EdgeView). e.labels.place) c.self.view_is,
+  ap (λ (l : NodeData). l.awaited) c.take_out-in-Ldp.ensures.rest ∙ ap (λ (e : EdgeView). e.labels.awaited) c.self.view_is,
+)

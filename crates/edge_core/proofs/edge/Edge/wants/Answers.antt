@@ -5,7 +5,7 @@ use Rattle.label_defs.specs.Keys.{fec_cmp}
 use Rattle.label_defs.proofs.UseLemmas.{map_none}
 use Rattle.mldp_node.specs.NodeData.{NodeData, cause}
 use Rattle.edge_defs.specs.Tunnels.{leaves}
-use Rattle.edge_home.specs.Home.{place_of}
+use Rattle.edge_routes.specs.edge_home.Home.{place_of}
 use Rattle.edge_core.specs.State.{data_of, home_of}
 use Rattle.edge_core.specs.View.{EdgeView}
 use Rattle.edge_core.proofs.edge.Edge.wants.Goals as goal

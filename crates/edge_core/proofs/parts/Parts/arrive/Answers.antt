@@ -4,7 +4,7 @@ use Rattle.label_forwarding.specs.declared.branch.Branch.{Branch}
 use Rattle.label_forwarding.specs.FibData.{AreHops}
 use Rattle.mldp_node.specs.NodeData.{NodeData}
 use Rattle.edge_defs.specs.Datagrams.{tree_of}
-use Rattle.edge_home.specs.Home.{place_of}
+use Rattle.edge_routes.specs.edge_home.Home.{place_of}
 use Rattle.edge_core.specs.Called.{going}
 use Rattle.edge_core.specs.State.{data_of}
 use Rattle.edge_core.proofs.FateLemmas.{arrives, one_tree, tree_branches}

@@ -1,9 +1,9 @@
 use Rattle.std.proofs.Common.{refl}
 use Rattle.scenario_defs.specs.declared.event.Kind.TheVariants as kinds
 use Rattle.edge_defs.specs.Steps.{Noticed}
-use Rattle.edge_labels.specs.declared.own_call.OwnCall.TheVariants as owns
+use Rattle.edge_routing.specs.edge_labels.declared.own_call.OwnCall.TheVariants as owns
 use Rattle.edge_core.specs.Called.{going}
-use Rattle.edge_core.proofs.SessionLemmas.{midway}
+use Rattle.edge_core.proofs.SessionLemmas.{midway_raised}
 use Rattle.edge_core.proofs.parts.Parts.lose_bgp.Goals as goal
 
 pub settle-requires-clause-called : goal.settle-requires-clause-called
@@ -12,7 +12,7 @@ settle-requires-clause-called c =
     record {
       call = Noticed kinds.Bgp c.args.peer;
       old = going old;
-      is = midway c.args.core.now c.args.now owns.None (Noticed kinds.Bgp c.args.peer) old c.lose-told.new.self c.lose.new.self c.lose-told.result c.requires.live c.requires.nodes refl tt c.lose.ensures c.lose-told.ensures.home
+      is = midway_raised c.args.core.now c.args.now owns.None (Noticed kinds.Bgp c.args.peer) old c.lose-told.new.self c.lose.new.self c.lose-2.new.self c.lose-told.result c.lose-2.ensures c.requires.live c.requires.nodes refl tt c.lose.ensures c.lose-told.ensures.home
           c.lose-told.ensures.stepped;
     }
 
@@ -20,5 +20,5 @@ pub returns-clause-settles : goal.returns-clause-settles
 returns-clause-settles c =
     let old = c.args.self.now in
     c.settle.ensures.answers (Noticed kinds.Bgp c.args.peer) (going old)
-    (midway c.args.core.now c.args.now owns.None (Noticed kinds.Bgp c.args.peer) old c.lose-told.new.self c.lose.new.self c.lose-told.result c.requires.live c.requires.nodes refl tt c.lose.ensures c.lose-told.ensures.home
+    (midway_raised c.args.core.now c.args.now owns.None (Noticed kinds.Bgp c.args.peer) old c.lose-told.new.self c.lose.new.self c.lose-2.new.self c.lose-told.result c.lose-2.ensures c.requires.live c.requires.nodes refl tt c.lose.ensures c.lose-told.ensures.home
     c.lose-told.ensures.stepped)

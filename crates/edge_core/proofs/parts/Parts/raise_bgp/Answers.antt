@@ -1,9 +1,9 @@
 use Rattle.std.proofs.Common.{refl}
 use Rattle.scenario_defs.specs.declared.event.Kind.TheVariants as kinds
 use Rattle.edge_defs.specs.Steps.{Raised}
-use Rattle.edge_labels.specs.declared.own_call.OwnCall.TheVariants as owns
+use Rattle.edge_routing.specs.edge_labels.declared.own_call.OwnCall.TheVariants as owns
 use Rattle.edge_core.specs.Called.{going}
-use Rattle.edge_core.proofs.SessionLemmas.{midway}
+use Rattle.edge_core.proofs.SessionLemmas.{midway_raised}
 use Rattle.edge_core.proofs.parts.Parts.raise_bgp.Goals as goal
 
 pub settle-requires-clause-called : goal.settle-requires-clause-called
@@ -12,7 +12,7 @@ settle-requires-clause-called c =
     record {
       call = Raised kinds.Bgp c.args.peer;
       old = going old;
-      is = midway c.args.core.now c.args.now owns.None (Raised kinds.Bgp c.args.peer) old c.raise-told.new.self c.raise.new.self c.raise-told.result c.requires.live c.requires.nodes refl tt c.in_ok-raise.ensures.raised c.raise-told.ensures.home
+      is = midway_raised c.args.core.now c.args.now owns.None (Raised kinds.Bgp c.args.peer) old c.raise-told.new.self c.raise.new.self c.raise-2.new.self c.raise-told.result c.in_ok-raise-2.ensures c.requires.live c.requires.nodes refl tt c.in_ok-raise.ensures.raised c.raise-told.ensures.home
           c.raise-told.ensures.stepped;
     }
 
@@ -20,5 +20,5 @@ pub returns-clause-settles : goal.returns-clause-settles
 returns-clause-settles c =
     let old = c.args.self.now in
     c.settle.ensures.answers (Raised kinds.Bgp c.args.peer) (going old)
-    (midway c.args.core.now c.args.now owns.None (Raised kinds.Bgp c.args.peer) old c.raise-told.new.self c.raise.new.self c.raise-told.result c.requires.live c.requires.nodes refl tt c.in_ok-raise.ensures.raised c.raise-told.ensures.home
+    (midway_raised c.args.core.now c.args.now owns.None (Raised kinds.Bgp c.args.peer) old c.raise-told.new.self c.raise.new.self c.raise-2.new.self c.raise-told.result c.in_ok-raise-2.ensures c.requires.live c.requires.nodes refl tt c.in_ok-raise.ensures.raised c.raise-told.ensures.home
     c.raise-told.ensures.stepped)

@@ -1,6 +1,6 @@
 use Rattle.std.proofs.Common.{refl, sym, ap, subst, Err}
 use Rattle.edge_defs.specs.Steps.{Select}
-use Rattle.edge_control.specs.declared.fault.ControlFault.{ControlFault}
+use Rattle.edge_routing.specs.edge_control.declared.fault.ControlFault.{ControlFault}
 use Rattle.edge_core.specs.declared.fault.EdgeFault.TheVariants as faults
 use Rattle.edge_core.specs.Called.{SettlesCall, going}
 use Rattle.edge_core.proofs.SelectionLemmas.{has_selected, stays_full}
@@ -16,7 +16,7 @@ returns-clause-settles c = λ core.
     let home = c.select.ensures.home in
     elim c.match-select.branch [
       | in-Ok w ↦ subst (SettlesCall core c.args.now call (going old) new) (sym w.result-is)
-          (has_selected c.args.now call (record { own = refl; prepared = λ state. refl; leaves = λ place other control. refl; peers = λ place control peer. refl }) old c.select.new.self w.in-Ok.field-0 c.requires.live home w.in-Ok.ensures.stepped core)
+          (has_selected c.args.now call (record { own = refl; prepared = λ state. refl; leaves = λ place other control. refl; peers = λ place control peer. refl; raised = λ old. refl }) old c.select.new.self w.in-Ok.field-0 c.requires.live home w.in-Ok.ensures.stepped core)
       | in-Err-Full w ↦ subst (SettlesCall core c.args.now call (going old) new) (sym w.result-is)
           (stays_full core c.args.now call old c.select.new.self (w.in-Err-Full.ensures.full (ap (λ (fault : ControlFault). Err fault) w.in-Err-Full.field-0-is)).1 c.requires.live)
       | in-Err-NoMemory w ↦ subst (SettlesCall core c.args.now call (going old) new) (sym w.result-is)

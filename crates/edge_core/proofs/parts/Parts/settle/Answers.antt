@@ -1,8 +1,8 @@
 use Rattle.std.proofs.Common.{List, map, ap, ◌∙◌}
-use Rattle.control_laws.proofs.Parts.{no_core}
-use Rattle.edge_labels.specs.declared.changes.LeafChange.{LeafChange}
-use Rattle.edge_labels.specs.Calls.{leaf_call}
-use Rattle.edge_core.proofs.StepLemmas.{changes_of, has_settled, has_stopped, told_is, wantable}
+use Rattle.edge_routing.proofs.control_laws.Parts.{no_core}
+use Rattle.edge_routing.specs.edge_labels.declared.changes.LeafChange.{LeafChange}
+use Rattle.edge_routing.specs.edge_labels.Calls.{leaf_call}
+use Rattle.edge_core.proofs.StepLemmas.{changes_of, has_rerouted, has_settled, has_stopped, told_is, wantable}
 use Rattle.edge_core.proofs.parts.Parts.settle.Goals as goal
 
 pub step-requires-clause-trees : goal.step-requires-clause-trees
@@ -31,3 +31,13 @@ returns-clause-answers c = λ call old is.
     (λ any. ap (λ (xs : List LeafChange). map leaf_call xs) c.deref-2.ensures.value
     ∙ changes_of c.args.core.now c.args.now c.args.own.now call old c.args.self.now told mid c.deref.result.now c.in_ok-changes.changes.items c.deref.ensures.value c.in_ok-changes.ensures any)
     c.in-Err.ensures
+
+pub returns-in-Ok-clause-toward : goal.returns-in-Ok-clause-toward
+returns-in-Ok-clause-toward c = λ is_own.
+    let called = c.requires.called in
+    let told = c.in_ok-candidates.field-0 in
+    let mid = told_is c.args.core.now c.args.now c.args.own.now called.call called.old c.args.self.now c.args.told told c.in_ok-candidates.was called.is in
+    has_rerouted c.args.core.now c.args.now c.args.own.now called.call called.old c.args.self.now told mid c.step.new.self c.deref-2.result.now
+    (λ any. ap (λ (xs : List LeafChange). map leaf_call xs) c.deref-2.ensures.value
+    ∙ changes_of c.args.core.now c.args.now c.args.own.now called.call called.old c.args.self.now told mid c.deref.result.now c.in_ok-changes.changes.items c.deref.ensures.value c.in_ok-changes.ensures any)
+    (c.in-Ok.ensures) is_own

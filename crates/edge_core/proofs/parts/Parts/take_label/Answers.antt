@@ -1,6 +1,6 @@
 use Rattle.std.proofs.Common.{refl}
 use Rattle.edge_defs.specs.Steps.{Label}
-use Rattle.edge_labels.specs.declared.own_call.OwnCall.TheVariants as owns
+use Rattle.edge_routing.specs.edge_labels.declared.own_call.OwnCall.TheVariants as owns
 use Rattle.edge_core.specs.Called.{going}
 use Rattle.edge_core.proofs.SessionLemmas.{label_spelled, midway, step_as}
 use Rattle.edge_core.proofs.parts.Parts.take_label.Goals as goal
@@ -11,7 +11,7 @@ settle-requires-clause-called c =
     record {
       call = Label c.args.peer c.args.message;
       old = going old;
-      is = midway c.args.core.now c.args.now (owns.Take c.args.peer c.args.message) (Label c.args.peer c.args.message) old c.step-told.new.self old.streams c.step-told.result c.requires.live c.requires.nodes refl (label_spelled c.args.message c.requires.writable) refl c.step-told.ensures.home
+      is = midway c.args.core.now c.args.now (owns.Take c.args.peer c.args.message) (Label c.args.peer c.args.message) old c.step-told.new.self old.streams c.step-told.result refl c.requires.live c.requires.nodes refl (label_spelled c.args.message c.requires.writable) refl c.step-told.ensures.home
           (step_as c.args.core.now c.args.now old.routing c.step-told.new.self (Label c.args.peer c.args.message) c.step-told.result (λ place control. refl) (λ peer octets. refl) c.step-told.ensures.stepped);
     }
 
@@ -19,5 +19,5 @@ pub returns-clause-settles : goal.returns-clause-settles
 returns-clause-settles c =
     let old = c.args.self.now in
     c.settle.ensures.answers (Label c.args.peer c.args.message) (going old)
-    (midway c.args.core.now c.args.now (owns.Take c.args.peer c.args.message) (Label c.args.peer c.args.message) old c.step-told.new.self old.streams c.step-told.result c.requires.live c.requires.nodes refl (label_spelled c.args.message c.requires.writable) refl c.step-told.ensures.home
+    (midway c.args.core.now c.args.now (owns.Take c.args.peer c.args.message) (Label c.args.peer c.args.message) old c.step-told.new.self old.streams c.step-told.result refl c.requires.live c.requires.nodes refl (label_spelled c.args.message c.requires.writable) refl c.step-told.ensures.home
     (step_as c.args.core.now c.args.now old.routing c.step-told.new.self (Label c.args.peer c.args.message) c.step-told.result (λ place control. refl) (λ peer octets. refl) c.step-told.ensures.stepped))

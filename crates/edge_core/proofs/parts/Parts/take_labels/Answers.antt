@@ -1,7 +1,7 @@
 use Rattle.std.proofs.Common.{sym, ap, subst, map, List, length, ◌∙◌}
-use Rattle.mldp_msgs.specs.declared.message.LabelMessage.{LabelMessage}
-use Rattle.session_defs.specs.Message.{Label}
-use Rattle.edge_home.specs.Home.{Home}
+use Rattle.mldp.specs.declared.mldp_msgs.message.LabelMessage.{LabelMessage}
+use Rattle.network_defs.specs.session_defs.Message.{Label}
+use Rattle.edge_routes.specs.edge_home.Home.{Home}
 use Rattle.edge_core.proofs.TakingLemmas.{AreLeft, all_left, map_none, none_left, one_less, stopped_at}
 use Rattle.edge_core.proofs.parts.Parts.take_labels.Goals as goal
 

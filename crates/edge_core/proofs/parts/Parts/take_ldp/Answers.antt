@@ -1,8 +1,8 @@
 use Rattle.scenario_defs.specs.declared.event.Kind.TheVariants as kinds
-use Rattle.session_defs.specs.Message.{Label}
-use Rattle.edge_streams.specs.Kept.{session}
+use Rattle.network_defs.specs.session_defs.Message.{Label}
+use Rattle.edge_routing.specs.edge_streams.Kept.{session}
 use Rattle.std.proofs.Common.{map, refl}
-use Rattle.edge_streams.proofs.FedLemmas.{fed_there}
+use Rattle.edge_routing.proofs.edge_streams.FedLemmas.{fed_there}
 use Rattle.edge_core.proofs.TakingLemmas.{mid_live, octets_stopped, octets_taken, up_there}
 use Rattle.edge_core.proofs.parts.Parts.take_ldp.Goals as goal
 

@@ -1,7 +1,7 @@
 use Rattle.std.proofs.Common.{sym, ap, subst, map, List, length, ◌∙◌}
-use Rattle.bgp_attributes.specs.declared.update.Message.{Message}
-use Rattle.session_defs.specs.Message.{Bgp}
-use Rattle.edge_home.specs.Home.{Home}
+use Rattle.bgp_messages.specs.declared.bgp_attributes.update.Message.{Message}
+use Rattle.network_defs.specs.session_defs.Message.{Bgp}
+use Rattle.edge_routes.specs.edge_home.Home.{Home}
 use Rattle.edge_core.proofs.TakingLemmas.{AreLeft, all_left, map_none, none_left, one_less, stopped_at}
 use Rattle.edge_core.proofs.parts.Parts.take_updates.Goals as goal
 

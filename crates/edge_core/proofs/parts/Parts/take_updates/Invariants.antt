@@ -1,5 +1,5 @@
 use Rattle.std.proofs.Common.{map}
-use Rattle.session_defs.specs.Message.{Bgp}
+use Rattle.network_defs.specs.session_defs.Message.{Bgp}
 use Rattle.edge_core.proofs.TakingLemmas.{AreLeft}
 use Rattle.edge_core.proofs.parts.Parts.take_updates.Given as goal
 

@@ -1,6 +1,6 @@
 use Rattle.std.proofs.Common.{refl}
 use Rattle.edge_defs.specs.Steps.{Idle}
-use Rattle.edge_labels.specs.declared.own_call.OwnCall.TheVariants as owns
+use Rattle.edge_routing.specs.edge_labels.declared.own_call.OwnCall.TheVariants as owns
 use Rattle.edge_core.specs.Called.{going}
 use Rattle.edge_core.proofs.SessionLemmas.{midway}
 use Rattle.edge_core.proofs.parts.Parts.unnote.Goals as goal
@@ -12,7 +12,7 @@ settle-requires-clause-called c =
     record {
       call = call;
       old = going old;
-      is = midway c.args.core.now c.args.now owns.None call old c.unnote-told.new.self old.streams c.unnote-told.result c.requires.live c.requires.nodes refl tt refl c.unnote-told.ensures.home c.unnote-told.ensures.stepped;
+      is = midway c.args.core.now c.args.now owns.None call old c.unnote-told.new.self old.streams c.unnote-told.result refl c.requires.live c.requires.nodes refl tt refl c.unnote-told.ensures.home c.unnote-told.ensures.stepped;
     }
 
 pub returns-clause-settles : goal.returns-clause-settles
@@ -20,4 +20,4 @@ returns-clause-settles c =
     let old = c.args.self.now in
     let call = Idle c.args.iface c.args.source c.args.group in
     c.settle.ensures.answers call (going old)
-    (midway c.args.core.now c.args.now owns.None call old c.unnote-told.new.self old.streams c.unnote-told.result c.requires.live c.requires.nodes refl tt refl c.unnote-told.ensures.home c.unnote-told.ensures.stepped)
+    (midway c.args.core.now c.args.now owns.None call old c.unnote-told.new.self old.streams c.unnote-told.result refl c.requires.live c.requires.nodes refl tt refl c.unnote-told.ensures.home c.unnote-told.ensures.stepped)

@@ -1,5 +1,5 @@
 use Rattle.std.proofs.Common.{◌≡◌, None, subst}
-use Rattle.core_walks.specs.Core.{Core as Walks}
+use Rattle.mv_base.specs.core_walks.Core.{Core as Walks}
 use Rattle.label_defs.specs.LabelData.{due}
 use Rattle.label_defs.specs.Node.{place_in}
 use Rattle.mldp_node.specs.NodeData.{NodeData}

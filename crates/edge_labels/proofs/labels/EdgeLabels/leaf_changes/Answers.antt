@@ -2,11 +2,11 @@ use Rattle.std.proofs.Common.{◌≡◌, ◌∙◌, List, map, ap}
 use Rattle.std.proofs.lemmas.Result.{IfOk-weaker}
 use Rattle.std.specs.FinSet as sets
 use Rattle.std.specs.FinSet.{FinSet}
-use Rattle.mldp_fec.specs.declared.fec.Fec.{Fec}
+use Rattle.mldp.specs.declared.mldp_fec.fec.Fec.{Fec}
 use Rattle.label_defs.specs.Keys.{fec_cmp}
 use Rattle.label_defs.specs.Members.{in_order}
 use Rattle.mldp_node.specs.NodeData.{NodeData}
-use Rattle.edge_defs.specs.Steps.{changed_leaves}
+use Rattle.node_laws.specs.edge_defs.Steps.{changed_leaves}
 use Rattle.edge_labels.specs.Calls.{leaf_call}
 use Rattle.edge_labels.specs.Changes.{AreCandidates, changes_in}
 use Rattle.edge_labels.specs.declared.changes.LeafChange.{LeafChange}

@@ -1,6 +1,6 @@
 use Rattle.std.proofs.Common.{refl, ◌∙◌, ◌++◌, List, ap}
 use Rattle.std.specs.List.{list_any}
-use Rattle.mldp_fec.specs.declared.fec.Fec.{Fec}
+use Rattle.mldp.specs.declared.mldp_fec.fec.Fec.{Fec}
 use Rattle.label_defs.specs.LabelData.{same_fec}
 use Rattle.edge_routing.proofs.Finish.{rest_of}
 use Rattle.edge_routing.proofs.routing.EdgeRouting.finish.Goals as goal

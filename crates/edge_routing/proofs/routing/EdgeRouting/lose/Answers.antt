@@ -2,7 +2,7 @@ use Rattle.std.proofs.Common.{refl}
 use Rattle.scenario_defs.specs.declared.event.Kind.TheVariants as kinds
 use Rattle.edge_defs.specs.Steps.{Noticed}
 use Rattle.control_laws.proofs.Parts.{no_core}
-use Rattle.edge_tables.specs.Tables.{downed}
+use Rattle.edge_control.specs.edge_tables.Tables.{downed}
 use Rattle.edge_routing.proofs.PeerCalls.{lose_made, turned_way}
 use Rattle.edge_routing.proofs.routing.EdgeRouting.lose.Goals as goal
 

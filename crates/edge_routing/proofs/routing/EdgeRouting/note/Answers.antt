@@ -1,6 +1,6 @@
 use Rattle.std.proofs.Common.{refl}
 use Rattle.edge_defs.specs.Steps.{Active}
-use Rattle.edge_home.specs.Home.{place_of}
+use Rattle.edge_routes.specs.edge_home.Home.{place_of}
 use Rattle.control_laws.specs.Control.{control_of}
 use Rattle.edge_routing.proofs.CustomerCalls.{held_at, note_way, of_kept, own_at}
 use Rattle.edge_routing.proofs.routing.EdgeRouting.note.Goals as goal

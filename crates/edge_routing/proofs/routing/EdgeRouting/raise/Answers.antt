@@ -2,7 +2,7 @@ use Rattle.std.proofs.Common.{refl}
 use Rattle.scenario_defs.specs.declared.event.Kind.TheVariants as kinds
 use Rattle.edge_defs.specs.Steps.{Raised}
 use Rattle.control_laws.proofs.Parts.{no_core}
-use Rattle.edge_tables.specs.Tables.{raised}
+use Rattle.edge_control.specs.edge_tables.Tables.{raised}
 use Rattle.edge_routing.proofs.PeerNumbers.{is_node}
 use Rattle.edge_routing.proofs.PeerCalls.{raise_made, turned_way}
 use Rattle.edge_routing.proofs.routing.EdgeRouting.raise.Goals as goal

@@ -1,7 +1,7 @@
 use Rattle.std.proofs.Common.{All, sym, subst}
-use Rattle.mvpn_nlri.specs.Spelling.{IsGroup}
-use Rattle.bgp_update.specs.Written.{afi_of}
-use Rattle.vrf_trees.specs.declared.changes.TreeJoin.{TreeJoin}
+use Rattle.bgp_values.specs.mvpn_nlri.Spelling.{IsGroup}
+use Rattle.bgp_messages.specs.bgp_update.Written.{afi_of}
+use Rattle.edge_control.specs.vrf_trees.declared.changes.TreeJoin.{TreeJoin}
 use Rattle.control_laws.specs.Control.{control_of}
 use Rattle.edge_routing.proofs.Flows.{groups_behind, held_behind, join_groups}
 use Rattle.edge_routing.proofs.routing.EdgeRouting.refresh.Goals as goal

@@ -2,8 +2,8 @@ use Rattle.std.proofs.Common.{refl, ap, subst}
 use Rattle.mv_base.specs.declared.ids.VrfId.{VrfId}
 use Rattle.edge_defs.specs.Edge.{Control}
 use Rattle.edge_defs.specs.Steps.{Select}
-use Rattle.edge_home.specs.Home.{place_of}
-use Rattle.held_laws.specs.Held.{with_selected}
+use Rattle.edge_routes.specs.edge_home.Home.{place_of}
+use Rattle.edge_words.specs.held_laws.Held.{with_selected}
 use Rattle.held_tables.specs.Holding.{HoldAll}
 use Rattle.control_laws.specs.Control.{control_of}
 use Rattle.control_laws.proofs.Parts.{no_core}

@@ -1,5 +1,5 @@
 use Rattle.std.proofs.Common.{◌∙◌}
-use Rattle.bgp_update.specs.Reading.{message_front}
+use Rattle.bgp_messages.specs.bgp_update.Reading.{message_front}
 use Rattle.edge_streams.proofs.SpelledLemmas.{bgp_holds, fault_stays, fault_told}
 use Rattle.edge_streams.proofs.bgp_stream.BgpStream.feed.Goals as goal
 

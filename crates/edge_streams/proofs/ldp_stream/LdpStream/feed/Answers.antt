@@ -1,5 +1,5 @@
 use Rattle.std.proofs.Common.{◌∙◌}
-use Rattle.mldp_msgs.specs.Reading.{pdu_front}
+use Rattle.mldp.specs.mldp_msgs.Reading.{pdu_front}
 use Rattle.edge_streams.proofs.SpelledLemmas.{ldp_holds, fault_stays, fault_told}
 use Rattle.edge_streams.proofs.ldp_stream.LdpStream.feed.Goals as goal
 

@@ -1,8 +1,8 @@
 use Rattle.std.proofs.Common.{sym, ap, subst, arith, map, List, [], ◌∷◌, All, ◌∙◌}
 use Rattle.std.proofs.lemmas.List.Elements.{All-append}
 use Rattle.scenario_defs.specs.declared.event.Kind.TheVariants as kinds
-use Rattle.session_defs.specs.Message.{SessionMessage, Bgp}
-use Rattle.bgp_attributes.specs.declared.update.Message.{Message}
+use Rattle.network_defs.specs.session_defs.Message.{SessionMessage, Bgp}
+use Rattle.bgp_messages.specs.declared.bgp_attributes.update.Message.{Message}
 use Rattle.edge_streams.specs.Kept.{session}
 use Rattle.edge_streams.specs.Spelled.{SaysWritable}
 use Rattle.edge_streams.proofs.DrainLemmas.{AreTaken, alone, fewer, map_one, none_taken, one_taken, rest_quiet, whole_taken}

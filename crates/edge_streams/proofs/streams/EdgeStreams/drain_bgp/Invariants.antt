@@ -1,7 +1,7 @@
 use Rattle.std.proofs.Common.{map, length, All}
 use Rattle.scenario_defs.specs.declared.event.Kind.TheVariants as kinds
-use Rattle.session_defs.specs.Message.{Bgp}
-use Rattle.session_defs.specs.PeerSession.{stream_at}
+use Rattle.network_defs.specs.session_defs.Message.{Bgp}
+use Rattle.network_defs.specs.session_defs.PeerSession.{stream_at}
 use Rattle.edge_streams.specs.Kept.{session}
 use Rattle.edge_streams.specs.Spelled.{SaysWritable}
 use Rattle.edge_streams.proofs.DrainLemmas.{AreTaken}

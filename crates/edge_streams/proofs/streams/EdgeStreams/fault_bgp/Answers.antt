@@ -1,10 +1,10 @@
 use Rattle.std.proofs.Common.{ℕ, Option, Some, None, sym, ap, ◌∙◌}
 use Rattle.std.specs.FinMap.{FinMap}
-use Rattle.bgp_attributes.specs.declared.fault.StreamFault.{StreamFault}
+use Rattle.bgp_messages.specs.declared.bgp_attributes.fault.StreamFault.{StreamFault}
 use Rattle.scenario_defs.specs.declared.event.Kind.TheVariants as kinds
-use Rattle.session_defs.specs.Message.{BgpFault}
-use Rattle.session_defs.specs.Octets.{Stream}
-use Rattle.session_defs.specs.PeerSession.{peer_cmp, fault_at}
+use Rattle.network_defs.specs.session_defs.Message.{BgpFault}
+use Rattle.network_defs.specs.session_defs.Octets.{Stream}
+use Rattle.network_defs.specs.session_defs.PeerSession.{peer_cmp, fault_at}
 use Rattle.edge_streams.specs.Kept.{session, fault_as}
 use Rattle.edge_streams.specs.Streams.{told_fault}
 use Rattle.edge_streams.proofs.Calls.{bgp_fault}

@@ -1,10 +1,10 @@
 use Rattle.std.proofs.Common.{ℕ, Option, Some, None, sym, ap, ◌∙◌}
 use Rattle.std.specs.FinMap.{FinMap}
-use Rattle.mldp_msgs.specs.declared.fault.LdpFault.{LdpFault}
+use Rattle.mldp.specs.declared.mldp_msgs.fault.LdpFault.{LdpFault}
 use Rattle.scenario_defs.specs.declared.event.Kind.TheVariants as kinds
-use Rattle.session_defs.specs.Message.{LabelFault}
-use Rattle.session_defs.specs.Octets.{Stream}
-use Rattle.session_defs.specs.PeerSession.{peer_cmp, fault_at}
+use Rattle.network_defs.specs.session_defs.Message.{LabelFault}
+use Rattle.network_defs.specs.session_defs.Octets.{Stream}
+use Rattle.network_defs.specs.session_defs.PeerSession.{peer_cmp, fault_at}
 use Rattle.edge_streams.specs.Kept.{session, fault_as}
 use Rattle.edge_streams.specs.Streams.{told_fault}
 use Rattle.edge_streams.proofs.Calls.{ldp_fault}

@@ -2,8 +2,8 @@ use Rattle.std.proofs.Common.{None, ap, ◌∙◌}
 use Rattle.std.specs.FinMap as maps
 use Rattle.std.specs.FinMap.{FinMap}
 use Rattle.scenario_defs.specs.declared.event.Kind.TheVariants as kinds
-use Rattle.session_defs.specs.Octets.{Stream}
-use Rattle.session_defs.specs.PeerSession.{peer_cmp}
+use Rattle.network_defs.specs.session_defs.Octets.{Stream}
+use Rattle.network_defs.specs.session_defs.PeerSession.{peer_cmp}
 use Rattle.edge_streams.specs.Kept.{session, streams_of}
 use Rattle.edge_streams.proofs.SessionMaps.{removed, bgp_sets}
 use Rattle.edge_streams.proofs.streams.EdgeStreams.lose_bgp.Goals as goal

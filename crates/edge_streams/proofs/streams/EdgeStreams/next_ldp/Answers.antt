@@ -2,9 +2,9 @@ use Rattle.std.proofs.Common.{option_map, subst}
 use Rattle.std.specs.FinMap.{FinMap}
 use Rattle.std.proofs.lemmas.Option.{IfSome_then}
 use Rattle.scenario_defs.specs.declared.event.Kind.TheVariants as kinds
-use Rattle.session_defs.specs.Message.{Label}
-use Rattle.session_defs.specs.Octets.{Stream}
-use Rattle.session_defs.specs.PeerSession.{peer_cmp}
+use Rattle.network_defs.specs.session_defs.Message.{Label}
+use Rattle.network_defs.specs.session_defs.Octets.{Stream}
+use Rattle.network_defs.specs.session_defs.PeerSession.{peer_cmp}
 use Rattle.edge_streams.specs.Kept.{session, streams_of}
 use Rattle.edge_streams.specs.Streams.{TakesFirst}
 use Rattle.edge_streams.proofs.Writable.{label_message_writable}

@@ -1,12 +1,12 @@
 use Rattle.std.proofs.Common.{Some, ap, ◌∙◌}
 use Rattle.std.specs.FinMap as maps
 use Rattle.std.specs.FinMap.{FinMap}
-use Rattle.framing.specs.Feed.{Fed, unfed}
-use Rattle.bgp_attributes.specs.declared.update.Message.{Message}
-use Rattle.bgp_attributes.specs.declared.fault.StreamFault.{StreamFault}
+use Rattle.mv_base.specs.framing.Feed.{Fed, unfed}
+use Rattle.bgp_messages.specs.declared.bgp_attributes.update.Message.{Message}
+use Rattle.bgp_messages.specs.declared.bgp_attributes.fault.StreamFault.{StreamFault}
 use Rattle.scenario_defs.specs.declared.event.Kind.TheVariants as kinds
-use Rattle.session_defs.specs.Octets.{Stream}
-use Rattle.session_defs.specs.PeerSession.{peer_cmp}
+use Rattle.network_defs.specs.session_defs.Octets.{Stream}
+use Rattle.network_defs.specs.session_defs.PeerSession.{peer_cmp}
 use Rattle.edge_streams.specs.Kept.{session, bgp_stream, streams_of}
 use Rattle.edge_streams.proofs.SessionMaps.{inserted, bgp_sets}
 use Rattle.edge_streams.proofs.streams.EdgeStreams.raise_bgp.Goals as goal

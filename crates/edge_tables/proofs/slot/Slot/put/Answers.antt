@@ -1,5 +1,5 @@
 use Rattle.std.proofs.lemmas.Result.{on_err_weaker}
-use Rattle.rib_sync.specs.Ribs.{rib_out}
+use Rattle.edge_tables.specs.rib_sync.Ribs.{rib_out}
 use Rattle.edge_defs.specs.Keys.{key_cmp}
 use Rattle.edge_tables.proofs.PutLemmas.{put_part}
 use Rattle.edge_tables.proofs.slot.Slot.put.Goals as goal

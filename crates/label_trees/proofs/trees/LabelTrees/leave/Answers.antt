@@ -1,5 +1,5 @@
 use Rattle.std.proofs.Common.{ap, ◌∙◌}
-use Rattle.label_uses.specs.Uses.{use_in}
+use Rattle.label_trees.specs.label_uses.Uses.{use_in}
 use Rattle.label_trees.specs.Trees.{Trees}
 use Rattle.label_trees.proofs.MapLemmas.{withdrawn}
 use Rattle.label_trees.proofs.trees.LabelTrees.leave.Goals as goal

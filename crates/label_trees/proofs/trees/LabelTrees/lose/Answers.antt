@@ -3,11 +3,11 @@ use Rattle.std.specs.List.{list_any}
 use Rattle.std.specs.FinMap as maps
 use Rattle.std.specs.FinMap.{FinMap}
 use Rattle.std.specs.FinSet as sets
-use Rattle.mldp_fec.specs.declared.fec.Fec.{Fec}
+use Rattle.mldp.specs.declared.mldp_fec.fec.Fec.{Fec}
 use Rattle.label_defs.specs.LabelData.{same_fec}
 use Rattle.label_forwarding.specs.Hops.{hop_cmp}
 use Rattle.label_forwarding.specs.FibData.{FibData, hop}
-use Rattle.label_uses.specs.Uses.{Uses, use_in, without}
+use Rattle.label_trees.specs.label_uses.Uses.{Uses, use_in, without}
 use Rattle.label_trees.specs.Loss.{branches_without, is_lost, notes_without}
 use Rattle.label_trees.specs.Trees.{Trees, fec_under}
 use Rattle.label_trees.proofs.LossLemmas.{branches_left, lost_notes}

@@ -2,7 +2,7 @@ use Rattle.std.proofs.Common.{◌∙◌, sym, ap}
 use Rattle.std.specs.FinMap as maps
 use Rattle.label_forwarding.specs.Hops.{hop_cmp}
 use Rattle.label_forwarding.specs.FibData.{FibData, hop}
-use Rattle.label_uses.specs.Uses.{Uses, use_in}
+use Rattle.label_trees.specs.label_uses.Uses.{Uses, use_in}
 use Rattle.label_trees.specs.Trees.{fec_under}
 use Rattle.label_trees.proofs.MapLemmas.{none_noted}
 use Rattle.label_trees.proofs.trees.LabelTrees.of.Goals as goal

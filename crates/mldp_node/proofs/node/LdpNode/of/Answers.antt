@@ -2,7 +2,7 @@ use Rattle.std.proofs.Common.{None, ap, sym, subst, ◌∙◌}
 use Rattle.std.specs.FinMap as maps
 use Rattle.label_defs.specs.Node.{NodePlace}
 use Rattle.label_trees.specs.Trees.{Trees, untouched}
-use Rattle.label_ends.specs.Ends.{Ends}
+use Rattle.mldp_node.specs.label_ends.Ends.{Ends}
 use Rattle.mldp_node.specs.NodeData.{seen}
 use Rattle.mldp_node.specs.Parts.{AreTied, WaitOnTrees}
 use Rattle.mldp_node.proofs.NodeLemmas.{fresh_tied, fresh_part, none_waits}

@@ -1,6 +1,7 @@
-use Rattle.network_acts.specs.Instant.{Any}
-use Rattle.network_acts.proofs.CopyActs.{some_idle}
+use Rattle.std.proofs.Common.{◌≡◌, ℕ, ◌+◌, length, subst}
+use Rattle.network_defs.specs.World.{Datagram, World}
+use Rattle.network_acts.proofs.CopyActs.{accepts}
 use Rattle.network_acts.proofs.network.Network.accept.Goals as goal
 
-pub accept-requires-clause-idle : goal.accept-requires-clause-idle
-accept-requires-clause-idle c = some_idle Any _ c.args.self.now c.self.view_is c.requires.network
+pub returns-clause-accepted : goal.returns-clause-accepted
+returns-clause-accepted c = accepts _ c.args.self.now c.self.view_is c.accept.new.self c.accept.ensures.accepted

@@ -1,10 +1,15 @@
-use Rattle.std.proofs.lemmas.Option.{IfSome_then}
+use Rattle.std.proofs.Common.{◌≡◌, ◌<◌, ◌∙◌, ap, length, subst, sym, true, false}
+use Rattle.network_defs.specs.Nodes.{is_edge}
 use Rattle.network_acts.specs.Instant.{standing_of}
+use Rattle.network_acts.specs.NetworkView.{NetworkView}
 use Rattle.network_acts.proofs.PlaneActs.{own_is}
 use Rattle.network_acts.proofs.network.Network.core_node.Goals as goal
 
-pub returns-clause-is : goal.returns-clause-is
-returns-clause-is c = IfSome_then c.core_node.result c.core_node.ensures.is (λ labels there at is. there (standing_of at) (own_is _ c.args.self.now c.self.view_is at is).plane)
+pub unreachable-requires : goal.unreachable-requires
+unreachable-requires c =
+    let within = subst (λ (network : NetworkView). c.args.n.0 < length network.scenario.nodes) (sym c.self.view_is) c.requires.within in
+    let edge = c.core_node.ensures.none c.in-None.is c.self.inside.scenario c.self.invariant within in
+    (let t : true ≡ false = sym edge ∙ (ap (λ (network : NetworkView). is_edge network.scenario c.args.n) c.self.view_is ∙ c.requires.core) in cc)
 
-pub returns-clause-none : goal.returns-clause-none
-returns-clause-none c = λ none at is. c.core_node.ensures.none none (standing_of at) (own_is _ c.args.self.now c.self.view_is at is).plane
+pub returns : goal.returns
+returns c = λ at is. c.in-Some.ensures.is (standing_of at) (own_is _ c.args.self.now c.self.view_is at is).plane

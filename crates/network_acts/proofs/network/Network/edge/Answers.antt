@@ -1,10 +1,14 @@
-use Rattle.std.proofs.lemmas.Option.{IfSome_then}
+use Rattle.std.proofs.Common.{◌≡◌, ◌∙◌, ap, sym, true, false}
+use Rattle.network_defs.specs.Nodes.{is_edge}
 use Rattle.network_acts.specs.Instant.{standing_of}
+use Rattle.network_acts.specs.NetworkView.{NetworkView}
 use Rattle.network_acts.proofs.PlaneActs.{own_is}
 use Rattle.network_acts.proofs.network.Network.edge.Goals as goal
 
-pub returns-clause-is : goal.returns-clause-is
-returns-clause-is c = IfSome_then c.edge.result c.edge.ensures.is (λ edge there at is. there (standing_of at) (own_is _ c.args.self.now c.self.view_is at is).plane)
+pub unreachable-requires : goal.unreachable-requires
+unreachable-requires c =
+    let none = c.edge.ensures.none c.in-None.is c.self.inside.scenario c.self.invariant in
+    (let t : true ≡ false = sym c.requires.edge ∙ (ap (λ (network : NetworkView). is_edge network.scenario c.args.n) (sym c.self.view_is) ∙ none) in cc)
 
-pub returns-clause-none : goal.returns-clause-none
-returns-clause-none c = λ none at is. c.edge.ensures.none none (standing_of at) (own_is _ c.args.self.now c.self.view_is at is).plane
+pub returns : goal.returns
+returns c = λ at is. c.in-Some.ensures.is (standing_of at) (own_is _ c.args.self.now c.self.view_is at is).plane

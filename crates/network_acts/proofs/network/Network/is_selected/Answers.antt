@@ -1,4 +1,4 @@
-use Rattle.control_plane.specs.Customers.{IsVrfEdge}
+use Rattle.network_acts.specs.control_plane.Customers.{IsVrfEdge}
 use Rattle.network_acts.specs.Instant.{standing_of}
 use Rattle.network_acts.proofs.PlaneActs.{own_is, some_plane}
 use Rattle.network_acts.proofs.network.Network.is_selected.Goals as goal

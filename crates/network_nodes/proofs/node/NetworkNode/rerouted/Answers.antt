@@ -1,11 +1,12 @@
-use Rattle.std.proofs.Common.{refl, sym, subst, Result}
+use Rattle.std.proofs.Common.{refl, sym, subst, OnOk, Result}
+use Rattle.mldp_node.specs.NodeData.{WaitsTowardRootsOf}
 use Rattle.edge_core.specs.declared.fault.EdgeFault.{EdgeFault}
 use Rattle.label_defs.specs.Steps as labels
 use Rattle.edge_defs.specs.Steps.{Rerouted}
 use Rattle.network_nodes.specs.Answers.{Answers, after}
 use Rattle.network_nodes.specs.declared.node.NetworkNode.{NetworkNode}
 use Rattle.network_nodes.specs.declared.node.NetworkNode.TheVariants as nodes
-use Rattle.network_nodes.proofs.AnswerLemmas.{core_call, edge_call}
+use Rattle.network_nodes.proofs.AnswerLemmas.{core_call, edge_call, told_ok}
 use Rattle.network_nodes.proofs.node.NetworkNode.rerouted.Goals as goal
 
 pub returns-in-Edge-clause-answers : goal.returns-in-Edge-clause-answers
@@ -19,3 +20,11 @@ returns-in-CoreNode-clause-answers c =
     (subst (λ (r : Result (Unit {0}) EdgeFault). Answers c.args.core.now c.args.now (after Rerouted) (nodes.CoreNode c.in-CoreNode.core_node) (nodes.CoreNode c.rerouted-in-CoreNode.new.self) r)
     (sym c.told.ensures)
     (core_call c.args.core.now c.args.now Rerouted labels.Rerouted c.in-CoreNode.core_node c.rerouted-in-CoreNode.new.self c.rerouted-in-CoreNode.result refl c.rerouted-in-CoreNode.ensures.answers))
+
+pub returns-in-Edge-clause-toward : goal.returns-in-Edge-clause-toward
+returns-in-Edge-clause-toward c = c.rerouted.ensures.toward
+
+pub returns-in-CoreNode-clause-toward : goal.returns-in-CoreNode-clause-toward
+returns-in-CoreNode-clause-toward c =
+    subst (λ (r : Result (Unit {0}) EdgeFault). OnOk r (WaitsTowardRootsOf c.args.core.now c.rerouted-in-CoreNode.new.self.labels)) (sym c.told.ensures)
+    (told_ok (WaitsTowardRootsOf c.args.core.now c.rerouted-in-CoreNode.new.self.labels) c.rerouted-in-CoreNode.result c.rerouted-in-CoreNode.ensures.toward)

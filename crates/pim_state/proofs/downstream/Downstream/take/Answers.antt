@@ -1,7 +1,6 @@
-use Rattle.std.proofs.Common.{rules, ◌≡◌, ◌≤◌, length, arith, ap, sym, ◌∙◌}
+use Rattle.std.proofs.Common.{rules, ◌≡◌, ◌≤◌, length, arith, ap}
 use Rattle.std.specs.FinMap.{from_entries, len}
 use Rattle.pim_defs.specs.Entries.{Entries, entry_cmp}
-use Rattle.pim_state.specs.Changes.{changed_by}
 use Rattle.pim_state.proofs.MapLemmas.{either, length-map}
 use Rattle.pim_state.proofs.downstream.Downstream.take.Goals as goal
 

@@ -1,5 +1,5 @@
 use Rattle.std.proofs.Common.{[], subst, sym}
-use Rattle.edge_home.specs.Home.{Home}
+use Rattle.edge_routes.specs.edge_home.Home.{Home}
 use Rattle.session_rows.specs.Roles.{IsEdgeInCore}
 use Rattle.session_rows.proofs.two_edges.EdgeInCore.unselect.Goals as goal
 

@@ -1,6 +1,6 @@
 use Rattle.std.proofs.Common.{subst, sym}
 use Rattle.umh_select.specs.Routes.{AreOfCore}
-use Rattle.tree_defs.specs.Flows.{VrfData}
+use Rattle.vrf_words.specs.tree_defs.Flows.{VrfData}
 use Rattle.vrf_flows.proofs.flows.VrfFlows.accepts.Goals as goal
 
 pub accepts-requires-clause-peers : goal.accepts-requires-clause-peers

@@ -2,8 +2,8 @@ use Rattle.std.proofs.Common.{◌≡◌, IfOk, subst, sym}
 use Rattle.std.specs.FinMap as maps
 use Rattle.indexmap.specs.IndexMap.{get}
 use Rattle.umh_select.specs.Routes.{AreOfCore}
-use Rattle.tree_defs.specs.Keys.{same_flow}
-use Rattle.tree_defs.specs.Flows.{VrfData, flow_of, gained, lost, upstream_of}
+use Rattle.vrf_words.specs.tree_defs.Keys.{same_flow}
+use Rattle.vrf_words.specs.tree_defs.Flows.{VrfData, flow_of, gained, lost, upstream_of}
 use Rattle.vrf_flows.proofs.flows.VrfFlows.refresh.Goals as goal
 
 pub refresh-requires-clause-peers : goal.refresh-requires-clause-peers

@@ -1,9 +1,9 @@
 use Rattle.std.proofs.Common.{rules, ◌≡◌, ◌++◌, true, List, [], ◌∷◌, sym, subst, ◌∙◌}
 use Rattle.std.specs.FinSet as sets
 use Rattle.indexmap.specs.IndexMap.{get}
-use Rattle.tree_defs.specs.declared.flow.SiteIface.{SiteIface}
-use Rattle.tree_defs.specs.Keys.{same_flow}
-use Rattle.tree_defs.specs.Flows.{chosen_for}
+use Rattle.vrf_words.specs.declared.tree_defs.flow.SiteIface.{SiteIface}
+use Rattle.vrf_words.specs.tree_defs.Keys.{same_flow}
+use Rattle.vrf_words.specs.tree_defs.Flows.{chosen_for}
 use Rattle.vrf_flows.specs.Sight.{flow_at, is_needed}
 use Rattle.vrf_flows.specs.State.{Keeps, vrf_of}
 use Rattle.vrf_flows.proofs.TreeLemmas.{absent-none, iface-needed, keeps-change, keeps-grown, kept-change, kept-grown}

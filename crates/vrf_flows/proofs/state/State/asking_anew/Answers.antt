@@ -1,6 +1,6 @@
 use Rattle.std.proofs.Common.{◌≡◌, IfOk, List, subst, ◌∙◌}
-use Rattle.tree_defs.specs.declared.flow.SiteIface.{SiteIface}
-use Rattle.tree_defs.specs.Flows.{asking}
+use Rattle.vrf_words.specs.declared.tree_defs.flow.SiteIface.{SiteIface}
+use Rattle.vrf_words.specs.tree_defs.Flows.{asking}
 use Rattle.vrf_flows.specs.Sight.{asking_of, is_sent}
 use Rattle.vrf_flows.specs.State.{vrf_of}
 use Rattle.vrf_flows.proofs.StateLemmas.{asking-same}

@@ -1,9 +1,9 @@
 use Rattle.std.proofs.Common.{rules, ◌≡◌, min, length, ℕ, List, sym, ap, ◌∙◌}
 use Rattle.std.specs.List.{IsDistinct}
 use Rattle.std.specs.FinSet as sets
-use Rattle.tree_defs.specs.Keys.{note_cmp}
-use Rattle.tree_defs.specs.declared.flow.Note.{Note}
-use Rattle.tree_defs.proofs.KeyLemmas.{note_exact, note_ties, note_total, same_note}
+use Rattle.vrf_words.specs.tree_defs.Keys.{note_cmp}
+use Rattle.vrf_words.specs.declared.tree_defs.flow.Note.{Note}
+use Rattle.vrf_words.proofs.tree_defs.KeyLemmas.{note_exact, note_ties, note_total, same_note}
 use Rattle.vrf_flows.proofs.SetLemmas.{len-listed}
 use Rattle.vrf_flows.proofs.state.State.count_notes.Goals as goal
 

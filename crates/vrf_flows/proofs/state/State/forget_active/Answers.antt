@@ -1,11 +1,11 @@
 use Rattle.std.proofs.Common.{◌≡◌, ◌||◌, Bool, false, cond, sym, ap, ◌∙◌}
 use Rattle.std.specs.FinSet as sets
 use Rattle.indexmap.specs.IndexMap.{get}
-use Rattle.tree_defs.specs.declared.flow.Flow.{Flow}
-use Rattle.tree_defs.specs.Keys.{same_flow}
-use Rattle.tree_defs.specs.Flows.{chosen_for}
-use Rattle.tree_defs.specs.declared.flow.ActiveRoute.{ActiveRoute}
-use Rattle.tree_defs.proofs.KeyLemmas.{active_exact, active_ties, active_total, same_active}
+use Rattle.vrf_words.specs.declared.tree_defs.flow.Flow.{Flow}
+use Rattle.vrf_words.specs.tree_defs.Keys.{same_flow}
+use Rattle.vrf_words.specs.tree_defs.Flows.{chosen_for}
+use Rattle.vrf_words.specs.declared.tree_defs.flow.ActiveRoute.{ActiveRoute}
+use Rattle.vrf_words.proofs.tree_defs.KeyLemmas.{active_exact, active_ties, active_total, same_active}
 use Rattle.vrf_flows.specs.Sight.{flow_at, is_needed, is_sent}
 use Rattle.vrf_flows.specs.State.{is_announced_in, is_noted_in}
 use Rattle.vrf_flows.proofs.TreeLemmas.{absent-none, keeps-change, kept-change, sent-same, unsent-needed}

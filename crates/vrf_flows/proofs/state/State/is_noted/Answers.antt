@@ -1,7 +1,7 @@
 use Rattle.std.proofs.Common.{sym, ◌∙◌}
-use Rattle.tree_defs.specs.Keys.{same_flow}
-use Rattle.tree_defs.specs.declared.flow.Note.{Note}
-use Rattle.tree_defs.proofs.KeyLemmas.{note_exact, note_ties, note_total, same_note}
+use Rattle.vrf_words.specs.tree_defs.Keys.{same_flow}
+use Rattle.vrf_words.specs.declared.tree_defs.flow.Note.{Note}
+use Rattle.vrf_words.proofs.tree_defs.KeyLemmas.{note_exact, note_ties, note_total, same_note}
 use Rattle.vrf_flows.specs.State.{is_noted_in}
 use Rattle.vrf_flows.proofs.SetLemmas.{any-items}
 use Rattle.vrf_flows.proofs.state.State.is_noted.Goals as goal

@@ -1,5 +1,5 @@
 use Rattle.std.proofs.Common.{sym, ◌∙◌}
-use Rattle.tree_defs.proofs.KeyLemmas.{note_exact, note_ties, note_total, same_note}
+use Rattle.vrf_words.proofs.tree_defs.KeyLemmas.{note_exact, note_ties, note_total, same_note}
 use Rattle.vrf_flows.proofs.SetLemmas.{listed}
 use Rattle.vrf_flows.proofs.state.State.noted.Goals as goal
 

@@ -1,8 +1,8 @@
 use Rattle.std.proofs.Common.{rules, ◌||◌, sym, ap, ◌∙◌}
 use Rattle.indexmap.specs.IndexMap.{get}
 use Rattle.umh_select.specs.Routes.{Routes}
-use Rattle.tree_defs.specs.Keys.{same_flow}
-use Rattle.tree_defs.specs.Flows.{chosen_for}
+use Rattle.vrf_words.specs.tree_defs.Keys.{same_flow}
+use Rattle.vrf_words.specs.tree_defs.Flows.{chosen_for}
 use Rattle.vrf_flows.specs.Sight.{is_sent}
 use Rattle.vrf_flows.specs.State.{is_announced_in, is_noted_in}
 use Rattle.vrf_flows.proofs.TreeLemmas.{keeps-of}

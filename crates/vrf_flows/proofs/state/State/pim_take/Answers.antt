@@ -3,8 +3,8 @@ use Rattle.std.specs.List.{list_any}
 use Rattle.std.specs.FinSet as sets
 use Rattle.indexmap.specs.IndexMap.{get}
 use Rattle.pim_defs.specs.Entries.{Entries, applied}
-use Rattle.tree_defs.specs.Keys.{same_flow}
-use Rattle.tree_defs.specs.Flows.{chosen_for}
+use Rattle.vrf_words.specs.tree_defs.Keys.{same_flow}
+use Rattle.vrf_words.specs.tree_defs.Flows.{chosen_for}
 use Rattle.vrf_flows.specs.Held.{names_in}
 use Rattle.vrf_flows.specs.Sight.{flow_at, is_needed}
 use Rattle.vrf_flows.specs.State.{Keeps, vrf_of}

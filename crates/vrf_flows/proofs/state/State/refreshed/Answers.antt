@@ -3,9 +3,9 @@ use Rattle.std.specs.List.{list_any}
 use Rattle.indexmap.specs.IndexMap.{get}
 use Rattle.mv_base.specs.declared.ids.NodeId.{NodeId}
 use Rattle.umh_select.specs.Routes.{AreCosts}
-use Rattle.tree_defs.specs.declared.flow.Flow.{Flow}
-use Rattle.tree_defs.specs.Keys.{same_flow}
-use Rattle.tree_defs.specs.Flows.{chosen_for, gained, lost, upstream_of}
+use Rattle.vrf_words.specs.declared.tree_defs.flow.Flow.{Flow}
+use Rattle.vrf_words.specs.tree_defs.Keys.{same_flow}
+use Rattle.vrf_words.specs.tree_defs.Flows.{chosen_for, gained, lost, upstream_of}
 use Rattle.vrf_flows.specs.Held.{kept_of, lapsed, marked}
 use Rattle.vrf_flows.specs.Plan.{choice_in, planned, settled}
 use Rattle.vrf_flows.specs.Sight.{flow_at, is_needed}

@@ -4,8 +4,8 @@ use Rattle.std.specs.FinSet as sets
 use Rattle.indexmap.specs.IndexMap.{get}
 use Rattle.mv_base.specs.Prefix.{covers}
 use Rattle.umh_select.specs.Routes.{Routes, held_of, key_from}
-use Rattle.tree_defs.specs.Keys.{same_flow}
-use Rattle.tree_defs.specs.Flows.{chosen_for}
+use Rattle.vrf_words.specs.tree_defs.Keys.{same_flow}
+use Rattle.vrf_words.specs.tree_defs.Flows.{chosen_for}
 use Rattle.vrf_flows.specs.Sight.{flow_at, is_needed}
 use Rattle.vrf_flows.specs.State.{IsSound}
 use Rattle.vrf_flows.proofs.CoverLemmas.{learned-apart}

@@ -1,5 +1,5 @@
 use Rattle.std.proofs.Common.{ap, sym, ◌∙◌}
-use Rattle.tree_defs.specs.Flows.{upstream_of}
+use Rattle.vrf_words.specs.tree_defs.Flows.{upstream_of}
 use Rattle.vrf_flows.proofs.StateLemmas.{flows-got}
 use Rattle.vrf_flows.proofs.state.State.upstream.Goals as goal
 

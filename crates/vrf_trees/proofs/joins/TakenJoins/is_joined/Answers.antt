@@ -1,7 +1,7 @@
 use Rattle.std.proofs.Common.{ap, sym, ◌∙◌}
 use Rattle.std.specs.FinSet.{FinSet}
-use Rattle.tree_defs.specs.Trees.{join_cmp}
-use Rattle.tree_defs.proofs.KeyLemmas.{join_exact, join_ties, join_total, same_join}
+use Rattle.vrf_words.specs.tree_defs.Trees.{join_cmp}
+use Rattle.vrf_words.proofs.tree_defs.KeyLemmas.{join_exact, join_ties, join_total, same_join}
 use Rattle.vrf_flows.proofs.SetLemmas.{any-items}
 use Rattle.vrf_trees.specs.Joined.{is_for, is_joined}
 use Rattle.vrf_trees.proofs.joins.TakenJoins.is_joined.Goals as goal

@@ -2,10 +2,10 @@ use Rattle.std.proofs.Common.{◌≡◌, ◌||◌, Bool, true, false, cond, List
 use Rattle.std.specs.List.{list_any}
 use Rattle.std.specs.FinSet as sets
 use Rattle.std.specs.FinSet.{FinSet}
-use Rattle.tree_defs.specs.declared.flow.Flow.{Flow}
-use Rattle.tree_defs.specs.Keys.{same_flow}
-use Rattle.tree_defs.specs.Trees.{join_cmp}
-use Rattle.tree_defs.proofs.KeyLemmas.{join_exact, join_ties, join_total, same_join}
+use Rattle.vrf_words.specs.declared.tree_defs.flow.Flow.{Flow}
+use Rattle.vrf_words.specs.tree_defs.Keys.{same_flow}
+use Rattle.vrf_words.specs.tree_defs.Trees.{join_cmp}
+use Rattle.vrf_words.proofs.tree_defs.KeyLemmas.{join_exact, join_ties, join_total, same_join}
 use Rattle.vrf_flows.proofs.SetLemmas.{any-inserted, inserted}
 use Rattle.vrf_trees.specs.Joined.{is_for}
 use Rattle.vrf_trees.proofs.joins.TakenJoins.take.Goals as goal

@@ -1,6 +1,6 @@
 use Rattle.std.proofs.Common.{subst, sym}
 use Rattle.umh_select.specs.Routes.{AreOfCore}
-use Rattle.tree_defs.specs.Trees.{TreeData}
+use Rattle.vrf_words.specs.tree_defs.Trees.{TreeData}
 use Rattle.vrf_trees.proofs.tree.VrfTree.accepts.Goals as goal
 
 pub accepts-requires-clause-peers : goal.accepts-requires-clause-peers

@@ -1,7 +1,7 @@
 use Rattle.std.proofs.Common.{ap, sym, ◌∙◌}
 use Rattle.std.specs.FinSet as sets
 use Rattle.label_defs.proofs.KeyLemmas.{fec_cmp_exact, fec_cmp_total}
-use Rattle.tree_defs.specs.Trees.{TreeData}
+use Rattle.vrf_words.specs.tree_defs.Trees.{TreeData}
 use Rattle.vrf_flows.proofs.SetLemmas.{listed}
 use Rattle.vrf_trees.specs.Wants.{is_fec, tunnels_in}
 use Rattle.vrf_trees.proofs.TableLemmas.{fec_ties}

@@ -1,8 +1,8 @@
 use Rattle.std.proofs.Common.{rules, ap, subst, sym}
 use Rattle.std.specs.FinMap as maps
 use Rattle.umh_select.specs.Routes.{AreOfCore}
-use Rattle.tree_defs.specs.Flows.{VrfData, flow_of, gained, lost, upstream_of}
-use Rattle.tree_defs.specs.Trees.{TreeData}
+use Rattle.vrf_words.specs.tree_defs.Flows.{VrfData, flow_of, gained, lost, upstream_of}
+use Rattle.vrf_words.specs.tree_defs.Trees.{TreeData}
 use Rattle.vrf_trees.specs.Changes.{AreJoins}
 use Rattle.vrf_trees.proofs.RefreshLemmas.{none-sound}
 use Rattle.vrf_trees.proofs.tree.VrfTree.refresh.Goals as goal

@@ -1,5 +1,0 @@
-use Rattle.control_plane.proofs.QueryLemmas.{ends_at}
-use Rattle.control_plane.proofs.plane.ControlPlane.unready.Goals as goal
-
-pub is_session_ready-requires : goal.is_session_ready-requires
-is_session_ready-requires c = record { plane = ends_at c.args.sessions.now c.loop-session.session-index _ c.args.self.now c.loop-session-test.true c.requires.plane }

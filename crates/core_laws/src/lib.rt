@@ -1,6 +1,0 @@
-//! There are least costs and next hops in each scenario: a law over definitions.
-#![tactic(auto)]
-
-mod laws;
-
-pub use laws::each_scenario_has_cores;

@@ -1,0 +1,2 @@
+pub mod link_copies
+pub mod datagram_acts

@@ -1,0 +1,10 @@
+-- What giving back leaves of the buffers.
+use Rattle.std.specs.Prelude.{◌≡◌, ℕ, List, Some}
+pub use Rattle.buf_pool.specs.Held.{AreHeld}
+use Rattle.buf_pool.specs.Held.{Buffers}
+use Rattle.data_plane.specs.link_copies.CopiesData.{octets_in}
+
+-- Buffers were given back: what lives behind lived before, with the same octets.
+pub record Fades (old new : Buffers) : Type 0 where
+  pub octets : (name : ℕ) (behind : List ℕ) → octets_in new name ≡ Some behind → octets_in old name ≡ Some behind
+  pub held : AreHeld old → AreHeld new

@@ -1,6 +1,0 @@
-pub mod Along
-pub mod Numbers
-pub mod Stores
-pub mod Counts
-pub mod Told
-pub mod Pooled

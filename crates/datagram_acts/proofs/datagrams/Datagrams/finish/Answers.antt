@@ -1,9 +1,0 @@
-use Rattle.std.proofs.Common.{sym, subst}
-use Rattle.datagram_acts.specs.Stored.{Handles}
-use Rattle.datagram_acts.proofs.Stores.{finished_idle}
-use Rattle.datagram_acts.proofs.datagrams.Datagrams.finish.Goals as goal
-
-pub returns : goal.returns
-returns c = λ world number datagram own.
-    finished_idle world c.self.inside.copies c.finish.new.self c.self.inside.count number datagram (subst (Handles world number datagram) (sym c.self.view_is) own)
-    c.finish.ensures.current c.finish.ensures.ways c.finish.ensures.octets c.buffers_count_copies.ensures

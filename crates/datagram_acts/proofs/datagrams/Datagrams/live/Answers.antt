@@ -1,9 +1,0 @@
-use Rattle.std.proofs.Common.{sym, subst, ◌∙◌}
-use Rattle.datagram_acts.specs.Stored.{IsIdle}
-use Rattle.datagram_acts.proofs.Counts.{as_many_datagrams}
-use Rattle.datagram_acts.proofs.datagrams.Datagrams.live.Goals as goal
-
-pub returns : goal.returns
-returns c = λ world idle linked.
-    let own = subst (IsIdle world) (sym c.self.view_is) idle in
-    c.live.ensures ∙ as_many_datagrams world c.self.inside.copies own.stores linked c.buffers_count_copies.ensures own.none

@@ -1,6 +1,0 @@
-use Rattle.std.proofs.Common.{◌≡◌, ◌++◌, map, take}
-use Rattle.scenario_defs.specs.declared.report.ReportLine.TheVariants as told
-use Rattle.datagram_acts.proofs.leaving.leave_at.Given as goal
-
-abbrev pub invariant-loop-iface : goal.invariant-loop-iface
-invariant-loop-iface l = l.lines ≡ l.fn.lines ++ map (λ iface. told.Out l.fn.number iface l.fn.octets) (take l.iface-index l.fn.ifaces)

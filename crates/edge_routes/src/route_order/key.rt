@@ -1,0 +1,228 @@
+//! The keys of routes, in order.
+ghost use Rattle.std.specs.Prelude.{◌≡◌, ◌≤◌, [], refl, take};
+ghost use Rattle.std.specs.Ordering.{as_partial_cmp, eq_by_cmp, nat_cmp};
+ghost use Rattle.std.specs.Cmp.{eq_by_cmp_equiv, partial_equiv_from_equiv, partial_order_from_total};
+ghost use Rattle.std.specs.Cmp.Lexicographic.{slice_cmp};
+ghost use Rattle.bgp_values.specs.mvpn_nlri.Spelling as routes;
+ghost use Rattle.mv_base.specs.Address.{addr_octets};
+ghost use Rattle.edge_defs.specs.bgp_messages.bgp_attributes.Spelling.{octets_for};
+ghost use Rattle.edge_defs.specs.bgp_messages.declared.bgp_attributes.key.Key.TheVariants.{Mcast, Unicast};
+ghost use Rattle.edge_defs.specs.selective_defs.Parts.{addr_key};
+ghost use Rattle.edge_defs.specs.bgp_messages.bgp_update.Written.{IsVpn, IsVpnPrefix, IsWritableKey, vpn_text};
+ghost use Rattle.edge_defs.specs.bgp_messages.bgp_update.Written.{afi_of};
+ghost use Rattle.edge_defs.specs.Keys.{afi_number, key_cmp};
+ghost use Rattle.edge_defs.proofs.KeyLemmas.{key_total};
+ghost use Rattle.bgp_values.specs.declared.mvpn_nlri.route.Afi.{Afi};
+
+use bgp_values::mvpn_nlri::{Afi, Route};
+use edge_defs::of_bgp_messages::bgp_attributes::Key;
+use mv_base::{Addr, Prefix, Rd};
+use std::cmp::Ordering;
+use std::marker::Model;
+
+/// A key that has a spelling, in the order in which a table keeps its routes: unicast keys before multicast keys, in each kind
+/// those of AFI 1 before those of AFI 2, and then by the octets that spell them, the label of a unicast route aside.
+#[derive(Clone, Copy)]
+pub struct TableKey {
+    key: Key,
+}
+
+impl Model for TableKey {
+    ghost use Rattle.edge_defs.specs.bgp_messages.declared.bgp_attributes.key.Key.{Key};
+
+    ghost Value = { Key };
+
+    ghost use Rattle.edge_defs.specs.bgp_messages.bgp_update.Written.{IsWritableKey};
+
+    ghost view = { λ k. k.key };
+
+    ghost invariant = { λ k. IsWritableKey k.key };
+
+    ghost inverse = { λ key. record { key = key } };
+}
+
+impl TableKey {
+    /// The key, which has a spelling.
+    pub fn of(key: Key) -> TableKey
+        requires { IsWritableKey key }
+        ensures { result ≡ key }
+    {
+        TableKey { key }
+    }
+
+    /// The key.
+    pub fn key(&self) -> &Key
+        ensures key { result.now ≡ self.now }
+        ensures writable { IsWritableKey self.now }
+    {
+        &self.key
+    }
+}
+
+/// The AFI of the addresses that a prefix is of, as a number.
+fn prefix_number(prefix: &Prefix) -> u8
+    ensures { result ≡ afi_number (afi_of prefix.now.addr) }
+{
+    match prefix.addr {
+        Addr::V4(_) => 1,
+        Addr::V6(_) => 2,
+    }
+}
+
+fn number(afi: Afi) -> u8
+    ensures { result ≡ afi_number afi }
+{
+    match afi {
+        Afi::Ipv4 => 1,
+        Afi::Ipv6 => 2,
+    }
+}
+
+/// The order of addresses: those of IPv4 first, and then by their octets.
+fn compare_addrs(own: Addr, other: Addr) -> Ordering
+    ensures { result ≡ slice_cmp nat_cmp (addr_key own) (addr_key other) }
+{
+    match (own, other) {
+        (Addr::V4(octets), Addr::V4(others)) => octets.as_slice().cmp(others.as_slice()),
+        (Addr::V6(octets), Addr::V6(others)) => octets.as_slice().cmp(others.as_slice()),
+        (Addr::V4(_), Addr::V6(_)) => Ordering::Less,
+        (Addr::V6(_), Addr::V4(_)) => Ordering::Greater,
+    }
+}
+
+/// The order of route distinguishers: that of their octets.
+fn compare_distinguishers(own: &Rd, other: &Rd) -> Ordering
+    ensures { result ≡ slice_cmp nat_cmp own.now.0 other.now.0 }
+{
+    own.0.as_slice().cmp(other.0.as_slice())
+}
+
+/// The octets of the prefix that are spelled.
+fn prefix_octets(prefix: &Prefix) -> &[u8]
+    requires { IsVpnPrefix prefix.now.addr prefix.now.bits }
+    ensures { result.now ≡ take (octets_for prefix.now.bits) (addr_octets prefix.now.addr) }
+{
+    let count = (prefix.bits as usize + 7) / 8;
+    let octets = prefix.addr.octets();
+    &octets[..count]
+}
+
+/// The order of the octets that spell unicast routes, the label aside.
+fn compare_vpn(rd: &Rd, prefix: &Prefix, other_rd: &Rd, other: &Prefix) -> Ordering
+    requires own { IsVpn rd.now prefix.now }
+    requires other { IsVpn other_rd.now other.now }
+    ensures { result ≡ slice_cmp nat_cmp (vpn_text [] rd.now prefix.now) (vpn_text [] other_rd.now other.now) }
+{
+    let octets = prefix_octets(prefix);
+    let others = prefix_octets(other);
+    prefix
+        .bits
+        .cmp(&other.bits)
+        .then(compare_distinguishers(rd, other_rd))
+        .then(octets.cmp(others))
+}
+
+/// The order of unicast keys.
+fn compare_unicast(rd: &Rd, prefix: &Prefix, other_rd: &Rd, other: &Prefix) -> Ordering
+    requires own { IsVpn rd.now prefix.now }
+    requires other { IsVpn other_rd.now other.now }
+    ensures { result ≡ key_cmp (Unicast rd.now prefix.now) (Unicast other_rd.now other.now) }
+{
+    let family = prefix_number(prefix).cmp(&prefix_number(other));
+    let text = compare_vpn(rd, prefix, other_rd, other);
+    family
+        .then(text)
+        .then(compare_addrs(prefix.addr, other.addr))
+}
+
+/// The octets that spell a route, in front, and how many they are.
+fn spelled(route: &Route) -> ([u8; 257], usize)
+    requires { (afi : Afi) × routes.Spells afi route.now (routes.written route.now) }
+    ensures octets { take result.1 result.0 ≡ routes.written route.now }
+    ensures within { result.1 ≤ 257 }
+{
+    let mut octets = [0; 257];
+    let len = bgp_values::mvpn_nlri::encode(route, &mut octets);
+    (octets, len)
+}
+
+/// The order of the octets that spell two routes.
+fn compare_routes(own: &Route, other: &Route) -> Ordering
+    requires own { (afi : Afi) × routes.Spells afi own.now (routes.written own.now) }
+    requires other { (afi : Afi) × routes.Spells afi other.now (routes.written other.now) }
+    ensures { result ≡ slice_cmp nat_cmp (routes.written own.now) (routes.written other.now) }
+{
+    let (octets, len) = spelled(own);
+    let (others, other_len) = spelled(other);
+    octets[..len].cmp(&others[..other_len])
+}
+
+/// The order of multicast keys.
+fn compare_mcast(afi: Afi, own: &Route, other_afi: Afi, other: &Route) -> Ordering
+    requires own { routes.Spells afi own.now (routes.written own.now) }
+    requires other { routes.Spells other_afi other.now (routes.written other.now) }
+    ensures { result ≡ key_cmp (Mcast afi own.now) (Mcast other_afi other.now) }
+{
+    let family = number(afi).cmp(&number(other_afi));
+    family.then(compare_routes(own, other))
+}
+
+/// The order of keys that have spellings.
+fn compare_keys(own: &Key, other: &Key) -> Ordering
+    requires own { IsWritableKey own.now }
+    requires other { IsWritableKey other.now }
+    ensures { result ≡ key_cmp own.now other.now }
+{
+    match (own, other) {
+        (
+            Key::Unicast { rd, prefix },
+            Key::Unicast {
+                rd: other_rd,
+                prefix: next,
+            },
+        ) => compare_unicast(rd, prefix, other_rd, next),
+        (Key::Mcast(afi, route), Key::Mcast(other_afi, next)) => {
+            compare_mcast(*afi, route, *other_afi, next)
+        }
+        (Key::Unicast { rd: _, prefix: _ }, Key::Mcast(_, _)) => Ordering::Less,
+        (Key::Mcast(_, _), Key::Unicast { rd: _, prefix: _ }) => Ordering::Greater,
+    }
+}
+
+impl PartialEq for TableKey {
+    ghost eq = { eq_by_cmp key_cmp };
+
+    ghost laws = { partial_equiv_from_equiv (eq_by_cmp_equiv key_total) };
+
+    fn eq(&self, other: &TableKey) -> bool {
+        self.cmp(other).is_eq()
+    }
+}
+
+impl Eq for TableKey {
+    ghost laws = { eq_by_cmp_equiv key_total };
+}
+
+impl PartialOrd for TableKey {
+    ghost partial_cmp = { as_partial_cmp key_cmp };
+
+    ghost laws = { partial_order_from_total key_total };
+
+    fn partial_cmp(&self, other: &TableKey) -> Option<Ordering> {
+        Some(self.cmp(other))
+    }
+}
+
+impl Ord for TableKey {
+    ghost cmp = { key_cmp };
+
+    ghost total = { key_total };
+
+    ghost matches_partial_cmp = { λ x y. refl };
+
+    ghost matches_eq = { λ x y. refl };
+
+    fn cmp(&self, other: &TableKey) -> Ordering {
+        compare_keys(&self.key, &other.key)
+    }
+}

@@ -1,0 +1,115 @@
+-- Looking through the table of a tunnel's root says whether a VRF imports an inclusive route of the tunnel.
+use Rattle.std.proofs.Common.{◌≡◌, ◌↔◌, ℕ, ◌+◌, ◌<◌, ◌||◌, Bool, true, false, List, [], ◌∷◌, map, take, get_or, length, Option, Some, None, refl, sym, ap, subst, ◌∙◌}
+use Rattle.std.specs.List.{list_any}
+use Rattle.std.specs.FinMap as maps
+use Rattle.std.proofs.lemmas.List.Folds.{list_any_at, list_any_more}
+use Rattle.mv_base.specs.Number.{◌>>?◌, only_if}
+use Rattle.mv_base.specs.declared.addr.Addr.{Addr}
+use Rattle.mv_base.specs.declared.ids.NodeId.{NodeId}
+use Rattle.mldp.specs.declared.mldp_fec.fec.Fec.{Fec}
+use Rattle.mv_base.specs.core_walks.Core.{Core}
+use Rattle.bgp_messages.specs.declared.bgp_attributes.key.Key.{Key}
+use Rattle.label_defs.proofs.KeyLemmas.{same_fec_equal, same_fec_from}
+use Rattle.edge_defs.specs.Datagrams.{is_tunnel}
+use Rattle.edge_defs.specs.Edge.{Control, TakenRoute}
+use Rattle.edge_defs.specs.Imported.{imported_inclusive, inclusive_of, is_admitted, taken_from, tunnel_by}
+use Rattle.edge_defs.specs.Place.{EdgePlace, OwnVrf, addr_of, node_with, own_vrfs}
+use Rattle.edge_defs.proofs.KeyLemmas.{key_exact, key_total}
+use Rattle.edge_routes.specs.edge_home.Home.{AreOwn, as_own, place_of}
+use Rattle.edge_routes.specs.declared.edge_home.own_vrf.OwnVrf as home_vrfs
+use Rattle.edge_words.proofs.calm_laws.Lists.{any_among, any_from}
+use Rattle.edge_words.proofs.calm_laws.Maps.{entry_get, get_entry}
+use Rattle.edge_words.proofs.calm_laws.Upstreams.{chained}
+use Rattle.edge_words.specs.Leaf.{IsInclusive}
+use Rattle.edge_words.proofs.Known.{one_node}
+use Rattle.vrf_words.specs.tree_laws.Imports.{imports_inclusive}
+use Rattle.vrf_words.proofs.tree_laws.Leaving.{root_by}
+use Rattle.control_laws.specs.Control.{Kept, control_of}
+use Rattle.edge_control.specs.Sound.{IsSound}
+use Rattle.edge_routing.proofs.edge_datagrams.CoreLemmas.{taken_node}
+use Rattle.edge_routing.proofs.edge_datagrams.LeavingLemmas.{no_root, root_is}
+
+-- ---- tunnels
+
+tunnel_is : (fec : Fec) (o : Option Fec) → is_tunnel fec o ≡ true → o ≡ Some fec
+tunnel_is fec None h = absurd cc
+tunnel_is fec (Some own) h = ap (λ (f : Fec). Some f) (same_fec_equal own fec h)
+
+is_it : (fec : Fec) (o : Option Fec) → o ≡ Some fec → is_tunnel fec o ≡ true
+is_it fec o h = ap (is_tunnel fec) h ∙ same_fec_from fec fec refl
+
+-- an inclusive route is one of the peer that is the tunnel's root
+inclusive_root : (own : OwnVrf) (addr : Addr) (key : Key) (route : TakenRoute) (fec : Fec) → imported_inclusive own.vrf addr (key, route) ≡ Some fec → fec.root ≡ addr
+inclusive_root own addr key route fec h =
+    let first = chained (inclusive_of key) (λ originator. only_if (is_admitted own.vrf route.value.comms) route.value >>? λ value. tunnel_by addr originator value) fec h in
+    let second = chained (only_if (is_admitted own.vrf route.value.comms) route.value) (λ value. tunnel_by addr first.0 value) fec first.2 in
+    root_by addr first.0 second.0 fec second.2
+
+-- ---- one VRF after another
+
+pub any_at : {X : Type 0} (p : X → Bool) (xs : List X) (n : ℕ) (x : X) (result : Bool) → n < length xs → x ≡ get_or xs n x → result ≡ p x → result ≡ true → true ≡ list_any p xs
+any_at p xs n x result within is e h = sym (list_any_at p xs n x within (ap p (sym is) ∙ sym e ∙ h))
+
+pub none_more : {X : Type 0} (p : X → Bool) (xs : List X) (n : ℕ) (x : X) (result : Bool) → n < length xs → x ≡ get_or xs n x → list_any p (take n xs) ≡ false → result ≡ p x → result ≡ false
+    → list_any p (take (n + 1) xs) ≡ false
+none_more p xs n x result within is before e h = list_any_more p xs n x within ∙ (λ i. before i || (ap p (sym is) ∙ sym e ∙ h) i)
+
+-- ---- all VRFs
+
+-- the VRFs of the edge, as it has them
+any_own : (p : OwnVrf → Bool) (vrfs : List home_vrfs.OwnVrf) → list_any (λ own. p (as_own own)) vrfs ≡ list_any p (map as_own vrfs)
+any_own p [] = refl
+any_own p (own ∷ vrfs) = ap (λ (b : Bool). p (as_own own) || b) (any_own p vrfs)
+
+module _ (kept : Kept) (sound : IsSound kept) (core : Core) (fec : Fec) where
+  abbrev place : EdgePlace
+  place = place_of kept.home core
+
+  abbrev control : Control
+  control = control_of kept
+
+  pub no_inclusive : node_with kept.home.scenario fec.root ≡ None → IsInclusive place control fec → ⊥
+  no_inclusive none is =
+      no_root kept.home.scenario fec.root none is.peer (taken_node kept sound is.peer is.key is.route is.taken) (sym (inclusive_root is.own (addr_of kept.home.scenario is.peer) is.key is.route fec is.imported))
+
+  module _ (root : NodeId) (rooted : node_with kept.home.scenario fec.root ≡ Some root) where
+    abbrev imports_one : OwnVrf → Bool
+    imports_one own = imports_inclusive place control own root fec
+
+    abbrev test : OwnVrf → Key × TakenRoute → Bool
+    test own entry = is_tunnel fec (imported_inclusive own.vrf (addr_of kept.home.scenario root) entry)
+
+    one_root : (peer : NodeId) → peer.0 < length kept.home.scenario.nodes → fec.root ≡ addr_of kept.home.scenario peer → peer ≡ root
+    one_root peer within of_peer =
+        let at = root_is kept.home.scenario fec.root root rooted in
+        one_node kept.home.scenario sound.home.rules peer root within at.0 (sym of_peer ∙ sym at.1)
+
+    inclusive_from : list_any imports_one (own_vrfs place) ≡ true → IsInclusive place control fec
+    inclusive_from h =
+        let own = any_among imports_one (own_vrfs place) h in
+        let entry = any_among (test own.0) (maps.entries (taken_from control root)) own.2 in
+        record {
+          own = own.0;
+          of_edge = own.1;
+          peer = root;
+          key = entry.0.0;
+          route = entry.0.1;
+          taken = entry_get key_total (taken_from control root) entry.0.0 entry.0.1 entry.1;
+          imported = tunnel_is fec (imported_inclusive own.0.vrf (addr_of kept.home.scenario root) entry.0) entry.2;
+        }
+
+    inclusive_to : IsInclusive place control fec → list_any imports_one (own_vrfs place) ≡ true
+    inclusive_to is =
+        let within = taken_node kept sound is.peer is.key is.route is.taken in
+        let same : is.peer ≡ root = one_root is.peer within (inclusive_root is.own (addr_of kept.home.scenario is.peer) is.key is.route fec is.imported) in
+        let taken : maps.get (taken_from control root) is.key ≡ Some is.route = subst (λ (n : NodeId). maps.get (taken_from control n) is.key ≡ Some is.route) same is.taken in
+        let imported : imported_inclusive is.own.vrf (addr_of kept.home.scenario root) (is.key, is.route) ≡ Some fec =
+        subst (λ (n : NodeId). imported_inclusive is.own.vrf (addr_of kept.home.scenario n) (is.key, is.route) ≡ Some fec) same is.imported in
+        any_from imports_one is.own (own_vrfs place) is.of_edge
+        (any_from (test is.own) (is.key, is.route) (maps.entries (taken_from control root)) (get_entry key_exact (taken_from control root) is.key is.route taken)
+        (is_it fec (imported_inclusive is.own.vrf (addr_of kept.home.scenario root) (is.key, is.route)) imported))
+
+    pub inclusive_is : (result : Bool) (vrfs : List home_vrfs.OwnVrf) → AreOwn kept.home vrfs → result ≡ list_any (λ own. imports_one (as_own own)) vrfs → (result ≡ true) ↔ IsInclusive place control fec
+    inclusive_is result vrfs are e =
+        let told : result ≡ list_any imports_one (own_vrfs place) = e ∙ any_own imports_one vrfs ∙ ap (list_any imports_one) (are.vrfs core) in
+        (λ h. inclusive_from (sym told ∙ h), λ is. told ∙ inclusive_to is)

@@ -1,0 +1,12 @@
+use Rattle.std.proofs.Common.{◌≡◌, Bool}
+use Rattle.std.specs.List.{list_any}
+use Rattle.bgp_messages.specs.declared.bgp_attributes.key.Key.{Key}
+use Rattle.edge_defs.specs.Datagrams.{is_tunnel}
+use Rattle.edge_defs.specs.Edge.{TakenRoute}
+use Rattle.edge_defs.specs.Imported.{imported_inclusive}
+use Rattle.edge_routes.specs.edge_home.Home.{as_own}
+use Rattle.edge_routing.proofs.edge_leaves.inclusive.has_route.Given as goal
+
+abbrev pub invariant-loop-key : goal.invariant-loop-key
+invariant-loop-key l =
+    let test : Key × TakenRoute → Bool = λ entry. is_tunnel l.fec (imported_inclusive (as_own l.own).vrf l.addr entry) in list_any test l.key-iterator ≡ list_any test l.initial.key-iterator

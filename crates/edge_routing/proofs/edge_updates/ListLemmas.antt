@@ -1,0 +1,62 @@
+-- What is found in lists one behind another, and what VRFs of an edge are told.
+use Rattle.std.proofs.Common.{◌≡◌, ℕ, ◌+◌, ◌<◌, List, [], ◌∷◌, ◌++◌, length, get_or, map, take, Option, None, Some, refl, sym, ap, ◌∙◌}
+use Rattle.std.proofs.lemmas.List.{map-append, take_more}
+use Rattle.mv_base.specs.declared.addr.Addr.{Addr}
+use Rattle.mv_base.specs.declared.ids.NodeId.{NodeId}
+use Rattle.mldp.specs.declared.mldp_fec.fec.Fec.{Fec}
+use Rattle.bgp_messages.specs.declared.bgp_attributes.key.Key.{Key}
+use Rattle.bgp_messages.specs.declared.bgp_attributes.update.Change.TheVariants as updates
+use Rattle.bgp_messages.specs.bgp_update.Table.{unannounced}
+use Rattle.edge_defs.specs.Imported.{found_in, imported_inclusive}
+use Rattle.edge_defs.specs.Keys.{Value}
+use Rattle.edge_defs.specs.Place.{OwnVrf, addr_of}
+use Rattle.edge_routes.specs.edge_home.Home.{AreOwn, Home, as_own}
+use Rattle.edge_routes.specs.declared.edge_home.own_vrf.OwnVrf as homes
+use Rattle.control_laws.proofs.Parts.{no_core}
+use Rattle.edge_routing.specs.edge_updates.Told.{listed, route_of, told_by, told_to}
+
+abbrev found_or : {B : Type 0} → Option B → List B → List B
+found_or o rest = elim o [ None ↦ rest | Some found ↦ found ∷ rest ]
+
+-- what is found in one list behind another
+found_append : {A B : Type 0} (f : A → Option B) (xs ys : List A) → found_in f (xs ++ ys) ≡ found_in f xs ++ found_in f ys
+found_append f [] ys = refl
+found_append f (x ∷ xs) ys = ap (found_or (f x)) (found_append f xs ys) ∙ by (f x) (found_in f xs)
+  where
+    by : (o : Option _) (rest : List _) → found_or o (rest ++ found_in f ys) ≡ found_or o rest ++ found_in f ys
+    by None rest = refl
+    by (Some y) rest = refl
+
+found_one : {A : Type 0} (f : A → Option Fec) (x : A) → found_in f (x ∷ []) ≡ listed (f x)
+found_one f x = by (f x)
+  where
+    by : (o : Option Fec) → found_or o [] ≡ listed o
+    by None = refl
+    by (Some fec) = refl
+
+found_map : {A B C : Type 0} (f : B → Option C) (g : A → B) (xs : List A) → found_in (λ x. f (g x)) xs ≡ found_in f (map g xs)
+found_map f g [] = refl
+found_map f g (x ∷ xs) = ap (found_or (f (g x))) (found_map f g xs)
+
+-- one more of the VRFs
+pub told_more : (peer : Addr) (key : Key) (value : Value) (vrfs : List homes.OwnVrf) (n : ℕ) (own : homes.OwnVrf) → n < length vrfs → own ≡ get_or vrfs n own
+    → told_to peer key value (take (n + 1) vrfs) ≡ told_to peer key value (take n vrfs) ++ listed (imported_inclusive own.local.vrf peer (key, route_of value))
+told_more peer key value vrfs n own lt is =
+    let find : homes.OwnVrf → Option Fec = λ own. imported_inclusive own.local.vrf peer (key, route_of value) in
+    ap (found_in find) (take_more vrfs n own lt) ∙ found_append find (take n vrfs) (get_or vrfs n own ∷ [])
+    ∙ ap (λ (x : homes.OwnVrf). found_in find (take n vrfs) ++ found_in find (x ∷ [])) (sym is)
+    ∙ ap (λ xs. found_in find (take n vrfs) ++ xs) (found_one find own)
+
+-- all VRFs of the edge
+pub told_all : (home : Home) (peer : NodeId) (key : Key) (value : Value) (vrfs : List homes.OwnVrf) → AreOwn home vrfs
+    → told_to (addr_of home.scenario peer) key value vrfs ≡ told_by home peer key value
+told_all home peer key value vrfs are =
+    let find : OwnVrf → Option Fec = λ own. imported_inclusive own.vrf (addr_of home.scenario peer) (key, route_of value) in
+    found_map find as_own vrfs ∙ ap (found_in find) (are.vrfs no_core)
+
+-- one more of the keys
+pub unannounced_more : (keys : List Key) (n : ℕ) (key : Key) → n < length keys → key ≡ get_or keys n key
+    → unannounced (take n keys) ++ (updates.Unreach key ∷ []) ≡ unannounced (take (n + 1) keys)
+unannounced_more keys n key lt is =
+    ap (λ (k : Key). unannounced (take n keys) ++ (updates.Unreach k ∷ [])) is
+    ∙ sym (ap unannounced (take_more keys n key lt) ∙ map-append (λ (k : Key). updates.Unreach k) (take n keys) (get_or keys n key ∷ []))

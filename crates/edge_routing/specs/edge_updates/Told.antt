@@ -1,0 +1,41 @@
+-- The tunnels that VRFs of an edge import by routes of a peer.
+use Rattle.std.specs.Prelude.{false, List, [], ◌∷◌, Option, None, Some}
+use Rattle.std.specs.List.{flat_map}
+use Rattle.mv_base.specs.declared.addr.Addr.{Addr}
+use Rattle.mv_base.specs.declared.ids.NodeId.{NodeId}
+use Rattle.mldp.specs.declared.mldp_fec.fec.Fec.{Fec}
+use Rattle.bgp_messages.specs.declared.bgp_attributes.key.Key.{Key}
+use Rattle.edge_defs.specs.Edge.{TakenRoute}
+use Rattle.edge_defs.specs.Imported.{found_in, imported_inclusive}
+use Rattle.edge_defs.specs.Keys.{Value}
+use Rattle.edge_defs.specs.Place.{OwnVrf, addr_of}
+use Rattle.edge_routes.specs.edge_home.Home.{Home}
+use Rattle.edge_routes.specs.declared.edge_home.own_vrf.OwnVrf as homes
+use Rattle.edge_control.specs.Places.{vrfs_of}
+
+-- the list of it, where there is one
+abbrev pub listed : Option Fec → List Fec
+listed None = []
+listed (Some fec) = fec ∷ []
+
+-- a route of that value
+abbrev pub route_of : Value → TakenRoute
+route_of value = record { value = value; since = 0; run = false }
+
+-- the tunnel of the route of that key and value, for each of the VRFs that import it from the peer of that address
+abbrev pub told_to : Addr → Key → Value → List homes.OwnVrf → List Fec
+told_to peer key value vrfs = found_in (λ (own : homes.OwnVrf). imported_inclusive own.local.vrf peer (key, route_of value)) vrfs
+
+-- and for each VRF of the edge
+abbrev pub told_by : Home → NodeId → Key → Value → List Fec
+told_by home peer key value =
+    found_in (λ (own : OwnVrf). imported_inclusive own.vrf (addr_of home.scenario peer) (key, route_of value)) (vrfs_of home)
+
+-- where a route stands at the key
+abbrev pub told_at : Home → NodeId → Key → Option TakenRoute → List Fec
+told_at home peer key None = []
+told_at home peer key (Some taken) = told_by home peer key taken.value
+
+-- by all of these routes
+abbrev pub told_by_all : Home → NodeId → List (Key × TakenRoute) → List Fec
+told_by_all home peer entries = flat_map (λ (entry : Key × TakenRoute). told_by home peer entry.0 entry.1.value) entries

@@ -1,0 +1,157 @@
+//! UPDATE messages of a peer, change by change.
+ghost use Rattle.std.specs.Prelude.{◌≡◌, ℕ, [], ◌∷◌, ◌++◌, IfOk, OnOk};
+ghost use Rattle.std.specs.List.{AllByRecursion};
+ghost use Rattle.mv_base.specs.core_walks.Core.{Core};
+ghost use Rattle.bgp_messages.specs.declared.bgp_attributes.update.Change.TheVariants.{Reach, Unreach};
+ghost use Rattle.bgp_messages.specs.bgp_update.Table.{announced, unannounced};
+ghost use Rattle.bgp_messages.specs.bgp_update.Written.{IsWritableAdvert, IsWritableKey};
+ghost use Rattle.edge_streams.specs.Spelled.{SaysWritable};
+ghost use Rattle.edge_defs.specs.Steps as steps;
+ghost use Rattle.edge_routes.specs.edge_home.Home.{place_of};
+ghost use Rattle.control_laws.specs.Control.{control_of};
+ghost use Rattle.edge_control.specs.Sound.{wants_of};
+ghost use Rattle.edge_routing.specs.edge_updates.Inclusive.{AreTunnels};
+ghost use Rattle.edge_routing.specs.edge_updates.Changed.{AreTaken};
+
+use crate::edge_updates::inclusive::append_at;
+use bgp_messages::bgp_attributes::{Advert, Key, Message, Update};
+use edge_control::EdgeControl;
+use edge_control::of_edge_tables::taken_tables::RouteValue;
+use edge_routes::route_order::TableKey;
+use mldp::mldp_fec::Fec;
+use mv_base::{NoMemory, NodeId};
+use std::alloc::Global;
+
+/// The peer withdraws the route of the key. The tunnels that may go are appended.
+fn withdraw(
+    control: &mut EdgeControl,
+    fecs: &mut Vec<Fec>,
+    peer: NodeId,
+    key: &Key,
+) -> Result<(), NoMemory>
+    requires { IsWritableKey key.now }
+    ensures taken { (now : ℕ) → OnOk result (
+        AreTaken now peer (Unreach key.now ∷ []) control.old control.new fecs.old.items fecs.new.items) }
+    ensures home { control.new.home ≡ control.old.home }
+    ensures wants { wants_of control.new.trees ≡ wants_of control.old.trees }
+{
+    let key = TableKey::of(*key);
+    append_at(fecs, control, peer, &key)?;
+    control.withdraw(peer, &key);
+    Ok(())
+}
+
+/// The peer announces the route. The tunnels that may come or go are appended.
+fn announce(
+    control: &mut EdgeControl,
+    fecs: &mut Vec<Fec>,
+    peer: NodeId,
+    advert: Advert,
+    now: u64,
+) -> Result<(), NoMemory>
+    requires { IsWritableKey advert.key }
+    ensures taken { OnOk result (AreTaken now peer (Reach advert ∷ []) control.old control.new fecs.old.items fecs.new.items) }
+    ensures home { control.new.home ≡ control.old.home }
+    ensures wants { wants_of control.new.trees ≡ wants_of control.old.trees }
+{
+    let Advert {
+        key,
+        next_hop,
+        comms,
+        pmsi,
+    } = advert;
+    let key = TableKey::of(key);
+    append_at(fecs, control, peer, &key)?;
+    let value = RouteValue {
+        next_hop,
+        comms,
+        pmsi,
+    };
+    control.announce(peer, &key, value, now)?;
+    append_at(fecs, control, peer, &key)
+}
+
+/// The peer withdraws the routes of the keys, one after another.
+fn withdraw_all(
+    control: &mut EdgeControl,
+    fecs: &mut Vec<Fec>,
+    peer: NodeId,
+    keys: &[Key],
+) -> Result<(), NoMemory>
+    requires { AllByRecursion IsWritableKey keys.now }
+    ensures taken { (now : ℕ) → OnOk result (
+        AreTaken now peer (unannounced keys.now) control.old control.new fecs.old.items fecs.new.items) }
+    ensures home { control.new.home ≡ control.old.home }
+    ensures wants { wants_of control.new.trees ≡ wants_of control.old.trees }
+{
+    for key in keys {
+        withdraw(control, fecs, peer, key)?;
+    }
+    Ok(())
+}
+
+/// The peer announces the routes, one after another.
+fn announce_all(
+    control: &mut EdgeControl,
+    fecs: &mut Vec<Fec>,
+    peer: NodeId,
+    adverts: Vec<Advert>,
+    now: u64,
+) -> Result<(), NoMemory>
+    requires { AllByRecursion IsWritableAdvert adverts.items }
+    ensures taken { OnOk result (
+        AreTaken now peer (announced adverts.items) control.old control.new fecs.old.items fecs.new.items) }
+    ensures home { control.new.home ≡ control.old.home }
+    ensures wants { wants_of control.new.trees ≡ wants_of control.old.trees }
+{
+    for advert in adverts {
+        announce(control, fecs, peer, advert, now)?;
+    }
+    Ok(())
+}
+
+/// The peer withdraws what the message withdraws, and then announces what it announces.
+fn take_parts(
+    control: &mut EdgeControl,
+    alloc: Global,
+    peer: NodeId,
+    update: Update,
+    now: u64,
+) -> Result<Vec<Fec>, NoMemory>
+    requires reach { AllByRecursion IsWritableAdvert update.reach }
+    requires unreach { AllByRecursion IsWritableKey update.unreach }
+    ensures taken { IfOk result (λ fecs.
+        AreTaken now peer (unannounced update.unreach ++ announced update.reach) control.old control.new [] fecs.items) }
+    ensures home { control.new.home ≡ control.old.home }
+    ensures wants { wants_of control.new.trees ≡ wants_of control.old.trees }
+{
+    let Update { reach, unreach } = update;
+    let mut fecs = Vec::new(alloc);
+    withdraw_all(control, &mut fecs, peer, unreach.as_slice())?;
+    announce_all(control, &mut fecs, peer, reach.into_vec(), now)?;
+    Ok(fecs)
+}
+
+/// Takes an UPDATE message of the peer: its withdrawals first, and then its advertisements (RFC 4271 section 4.3). A peer whose session
+/// is down changes nothing. It answers the inclusive tunnels that may come or go by it, in no order; one may stand more than once. Where
+/// memory runs out, some first ones of the changes are made, and the route of the next one may be withdrawn.
+pub fn take_update(
+    control: &mut EdgeControl,
+    alloc: Global,
+    peer: NodeId,
+    message: Message,
+    now: u64,
+) -> Result<Vec<Fec>, NoMemory>
+    requires writable { SaysWritable message }
+    ensures taken { (core : Core) → OnOk result (
+        control_of control.new ≡ steps.effect (place_of control.old.home core) now (control_of control.old) (steps.Update peer message)) }
+    ensures home { control.new.home ≡ control.old.home }
+    ensures wants { wants_of control.new.trees ≡ wants_of control.old.trees }
+    ensures tunnels { (core : Core) → IfOk result (λ fecs.
+        AreTunnels (place_of control.old.home core) (control_of control.old) (control_of control.new) fecs.items) }
+{
+    match message {
+        Message::Other(_) => Ok(Vec::new(alloc)),
+        Message::Update(update) => take_parts(control, alloc, peer, update, now),
+    }
+}

@@ -1,0 +1,38 @@
+-- The delays of selective routes, by the VRFs of the edge and the addresses of the nodes.
+use Rattle.std.specs.Prelude.{◌≡◌, ℕ, ◌+◌, ◌&&◌, ◌||◌, Bool, true, nat_le, List, map, is_some, slice_get, None, Some}
+use Rattle.std.specs.List.{list_any}
+use Rattle.std.specs.FinMap as maps
+use Rattle.mv_base.specs.declared.addr.Addr.{Addr}
+use Rattle.mv_base.specs.declared.ids.NodeId.{NodeId}
+use Rattle.bgp_messages.specs.declared.bgp_attributes.key.Key.{Key}
+use Rattle.scenario_defs.specs.declared.scenario.Node.{Node}
+use Rattle.edge_defs.specs.Edge.{Taken, TakenRoute}
+use Rattle.edge_defs.specs.Imported.{imported_selective}
+use Rattle.edge_defs.specs.Place.{EdgePlace, own_vrfs}
+use Rattle.edge_routes.specs.Local.{Local}
+use Rattle.edge_tables.specs.taken_tables.Tables.{Tables}
+
+-- whether one of the VRFs imports the selective route from the peer of that address
+abbrev pub imports : List Local → Addr → Key × TakenRoute → Bool
+imports vrfs peer entry = list_any (λ own. is_some (imported_selective own.vrf peer entry)) vrfs
+
+-- the route once its delay is run, where one of the VRFs imports it and the delay is over
+abbrev pub run_at : List Local → ℕ → ℕ → Addr → Key → TakenRoute → TakenRoute
+run_at vrfs delay now peer key route =
+    record route { run = route.run || (imports vrfs peer (key, route) && nat_le (route.since + delay) now) }
+
+abbrev pub table_run : List Local → ℕ → ℕ → Addr → Taken → Taken
+table_run vrfs delay now peer taken =
+    maps.from_entries (map (λ (entry : Key × TakenRoute). (entry.0, run_at vrfs delay now peer entry.0 entry.1)) (maps.entries taken))
+
+-- the same of the table of a node
+abbrev pub node_run : List Local → List Node → ℕ → ℕ → NodeId → Taken → Taken
+node_run vrfs nodes delay now peer taken =
+    elim (slice_get nodes peer.0) [ None ↦ taken | Some node ↦ table_run vrfs delay now node.addr taken ]
+
+-- These are the VRFs of the edge, the nodes of its network and its delay; and each peer is one of the nodes.
+pub record IsOf (place : EdgePlace) (vrfs : List Local) (nodes : List Node) (delay : ℕ) (tables : Tables) : Type 0 where
+  pub own : map (λ (own : Local). own.vrf) vrfs ≡ map (λ own. own.vrf) (own_vrfs place)
+  pub network : nodes ≡ place.scenario.nodes
+  pub wait : delay ≡ place.scenario.delay
+  pub peers : (peer : NodeId) → maps.contains_key tables peer ≡ true → is_some (slice_get nodes peer.0) ≡ true

@@ -1,0 +1,175 @@
+//! What an outbox keeps: the table set, and beside it where the table told differs.
+ghost use Rattle.std.specs.Prelude.{◌≡◌, None, Some, [], true, false, OnOk, OnErr, IfOk, if◌then◌else◌};
+ghost use Rattle.std.specs.Ordering.{eq_by_cmp};
+ghost use Rattle.std.specs.Option.{option_map};
+ghost use Rattle.std.specs.BTreeMap.{get, IsOrdered};
+ghost use Rattle.edge_tables.specs.rib_sync.Kept.{set_at, told_at, IsWell, as_news};
+
+use mv_base::NoMemory;
+use std::alloc::Global;
+use std::collections::BTreeMap;
+use std::mem;
+
+/// A value that was set, and the one that was told before, if any.
+#[derive(Clone, Copy)]
+pub(crate) struct News<V> {
+    pub(crate) value: V,
+    pub(crate) told: Option<V>,
+}
+
+/// The table set, and the keys at which the table told differs: those that are gone, each with the value told, and those that
+/// are new or have a new value. So a flush hands out these two maps and takes no memory.
+#[derive(Drop)]
+pub(crate) struct Kept<K: Ord + Drop, V: Drop> {
+    pub(crate) alloc: Global,
+    pub(crate) up: bool,
+    pub(crate) set: BTreeMap<K, V>,
+    pub(crate) gone: BTreeMap<K, V>,
+    pub(crate) news: BTreeMap<K, News<V>>,
+}
+
+// Each entry, with nothing told.
+fn all_new<K: Copy + Ord, V: Copy>(
+    alloc: Global,
+    set: &BTreeMap<K, V>,
+) -> Result<BTreeMap<K, News<V>>, NoMemory>
+    ensures news { IfOk result (λ news. (q : K) → get K.cmp news q ≡ option_map as_news (get K.cmp set.now q)) }
+    ensures ordered { IfOk result (λ news. IsOrdered K.cmp news) }
+{
+    let mut news = BTreeMap::new(alloc);
+    for (key, value) in set.iter() {
+        news.insert(
+            *key,
+            News {
+                value: *value,
+                told: None,
+            },
+        )?;
+    }
+    Ok(news)
+}
+
+impl<K: Copy + Ord, V: Copy + Eq> Kept<K, V> {
+    pub(crate) fn of(alloc: Global) -> Kept<K, V>
+        ensures well { IsWell K.cmp result }
+        ensures up { result.up ≡ false }
+        ensures set { result.set.entries ≡ [] }
+    {
+        Kept {
+            alloc,
+            up: false,
+            set: BTreeMap::new(alloc),
+            gone: BTreeMap::new(alloc),
+            news: BTreeMap::new(alloc),
+        }
+    }
+
+    pub(crate) fn set(&mut self, key: K, value: V) -> Result<(), NoMemory>
+        requires well { IsWell K.cmp self.old }
+        requires exact { (v w : V) → V.eq v w ≡ true → v ≡ w }
+        ensures well { IsWell K.cmp self.new }
+        ensures up { self.new.up ≡ self.old.up }
+        ensures told { (q : K) → told_at K.cmp self.new q ≡ told_at K.cmp self.old q }
+        ensures ok { OnOk result ((q : K) →
+            set_at K.cmp self.new q ≡ (if eq_by_cmp K.cmp key q then Some value else set_at K.cmp self.old q)) }
+        ensures err { OnErr result ((q : K) → set_at K.cmp self.new q ≡ set_at K.cmp self.old q) }
+    {
+        if !self.up {
+            self.set.insert(key, value)?;
+            return Ok(());
+        }
+        let told = self.told(&key);
+        if told == Some(value) {
+            self.set.insert(key, value)?;
+            self.news.remove(&key);
+            self.gone.remove(&key);
+            return Ok(());
+        }
+        self.news.insert(key, News { value, told })?;
+        if self.set.insert(key, value).is_err() {
+            self.news.remove(&key);
+            return Err(NoMemory);
+        }
+        self.gone.remove(&key);
+        Ok(())
+    }
+
+    pub(crate) fn unset(&mut self, key: &K) -> Result<(), NoMemory>
+        requires well { IsWell K.cmp self.old }
+        ensures well { IsWell K.cmp self.new }
+        ensures up { self.new.up ≡ self.old.up }
+        ensures told { (q : K) → told_at K.cmp self.new q ≡ told_at K.cmp self.old q }
+        ensures ok { OnOk result ((q : K) →
+            set_at K.cmp self.new q ≡ (if eq_by_cmp K.cmp key.now q then None else set_at K.cmp self.old q)) }
+        ensures err { OnErr result ((q : K) → set_at K.cmp self.new q ≡ set_at K.cmp self.old q) }
+    {
+        if !self.up {
+            self.set.remove(key);
+            return Ok(());
+        }
+        let Some(told) = self.told(key) else {
+            self.news.remove(key);
+            self.set.remove(key);
+            return Ok(());
+        };
+        self.gone.insert(*key, told)?;
+        self.news.remove(key);
+        self.set.remove(key);
+        Ok(())
+    }
+
+    pub(crate) fn replay_all(&mut self) -> Result<(), NoMemory>
+        requires well { IsWell K.cmp self.old }
+        ensures well { IsWell K.cmp self.new }
+        ensures up { OnOk result ((self.new.up ≡ true) × ((q : K) → told_at K.cmp self.new q ≡ None)) }
+        ensures set { (q : K) → set_at K.cmp self.new q ≡ set_at K.cmp self.old q }
+        ensures err { OnErr result (self.new ≡ self.old) }
+    {
+        let news = all_new(self.alloc, &self.set)?;
+        self.up = true;
+        self.gone.clear();
+        self.news = news;
+        Ok(())
+    }
+
+    // What was told at the key.
+    fn told(&self, key: &K) -> Option<V>
+        ensures { result ≡ told_at K.cmp self.now key.now }
+    {
+        if !self.up {
+            return None;
+        }
+        if let Some(value) = self.gone.get(key) {
+            return Some(*value);
+        }
+        if let Some(news) = self.news.get(key) {
+            return news.told;
+        }
+        self.set.get(key).copied()
+    }
+
+    pub(crate) fn down(&mut self)
+        ensures well { IsWell K.cmp self.new }
+        ensures up { self.new.up ≡ false }
+        ensures set { self.new.set ≡ self.old.set }
+    {
+        self.up = false;
+        self.gone.clear();
+        self.news.clear();
+    }
+
+    /// Hands out what is gone and what is new. With that nothing is pending.
+    pub(crate) fn take(&mut self) -> (BTreeMap<K, V>, BTreeMap<K, News<V>>)
+        requires well { IsWell K.cmp self.old }
+        ensures well { IsWell K.cmp self.new }
+        ensures gone { result.0 ≡ self.old.gone }
+        ensures news { result.1 ≡ self.old.news }
+        ensures up { self.new.up ≡ self.old.up }
+        ensures set { self.new.set ≡ self.old.set }
+        ensures told { self.old.up ≡ true → (q : K) → told_at K.cmp self.new q ≡ set_at K.cmp self.old q }
+    {
+        let gone = mem::replace(&mut self.gone, BTreeMap::new(self.alloc));
+        let news = mem::replace(&mut self.news, BTreeMap::new(self.alloc));
+        (gone, news)
+    }
+}

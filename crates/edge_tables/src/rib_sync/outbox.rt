@@ -1,0 +1,105 @@
+//! The table that a peer is to have.
+ghost use Rattle.std.specs.Prelude.{◌≡◌, [], true, false, OnOk, OnErr};
+ghost use Rattle.std.specs.Option.{option_copied};
+ghost use Rattle.std.specs.FinMap as map;
+ghost use Rattle.std.specs.FinMap.{IsAntisymmetric};
+ghost use Rattle.table_laws.specs.Words.{IsExact};
+ghost use Rattle.edge_tables.specs.rib_sync.Ribs.{rib_out, pending, flushed};
+
+use crate::rib_sync::kept::Kept;
+use crate::rib_sync::pending::Pending;
+use mv_base::NoMemory;
+use std::alloc::Global;
+use std::marker::Model;
+
+/// The routes that a peer is to have, and those that it was told (an Adj-RIB-Out, RFC 4271 section 3.2).
+#[derive(Drop)]
+pub struct Outbox<K: Ord + Drop, V: Drop> {
+    kept: Kept<K, V>,
+}
+
+impl<K: Ord + Drop, V: Drop> Model for Outbox<K, V> {
+    ghost use Rattle.edge_tables.specs.rib_sync.Ribs.{Rows, rows_of};
+    ghost use Rattle.edge_tables.specs.rib_sync.Kept.{kept_rib, IsWell};
+
+    ghost Value = { Rows K V };
+
+    ghost view = { λ o. rows_of (kept_rib K.cmp o.kept) };
+
+    ghost invariant = { λ o. IsWell K.cmp o.kept };
+}
+
+impl<K: Copy + Ord, V: Copy + Eq> Outbox<K, V> {
+    /// An outbox that is down and empty. It takes no memory.
+    pub fn of(alloc: Global) -> Outbox<K, V>
+        ensures { rib_out K.cmp result ≡ record { up = false; set = map.empty; told = map.empty } }
+    {
+        Outbox {
+            kept: Kept::of(alloc),
+        }
+    }
+
+    /// The peer is to have this value at the key.
+    pub fn set(&mut self, key: K, value: V) -> Result<(), NoMemory>
+        requires keys { IsAntisymmetric K.cmp }
+        requires values { IsExact V.eq }
+        ensures set { OnOk result (
+            let old = rib_out K.cmp self.old in rib_out K.cmp self.new ≡ record old { set = map.insert old.set key value }) }
+        ensures unchanged { OnErr result (self.new ≡ self.old) }
+    {
+        self.kept.set(key, value)
+    }
+
+    /// The peer is to have nothing at the key.
+    pub fn unset(&mut self, key: &K) -> Result<(), NoMemory>
+        requires { IsAntisymmetric K.cmp }
+        ensures unset { OnOk result (
+            let old = rib_out K.cmp self.old in rib_out K.cmp self.new ≡ record old { set = map.remove old.set key.now }) }
+        ensures unchanged { OnErr result (self.new ≡ self.old) }
+    {
+        self.kept.unset(key)
+    }
+
+    /// Brings the outbox up, with nothing told: each key that is set is pending.
+    pub fn replay_all(&mut self) -> Result<(), NoMemory>
+        requires { IsAntisymmetric K.cmp }
+        ensures up { OnOk result (
+            let old = rib_out K.cmp self.old in rib_out K.cmp self.new ≡ record old { up = true; told = map.empty }) }
+        ensures unchanged { OnErr result (self.new ≡ self.old) }
+    {
+        self.kept.replay_all()
+    }
+
+    /// Takes the outbox down: the peer has nothing.
+    pub fn down(&mut self)
+        ensures { rib_out K.cmp self.new ≡ record (rib_out K.cmp self.old) { up = false; told = map.empty } }
+    {
+        self.kept.down();
+    }
+
+    /// Hands out the changes from what was told to what is set, which from then on is told. Applied in order to what was told
+    /// they give what is set (`new_table` of `table_laws`). While the outbox is down there is none.
+    pub fn flush(&mut self) -> Pending<K, V>
+        requires keys { IsAntisymmetric K.cmp }
+        requires values { IsExact V.eq }
+        ensures changes { result ≡ pending V.eq (rib_out K.cmp self.old) }
+        ensures told { rib_out K.cmp self.new ≡ flushed (rib_out K.cmp self.old) }
+    {
+        let (gone, news) = self.kept.take();
+        Pending { gone, news }
+    }
+
+    /// Whether the outbox is up.
+    pub fn is_up(&self) -> bool
+        ensures { result ≡ (rib_out K.cmp self.now).up }
+    {
+        self.kept.up
+    }
+
+    /// The value that is set at the key.
+    pub fn get(&self, key: &K) -> Option<&V>
+        ensures { option_copied result ≡ map.get (rib_out K.cmp self.now).set key.now }
+    {
+        self.kept.set.get(key)
+    }
+}

@@ -1,0 +1,48 @@
+//! The table of one peer among all.
+ghost use Rattle.std.specs.Prelude.{◌≡◌, ℕ, IfOk, OnOk, OnErr};
+ghost use Rattle.bgp_messages.specs.declared.bgp_attributes.update.Change.TheVariants.{Unreach};
+ghost use Rattle.edge_defs.specs.Steps.{taken_change};
+ghost use Rattle.edge_tables.specs.taken_tables.Routes.{handed};
+ghost use Rattle.edge_tables.specs.taken_tables.Slots.{tables_of};
+ghost use Rattle.edge_tables.specs.taken_tables.Tables.{AreSpelled, changed_at, is_news_at, reach};
+
+use crate::taken_tables::entry::RouteValue;
+use crate::taken_tables::running::{TakenTable, forget, learn};
+use edge_routes::route_order::TableKey;
+use mv_base::{NoMemory, NodeId};
+use std::collections::BTreeMap;
+
+/// The table of each peer.
+pub(crate) type Slots = BTreeMap<u16, TakenTable>;
+
+/// Takes the route from the peer at the clock, where it has a table, and tells whether it is another one than before.
+pub(crate) fn learn_from(
+    slots: &mut Slots,
+    peer: NodeId,
+    key: TableKey,
+    value: RouteValue,
+    now: u64,
+) -> Result<bool, NoMemory>
+    ensures learned { OnOk result (tables_of slots.new.entries
+        ≡ changed_at peer (λ taken. taken_change now taken (reach key (handed value))) (tables_of slots.old.entries)) }
+    ensures news { IfOk result (λ news. news ≡ is_news_at (tables_of slots.old.entries) peer key (handed value)) }
+    ensures unchanged { OnErr result (tables_of slots.new.entries ≡ tables_of slots.old.entries) }
+    ensures spelled { AreSpelled (tables_of slots.old.entries) → AreSpelled (tables_of slots.new.entries) }
+{
+    match slots.get_mut(&peer.0) {
+        None => Ok(false),
+        Some(table) => learn(table, key, value, now),
+    }
+}
+
+/// Forgets the route of the key that was taken from the peer.
+pub(crate) fn forget_from(slots: &mut Slots, peer: NodeId, key: &TableKey)
+    ensures forgot { (now : ℕ) → tables_of slots.new.entries
+        ≡ changed_at peer (λ taken. taken_change now taken (Unreach key.now)) (tables_of slots.old.entries) }
+    ensures spelled { AreSpelled (tables_of slots.old.entries) → AreSpelled (tables_of slots.new.entries) }
+{
+    match slots.get_mut(&peer.0) {
+        None => {}
+        Some(table) => forget(table, key),
+    }
+}

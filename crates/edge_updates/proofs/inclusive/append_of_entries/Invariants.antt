@@ -1,6 +1,0 @@
-use Rattle.std.proofs.Common.{◌≡◌, ◌++◌}
-use Rattle.edge_updates.specs.Told.{told_by_all}
-use Rattle.edge_updates.proofs.inclusive.append_of_entries.Given as goal
-
-abbrev pub invariant-loop-key : goal.invariant-loop-key
-invariant-loop-key l = l.fecs.items ++ told_by_all l.home l.peer l.key-iterator ≡ l.initial.fecs.items ++ told_by_all l.home l.peer l.initial.key-iterator

@@ -1,5 +1,0 @@
-use Rattle.edge_updates.proofs.TunnelLemmas.{alike_tunnels, run_tunnels}
-use Rattle.edge_updates.proofs.laws.tunnels_stay.Goals as goal
-
-pub returns : goal.returns
-returns c = record { alike = alike_tunnels; delays = run_tunnels }

@@ -1,6 +1,0 @@
-use Rattle.std.proofs.Common.{◌≡◌, ◌++◌}
-use Rattle.label_uses.specs.Held.{labels_toward}
-use Rattle.label_uses.proofs.held.labels_toward.Given as goal
-
-abbrev pub invariant-held : goal.invariant-held
-invariant-held l = l.labels.items ++ labels_toward l.peer l.label-iterator ≡ labels_toward l.peer l.held.entries

@@ -1,5 +1,0 @@
-use Rattle.leaf_laws.proofs.Wanted.{leaf_wanted}
-use Rattle.leaf_laws.proofs.laws.leaves_may_be_wanted.Goals as goal
-
-pub returns : goal.returns
-returns c = λ place control fec rules peers is. leaf_wanted place control rules peers fec is

@@ -1,6 +1,0 @@
-//! A law of the lines of runs: they name nodes and interfaces of the scenario.
-#![tactic(auto)]
-
-mod laws;
-
-pub use laws::lines_name_what_is_there;

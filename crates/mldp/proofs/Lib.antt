@@ -1,0 +1,1 @@
+pub use Rattle.mv_base.proofs as mv_base

@@ -1,0 +1,3 @@
+pub use Rattle.mv_base.specs as mv_base
+pub mod mldp_fec
+pub mod mldp_msgs

@@ -1,7 +1,0 @@
-use Rattle.std.proofs.Common.{◌↔◌, IsTrue, take}
-use Rattle.mldp_msgs.specs.Labels.{IsMapped}
-use Rattle.mldp_msgs.proofs.labels.is_mapped.Given as goal
-
--- whether it is mapped behind the messages so far
-abbrev pub invariant-messages : goal.invariant-messages
-invariant-messages l = IsTrue l.mapped ↔ IsMapped (take l.message-index l.messages) l.fec l.label

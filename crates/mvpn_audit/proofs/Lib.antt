@@ -1,0 +1,12 @@
+pub mod PlacedLemmas
+pub mod MarkingLemmas
+pub mod ExpiryLemmas
+pub mod FollowLemmas
+pub mod SetLemmas
+pub mod FateLemmas
+pub mod MarkedLemmas
+pub mod WayLemmas
+pub mod WindowLemmas
+pub mod StateLemmas
+pub mod InWindows
+pub mod AskLemmas

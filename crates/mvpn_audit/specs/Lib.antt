@@ -1,0 +1,4 @@
+pub mod Placed
+pub mod Marking
+pub mod Joined
+pub mod Fates

@@ -1,0 +1,2 @@
+pub mod session_ways
+pub mod session_transit

@@ -1,0 +1,104 @@
+//! Octets that come over sessions, and the messages that they spell (RFC 5036 section 3.1).
+ghost use Rattle.std.specs.Prelude.{◌≡◌, ◌<◌, ◌^◌, map, true, length, All, OnOk, Err, None};
+ghost use Rattle.label_defs.specs.Steps.{Taken};
+ghost use Rattle.network_defs.specs.session_defs.Message.{Label};
+ghost use Rattle.network_defs.specs.session_defs.PeerSession.{fault_at};
+ghost use Rattle.edge_streams.specs.Spelled.{SaysWritableLabel};
+ghost use Rattle.wire_laws.specs.CoreNodes.{ldp_with};
+ghost use Rattle.network_nodes.specs.core_node.Answers.{IsSpending};
+ghost use Rattle.network_nodes.specs.core_node.Called.{Settles, SettlesCall, behind, going, spent_after};
+ghost use Rattle.network_nodes.specs.core_node.Taking.{AnswersOctets, IsSessionFault, taken_by};
+ghost use Rattle.network_nodes.specs.core_node.View.{IsLive, is_up};
+ghost use Rattle.network_nodes.specs.declared.core_node.fault.CoreFault.{CoreFault as CoreFaults};
+
+use crate::core_node::fault::CoreFault;
+use crate::core_node::parts::{Parts, told};
+use core_paths::Core;
+use mldp::mldp_msgs::LabelMessage;
+use mv_base::NodeId;
+use scenario_defs::Kind;
+
+impl Parts {
+    /// Takes a message of the neighbour.
+    fn take_label(
+        &mut self,
+        peer: NodeId,
+        message: LabelMessage,
+        now: u64,
+        core: &Core,
+    ) -> Result<(), CoreFault>
+        requires live { IsLive self.old.node self.old.streams }
+        requires nodes { core.now.nodes ≡ length self.old.node.place.addrs }
+        requires now { now < 2 ^ 63 }
+        requires writable { SaysWritableLabel message }
+        ensures settles { SettlesCall core.now now (Taken peer message) (going self.old) self.new result }
+        ensures only { IsSpending result }
+    {
+        // It is known here that a core as nodes know it is there.
+        let _ = core.nodes();
+        told(self.node.take(peer, message, now, core))
+    }
+
+    /// Takes messages of the neighbour, one after another.
+    fn take_labels(
+        &mut self,
+        peer: NodeId,
+        messages: Vec<LabelMessage>,
+        now: u64,
+        core: &Core,
+    ) -> Result<(), CoreFault>
+        requires live { IsLive self.old.node self.old.streams }
+        requires nodes { core.now.nodes ≡ length self.old.node.place.addrs }
+        requires now { now < 2 ^ 63 }
+        requires writable { All SaysWritableLabel messages.items }
+        ensures settles { Settles core.now (taken_by (going self.old) now peer (map (λ message. Label message) messages.items))
+            (going self.old) self.new result }
+        ensures only { IsSpending result }
+    {
+        for message in messages {
+            if let Err(fault) = self.take_label(peer, message, now, core) {
+                return Err(fault);
+            }
+        }
+        Ok(())
+    }
+
+    /// The first fault of the session's stream, if it has had one.
+    fn sound(&self, peer: NodeId) -> Result<(), CoreFault>
+        ensures sound { OnOk result (fault_at self.now.streams (ldp_with peer) ≡ None) }
+        ensures fault { (fault : CoreFaults) → result ≡ Err fault → IsSessionFault peer (going self.now) fault }
+    {
+        match self.streams.fault(Kind::Ldp, peer) {
+            None => Ok(()),
+            Some((place, reason)) => Err(CoreFault::Session {
+                peer,
+                place,
+                reason,
+            }),
+        }
+    }
+
+    /// Takes octets of the session with the neighbour, which is up: the messages that are whole with them, those before its first fault
+    /// too.
+    pub(crate) fn take_ldp(
+        &mut self,
+        peer: NodeId,
+        bytes: &[u8],
+        now: u64,
+        core: &Core,
+    ) -> Result<(), CoreFault>
+        requires live { IsLive self.old.node self.old.streams }
+        requires nodes { core.now.nodes ≡ length self.old.node.place.addrs }
+        requires now { now < 2 ^ 63 }
+        requires up { is_up (going self.old) peer ≡ true }
+        ensures answers { AnswersOctets core.now now peer bytes.now (going self.old) (behind self.new result) result }
+        ensures live { spent_after result ≡ None → IsLive self.new.node self.new.streams }
+    {
+        self.streams.feed_ldp(peer, bytes)?;
+        let messages = self.streams.drain_ldp(peer)?;
+        match self.take_labels(peer, messages, now, core) {
+            Ok(()) => self.sound(peer),
+            Err(fault) => Err(fault),
+        }
+    }
+}

@@ -1,6 +1,0 @@
-//! Which sessions of the whole network are ready is told by the events alone.
-#![tactic(auto)]
-
-mod laws;
-
-pub use laws::unready_is_told_by_the_events;

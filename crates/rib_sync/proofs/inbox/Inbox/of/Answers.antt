@@ -1,7 +1,0 @@
-use Rattle.std.proofs.Common.{◌∙◌, ap}
-use Rattle.rib_sync.specs.Ribs.{rib_in}
-use Rattle.rib_sync.proofs.ListLemmas.{none}
-use Rattle.rib_sync.proofs.inbox.Inbox.of.Goals as goal
-
-pub returns : goal.returns
-returns g c = ap (rib_in g.K.Ord.cmp) c.new.ensures.empty ∙ none g.K.Ord.cmp

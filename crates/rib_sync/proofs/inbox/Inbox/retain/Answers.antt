@@ -1,7 +1,0 @@
-use Rattle.std.specs.Map.Calls.{CalledAtPair}
-use Rattle.rib_sync.proofs.RibLemmas.{retained}
-use Rattle.rib_sync.proofs.inbox.Inbox.retain.Goals as goal
-
-pub returns : goal.returns
-returns g c =
-    retained g.K.Ord.cmp (CalledAtPair {F = g.row.F.Denot} {K = g.row.K.Denot} {X = g.row.V.Denot} g.F.FnMut) c.args.keep c.args.self.now c.self.inside.map c.retain.new.self c.self.view_is c.self.invariant c.retain.ensures.ordered c.retain.ensures.filtered

@@ -1,6 +1,0 @@
-use Rattle.route_order.proofs.ValueLemmas.{is_kept}
-use Rattle.route_order.proofs.value.TableValue.of.Goals as goal
-
-pub invariant_of-result : goal.invariant_of-result
-invariant_of-result c =
-    is_kept c.args.next_hop c.args.comms.now c.in_places.result c.args.pmsi c.if-comms-gt-COMM_LIMIT.false c.in_places.ensures c.requires

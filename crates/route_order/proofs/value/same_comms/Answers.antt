@@ -1,9 +1,0 @@
-use Rattle.std.proofs.Common.{◌≡◌, Bool, IsTrue, sym, subst}
-use Rattle.route_order.proofs.ValueLemmas.{same_comms}
-use Rattle.route_order.proofs.value.same_comms.Goals as goal
-
-pub returns : goal.returns
-returns c =
-    let own = c.args.own.now in
-    let other = c.args.other.now in
-    subst (λ (b : Bool). (IsTrue b → own ≡ other) × (own ≡ other → IsTrue b)) (sym c.eq.ensures) (same_comms own other)

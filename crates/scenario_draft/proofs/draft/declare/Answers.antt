@@ -1,6 +1,0 @@
-use Rattle.std.proofs.Common.{◌∙◌}
-use Rattle.indexmap.proofs.CallerLemmas.{insert_entry-new}
-use Rattle.scenario_draft.proofs.draft.declare.Goals as goal
-
-pub returns : goal.returns
-returns c = c.in_ok-insert.ensures.entries ∙ insert_entry-new _ c.args.names.now _ _ c.requires

@@ -1,0 +1,108 @@
+//! The lines of selections.
+ghost use Rattle.std.specs.Prelude.{◌≡◌, map};
+ghost use Rattle.line_words.specs.Words.{placed_word};
+ghost use Rattle.scenario_text.specs.event_lines.SelectGrammar.{select_word, select_event, any_source_at, any_group_at, pattern_at};
+ghost use Rattle.scenario_text.specs.event_lines.SelectGrammar.{select_words, select_line};
+
+use crate::event_lines::rules::{family_fault, is_of_family, unless_broken};
+use line_words::{Reason, Row, TextFault, Word, fault_at, group_at, source_at};
+use mv_base::{Addr, Pattern, VrfId};
+use scenario_defs::Event;
+use scenario_lines::scenario_draft::{Draft, Line, vrf_at};
+
+/// The events of a selection.
+#[derive(Clone, Copy)]
+pub enum SelectWord {
+    Select,
+    Unselect,
+}
+
+/// The event whose line begins with the text.
+pub fn select_word(text: &[u8]) -> Option<SelectWord>
+    ensures { result ≡ select_word text.now }
+{
+    if text == b"select".as_slice() {
+        Some(SelectWord::Select)
+    } else if text == b"unselect".as_slice() {
+        Some(SelectWord::Unselect)
+    } else {
+        None
+    }
+}
+
+fn select_event(word: SelectWord, vrf: VrfId, pattern: Pattern) -> Event
+    ensures { result ≡ select_event word vrf pattern }
+{
+    match word {
+        SelectWord::Select => Event::Select { vrf, pattern },
+        SelectWord::Unselect => Event::Unselect { vrf, pattern },
+    }
+}
+
+/// A source, or `*` for any (RFC 6625 section 2).
+#[tactic(auto, unfolding(crate::specs::event_lines::SelectGrammar::any_source_at))]
+fn any_source_at(row: Row, word: &Word) -> Result<Option<Addr>, TextFault>
+    ensures { result ≡ any_source_at row (placed_word word.now) }
+{
+    if word.text == b"*".as_slice() {
+        return Ok(None);
+    }
+    let source = source_at(row, word)?;
+    Ok(Some(source))
+}
+
+/// A group, or `*` for any.
+#[tactic(auto, unfolding(crate::specs::event_lines::SelectGrammar::any_group_at))]
+fn any_group_at(row: Row, word: &Word) -> Result<Option<Addr>, TextFault>
+    ensures { result ≡ any_group_at row (placed_word word.now) }
+{
+    if word.text == b"*".as_slice() {
+        return Ok(None);
+    }
+    let group = group_at(row, word)?;
+    Ok(Some(group))
+}
+
+#[tactic(auto, unfolding(crate::specs::event_lines::SelectGrammar::pattern_at))]
+fn pattern_at(row: Row, source: &Word, group: &Word) -> Result<Pattern, TextFault>
+    ensures { result ≡ pattern_at row (placed_word source.now) (placed_word group.now) }
+{
+    let source = any_source_at(row, source)?;
+    let group = any_group_at(row, group)?;
+    Ok(Pattern { source, group })
+}
+
+#[tactic(auto, unfolding(crate::specs::event_lines::SelectGrammar::select_words))]
+fn select_words(
+    draft: &Draft,
+    row: Row,
+    word: SelectWord,
+    vrf: &Word,
+    source: &Word,
+    group: &Word,
+) -> Result<Line, TextFault>
+    ensures { result ≡ select_words draft.now row word (placed_word vrf.now) (placed_word source.now) (placed_word group.now) }
+{
+    let vrf = vrf_at(draft, row, vrf)?;
+    let pattern = pattern_at(row, source, group)?;
+    let kept = is_of_family(pattern);
+    let event = select_event(word, vrf, pattern);
+    unless_broken(family_fault(kept), row, group, Line::Event { event })
+}
+
+/// The line of a selection by the words behind the first one.
+#[tactic(auto, unfolding(crate::specs::event_lines::SelectGrammar::select_line))]
+pub fn select_line(
+    draft: &Draft,
+    row: Row,
+    word: SelectWord,
+    words: &[Word],
+) -> Result<Line, TextFault>
+    ensures { result ≡ select_line draft.now row word (map placed_word words.now) }
+{
+    match words {
+        [vrf, source, group] => select_words(draft, row, word, vrf, source, group),
+        [_, _, _, extra, ..] => Err(fault_at(row.number, extra.column, Reason::Count)),
+        _ => Err(fault_at(row.number, row.after, Reason::Count)),
+    }
+}

@@ -1,7 +1,0 @@
-use Rattle.std.proofs.Common.{All, take}
-use Rattle.mv_base.specs.Address.{addr_octets}
-use Rattle.mv_base.specs.Octets.{IsOctets}
-use Rattle.script_values.proofs.scenarios.ifaces_have_octets.Given as goal
-
-abbrev pub invariant-loop-iface : goal.invariant-loop-iface
-invariant-loop-iface l = All (λ iface. IsOctets (addr_octets iface.addr)) (take l.iface-index l.ifaces)

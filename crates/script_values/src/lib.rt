@@ -1,8 +1,0 @@
-//! The values of a scenario and its script are octets, as their types say. No function here does anything.
-#![tactic(auto)]
-
-mod events;
-mod scenarios;
-
-pub use events::{event_has_octets, events_have_octets};
-pub use scenarios::scenario_has_octets;

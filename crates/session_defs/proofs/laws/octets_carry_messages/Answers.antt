@@ -1,8 +1,0 @@
-use Rattle.session_defs.proofs.Runs.{run_refined, run_ended}
-use Rattle.session_defs.proofs.laws.octets_carry_messages.Goals as goal
-
-pub returns-clause-refined : goal.returns-clause-refined
-returns-clause-refined g c = run_refined
-
-pub returns-clause-ended : goal.returns-clause-ended
-returns-clause-ended g c = run_ended

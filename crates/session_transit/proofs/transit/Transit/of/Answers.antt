@@ -1,5 +1,0 @@
-use Rattle.session_transit.proofs.Totals.{nothing_held}
-use Rattle.session_transit.proofs.transit.Transit.of.Goals as goal
-
-pub invariant_of-result : goal.invariant_of-result
-invariant_of-result c = (c.new.ensures.unique, nothing_held c.new.result c.new.ensures.empty)

@@ -1,8 +1,0 @@
-//! The octets in transit over the sessions of a network, each way, and which of the sessions are joined.
-#![tactic(auto)]
-
-mod octets;
-mod sessions;
-mod transit;
-
-pub use transit::Transit;

@@ -1,6 +1,0 @@
-use Rattle.std.proofs.Common.{◌≡◌, ◌++◌, drop}
-use Rattle.mvpn_model.specs.Sessions.{bgp_sessions}
-use Rattle.session_ways.proofs.sessions.add_bgp.Given as goal
-
-abbrev pub invariant-loop-place : goal.invariant-loop-place
-invariant-loop-place l = l.all ++ bgp_sessions (drop l.place l.edges) ≡ l.initial.all ++ bgp_sessions l.edges

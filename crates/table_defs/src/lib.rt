@@ -1,6 +1,0 @@
-//! Changes of a table of routes, and the changes between two tables, whatever their keys and values are.
-#![tactic(auto)]
-
-mod change;
-
-pub use change::Change;

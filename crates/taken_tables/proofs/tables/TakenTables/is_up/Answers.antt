@@ -1,5 +1,0 @@
-use Rattle.taken_tables.proofs.MapLemmas.{up_of}
-use Rattle.taken_tables.proofs.tables.TakenTables.is_up.Goals as goal
-
-pub returns : goal.returns
-returns c = up_of c.self.inside.slots.entries c.args.self.now c.args.peer c.self.view_is c.contains_key.result c.contains_key.ensures

@@ -1,5 +1,0 @@
-use Rattle.tree_laws.proofs.Asking.{all_asking}
-use Rattle.tree_laws.proofs.laws.asking_is_told.Goals as goal
-
-pub returns : goal.returns
-returns c place now control own tree flow is = all_asking place control own tree is flow now

@@ -1,9 +1,0 @@
-use Rattle.std.proofs.Common.{refl}
-use Rattle.tree_laws.proofs.Entering.{entering_branches, entering_outs}
-use Rattle.tree_laws.proofs.laws.entering_is_told.Goals as goal
-
-pub returns-clause-outs : goal.returns-clause-outs
-returns-clause-outs c place now edge own tree site flow is rules nodes whole = entering_outs place edge.control own tree is flow now site rules nodes whole edge refl
-
-pub returns-clause-branches : goal.returns-clause-branches
-returns-clause-branches c place now edge own tree site flow is rules nodes whole = entering_branches place edge.control own tree is flow now site rules nodes whole edge refl

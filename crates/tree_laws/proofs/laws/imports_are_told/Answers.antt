@@ -1,5 +1,0 @@
-use Rattle.tree_laws.proofs.Leaving.{imports_are}
-use Rattle.tree_laws.proofs.laws.imports_are_told.Goals as goal
-
-pub returns : goal.returns
-returns c place control own tree edge fec is = imports_are place control own tree is edge fec

@@ -1,0 +1,1 @@
+pub use Rattle.edge_words.proofs as edge_words

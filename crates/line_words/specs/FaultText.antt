@@ -33,6 +33,9 @@ reason_word reasons.Link = codes "link"
 reason_word reasons.Family = codes "family"
 reason_word reasons.Apart = codes "apart"
 reason_word reasons.Events = codes "events"
+reason_word reasons.Report = codes "report"
+reason_word reasons.Probe = codes "probe"
+reason_word reasons.Root = codes "root"
 reason_word reasons.Long = codes "long"
 
 -- the line that tells a fault

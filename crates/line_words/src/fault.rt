@@ -35,6 +35,12 @@ pub enum Reason {
     Family,
     Apart,
     Events,
+    /// No line `report` is there, or a line after it is no line of a report.
+    Report,
+    /// No line `probe` is there.
+    Probe,
+    /// A first line that is none of a root, or octets that are not a root's advertisement.
+    Root,
     Long,
 }
 
@@ -72,6 +78,9 @@ pub fn reason_word(reason: Reason) -> &'static [u8]
         Reason::Family => b"family",
         Reason::Apart => b"apart",
         Reason::Events => b"events",
+        Reason::Report => b"report",
+        Reason::Probe => b"probe",
+        Reason::Root => b"root",
         Reason::Long => b"long",
     }
 }

@@ -3,8 +3,8 @@
 report: `reference.py audit`.
 
 The text is read from standard input. What is written, and the status, are as by the program's `replay`: the report, with status 7
-where a line `halt` ends it, or the line of the text's first fault, with status 3. A text of `audit` is taken as well formed; the
-judgement is `yes`, or `no LINE REASON` with status 8.
+where a line `halt` ends it, or the line of the text's first fault, with status 3; and of `audit` `yes`, or `no LINE REASON` with
+status 8, or such a fault.
 """
 
 import sys
@@ -15,7 +15,7 @@ from reference.replaying import replay
 
 def main(words):
     if words == ['audit']:
-        text, status = audit(sys.stdin.read())
+        text, status = audit(sys.stdin.buffer.read())
     elif words in (['replay'], ['replay', '--wire']):
         text, status = replay(sys.stdin.buffer.read(), words == ['replay', '--wire'])
     else:

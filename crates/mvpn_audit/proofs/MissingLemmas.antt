@@ -1,5 +1,5 @@
 -- The pass over the datagrams for the first one that is missing.
-use Rattle.std.proofs.Common.{◌≡◌, ℕ, ◌+◌, ◌<◌, ◌≤◌, Bool, true, false, inl, inr, length, List, slice_get, None, Some, refl, sym, ap, subst, ◌∙◌, arith}
+use Rattle.std.proofs.Common.{◌≡◌, ℕ, ◌+◌, ◌≤◌, true, false, inl, inr, length, List, slice_get, None, Some, refl, sym, ap, ◌∙◌, arith}
 use Rattle.std.proofs.lemmas.Option.{slice_get_within}
 use Rattle.audit_defs.proofs.Lists.{some_same}
 use Rattle.mvpn_audit.specs.declared.sents.Sent.{Sent}

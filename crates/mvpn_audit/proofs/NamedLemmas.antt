@@ -1,8 +1,8 @@
 -- Which offence an `out` line has, by the datagram that it names.
 use Rattle.std.specs.Prelude.{◌&&◌, nat_eq, nat_lt, option_map}
-use Rattle.std.proofs.Common.{◌≡◌, ℕ, zero, suc, ◌+◌, ◌<◌, ◌≤◌, Bool, true, false, not, cond, inl, inr, map, take, length, List, [], ◌∷◌, slice_get, Option, None, Some, refl, sym, ap, subst, ◌∙◌, arith}
+use Rattle.std.proofs.Common.{◌≡◌, ℕ, zero, suc, ◌+◌, ◌<◌, ◌≤◌, Bool, true, false, not, cond, map, take, length, List, [], ◌∷◌, slice_get, Option, None, Some, refl, sym, ap, subst, ◌∙◌, arith}
 use Rattle.std.specs.Cmp.Lexicographic.{pointwise, bytes_decides}
-use Rattle.std.proofs.lemmas.Bool.{true≢false, cases_Bool}
+use Rattle.std.proofs.lemmas.Bool.{true≢false}
 use Rattle.std.proofs.lemmas.Option.{none-some, slice_get_within}
 use Rattle.scenario_defs.specs.Rules.{IsEventOf}
 use Rattle.mv_base.specs.declared.ids.IfaceId.{IfaceId}
@@ -13,7 +13,6 @@ use Rattle.mvpn_model.specs.Past.{receivers}
 use Rattle.mvpn_model.specs.Report.{Datagram, sent_by, datagrams}
 use Rattle.audit_defs.specs.declared.verdict.Offence.{Offence}
 use Rattle.audit_defs.specs.declared.verdict.Offence.TheVariants as offences
-use Rattle.audit_defs.specs.Cut.{Audited, audited}
 use Rattle.audit_defs.specs.Offences.{named_before, site_admitted, InWindow, is_receiver}
 use Rattle.audit_defs.specs.Verdicts.{rank}
 use Rattle.audit_defs.proofs.Lists.{and_both, some_same, both_no, each_got}

@@ -1,10 +1,8 @@
 -- The pass over the lines of a report, line by line.
-use Rattle.std.specs.Prelude.{◌&&◌, ◌||◌, nat_eq}
-use Rattle.std.proofs.Common.{◌≡◌, ℕ, zero, suc, ◌+◌, ◌<◌, ◌≤◌, ◌==◌, Bool, true, false, cond, inl, inr, ◌++◌, take, drop, length, List, [], ◌∷◌, slice_get, Option, None, Some, refl, sym, ap, subst, ◌∙◌, arith}
-use Rattle.std.specs.List.{list_any}
-use Rattle.std.proofs.lemmas.Bool.{true≢false}
+use Rattle.std.specs.Prelude.{◌||◌}
+use Rattle.std.proofs.Common.{◌≡◌, ℕ, zero, suc, ◌+◌, ◌≤◌, Bool, true, false, cond, inl, inr, take, drop, length, List, [], ◌∷◌, slice_get, Option, None, Some, refl, sym, ap, subst, ◌∙◌, arith}
 use Rattle.std.proofs.lemmas.List.Folds.{list_any-append}
-use Rattle.std.proofs.lemmas.Option.{none-some, slice_get_within}
+use Rattle.std.proofs.lemmas.Option.{none-some}
 use Rattle.indexmap.specs.IndexSet.{contains}
 use Rattle.mv_base.specs.declared.ids.IfaceId.{IfaceId}
 use Rattle.scenario_defs.specs.declared.report.ReportLine.{ReportLine}
@@ -12,7 +10,7 @@ use Rattle.scenario_defs.specs.declared.report.ReportLine.TheVariants as lines
 use Rattle.mvpn_model.specs.Report.{is_out_at}
 use Rattle.audit_defs.specs.declared.verdict.Numbered.{Numbered}
 use Rattle.audit_defs.specs.declared.verdict.Offence.{Offence}
-use Rattle.audit_defs.specs.Cut.{Given, Audited, audited, give, next_of, places_after}
+use Rattle.audit_defs.specs.Cut.{Given, Audited, give, next_of, places_after}
 use Rattle.audit_defs.specs.Markers.{is_marker}
 use Rattle.audit_defs.proofs.Lists.{some_same}
 use Rattle.mvpn_audit.specs.declared.case.Case.{Case}
@@ -22,18 +20,14 @@ use Rattle.mvpn_audit.specs.declared.judging.Found.{Found}
 use Rattle.mvpn_audit.specs.declared.judging.Out.{Out}
 use Rattle.mvpn_audit.specs.declared.judging.Reading.{Reading}
 use Rattle.mvpn_audit.specs.Case.{events_of, audited_of, IsCase}
-use Rattle.mvpn_audit.specs.Judging.{is_exit, exit, has_left, IsFault, AreFaultless, IsLeastFault, IsFirstFault, IsFirst, first_after, fault_of, next_event, Leaves, Passes, IsRead}
+use Rattle.mvpn_audit.specs.Judging.{is_exit, exit, has_left, IsFault, AreFaultless, IsFirstFault, IsFirst, first_after, fault_of, next_event, Leaves, Passes, IsRead}
 use Rattle.mvpn_audit.specs.Placed.{places_of}
 use Rattle.mvpn_audit.proofs.InWindows.{split}
 use Rattle.mvpn_audit.proofs.NamedLemmas.{Says, fault_says}
 use Rattle.mvpn_audit.proofs.StateLemmas.{lines_are}
+use Rattle.mvpn_audit.proofs.WalkLemmas.{take_next}
 
 -- ---- lists
-
-take_next : {X : Type 0} (xs : List X) (n : ℕ) (x : X) → slice_get xs n ≡ Some x → take (suc n) xs ≡ take n xs ++ x ∷ []
-take_next [] n x e = absurd (none-some x e)
-take_next (y ∷ ys) zero x e = (λ i. some_same y x e i ∷ [])
-take_next (y ∷ ys) (suc n) x e = (λ i. y ∷ take_next ys n x e i)
 
 drop_here : {X : Type 0} (xs : List X) (n : ℕ) (x : X) → slice_get xs n ≡ Some x → drop n xs ≡ x ∷ drop (suc n) xs
 drop_here [] n x e = absurd (none-some x e)

@@ -4,9 +4,7 @@ use Rattle.std.proofs.Common.{◌≡◌, ℕ, zero, suc, ◌+◌, ◌<◌, Bool,
 use Rattle.std.specs.Cmp.{both_ways}
 use Rattle.std.specs.Cmp.Lexicographic.{bytes_decides}
 use Rattle.std.specs.List.{list_any, list_all}
-use Rattle.std.proofs.lemmas.Bool.{true≢false, cases_Bool}
-use Rattle.std.proofs.lemmas.Option.{none-some, slice_get_within}
-use Rattle.mv_base.specs.declared.addr.Addr.{Addr}
+use Rattle.std.proofs.lemmas.Option.{none-some}
 use Rattle.mv_base.specs.declared.ids.IfaceId.{IfaceId}
 use Rattle.mv_base.specs.declared.ids.SiteId.{SiteId}
 use Rattle.mv_base.specs.declared.ids.VrfId.{VrfId}
@@ -20,11 +18,11 @@ use Rattle.scenario_defs.specs.Vpn.{targets_of, same_vpn, is_of_site, vrf_of_sit
 use Rattle.scenario_defs.proofs.RuleLemmas.{iface_rules_at}
 use Rattle.mvpn_model.specs.Past.{Past, is_noted, is_active, is_active_at, asks, is_home, receives, receivers}
 use Rattle.mvpn_model.proofs.ListLemmas.{passes-from_find}
-use Rattle.audit_defs.proofs.Lists.{and_both, and_true, any_got, all_got, got_all, some_same}
+use Rattle.audit_defs.proofs.Lists.{and_both, any_got, all_got, got_all, some_same}
 use Rattle.mvpn_audit.specs.declared.receivers.Flow.{Flow}
 use Rattle.mvpn_audit.specs.declared.vpns.Vpn.{Vpn}
-use Rattle.mvpn_audit.specs.Joined.{Kept, note_now, Follows}
-use Rattle.mvpn_audit.specs.Receivers.{is_home_in, is_active_now, asks_now, receives_now, receivers_in, receivers_now}
+use Rattle.mvpn_audit.specs.Joined.{Kept, Follows}
+use Rattle.mvpn_audit.specs.Receivers.{is_active_now, asks_now, receives_now, receivers_in, receivers_now}
 use Rattle.mvpn_audit.specs.Vpns.{members, vpn_of, vpns_from, vpns_of}
 use Rattle.mvpn_audit.proofs.AskLemmas.{asks_same}
 

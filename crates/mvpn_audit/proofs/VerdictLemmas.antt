@@ -1,37 +1,35 @@
 -- The least offence of a report whose markers fit.
 use Rattle.std.specs.Prelude.{◌||◌, ◌==◌, count_by, option_map}
-use Rattle.std.proofs.Common.{◌≡◌, ℕ, zero, suc, ◌+◌, ◌<◌, ◌≤◌, ◌⊎◌, Bool, true, false, not, cond, inl, inr, ◌++◌, map, take, drop, length, List, [], ◌∷◌, slice_get, Option, None, Some, refl, sym, ap, subst, ◌∙◌, arith}
-use Rattle.std.specs.List.{list_any, flat_map}
+use Rattle.std.proofs.Common.{◌≡◌, ℕ, zero, suc, ◌+◌, ◌<◌, ◌≤◌, ◌⊎◌, Bool, true, false, not, cond, inl, inr, map, take, drop, length, List, [], ◌∷◌, slice_get, Option, None, Some, refl, sym, ap, subst, ◌∙◌, arith}
+use Rattle.std.specs.List.{list_any}
 use Rattle.std.proofs.lemmas.Bool.{true≢false, eq-eqb, eqb-true}
 use Rattle.std.proofs.lemmas.List.Sums.{sum_by-cons}
 use Rattle.std.proofs.lemmas.Option.{none-some, slice_get_within}
 use Rattle.indexmap.specs.IndexSet.{contains}
 use Rattle.mv_base.specs.declared.ids.IfaceId.{IfaceId}
 use Rattle.scenario_defs.specs.Rules.{Rises}
-use Rattle.scenario_defs.specs.declared.event.Script.{Script}
 use Rattle.scenario_defs.specs.declared.event.Timed.{Timed}
 use Rattle.scenario_defs.specs.declared.report.ReportLine.{ReportLine}
 use Rattle.scenario_defs.specs.declared.report.ReportLine.TheVariants as lines
 use Rattle.mvpn_model.specs.Past.{receivers}
-use Rattle.mvpn_model.specs.Report.{Entry, Datagram, datagrams, lines_of, is_out_at, outs_at}
+use Rattle.mvpn_model.specs.Report.{Datagram, lines_of, is_out_at, outs_at}
 use Rattle.audit_defs.specs.declared.verdict.Numbered.{Numbered}
 use Rattle.audit_defs.specs.declared.verdict.Offence.{Offence}
 use Rattle.audit_defs.specs.declared.verdict.Offence.TheVariants as offences
-use Rattle.audit_defs.specs.declared.verdict.ReportLines.{ReportLines}
-use Rattle.audit_defs.specs.Cut.{Given, Audited, audited, give, next_of, places_after, entry_of, cut}
+use Rattle.audit_defs.specs.Cut.{Given, Audited, give, places_after, entry_of, cut}
 use Rattle.audit_defs.specs.Markers.{values, markers, fit, begin, is_marker}
-use Rattle.audit_defs.specs.Offences.{named_before, OutLine, OutOf, EarlierOut, IsMissing, is_receiver, InWindow}
-use Rattle.audit_defs.specs.Verdicts.{is_halt, AreJudged, IsHaltLine, IsMisfit, Offends, HasNoOffence, IsLeast, rank}
+use Rattle.audit_defs.specs.Offences.{OutLine, OutOf, EarlierOut, IsMissing}
+use Rattle.audit_defs.specs.Verdicts.{is_halt, Offends, HasNoOffence, IsLeast, rank}
 use Rattle.audit_defs.proofs.Fitting.{begins_to_fit}
-use Rattle.audit_defs.proofs.Lists.{some_same, both_no, any_got, got_any, got_map, or_left, or_right, and_both}
+use Rattle.audit_defs.proofs.Lists.{some_same, both_no, any_got, got_any, got_map}
 use Rattle.mvpn_audit.specs.declared.case.Case.{Case}
 use Rattle.mvpn_audit.specs.declared.judging.Found.{Found}
 use Rattle.mvpn_audit.specs.declared.judging.Reading.{Reading}
 use Rattle.mvpn_audit.specs.declared.sents.Sent.{Sent}
-use Rattle.mvpn_audit.specs.Case.{scenario_of, events_of, audited_of, past_of, is_windowed, IsCase}
-use Rattle.mvpn_audit.specs.Judging.{ExitSet, is_exit, exit, has_left, IsFaultOf, IsFaultAt, IsFault, AreFaultless, IsLeastFault, IsFirstFault, IsFirst, IsRead}
-use Rattle.mvpn_audit.specs.Marking.{LinesRise, last_line, ComesAfter}
-use Rattle.mvpn_audit.specs.Missing.{has_not_left, lacks, is_missing, line_in, NoneMissing, FirstMissing, IsMissed}
+use Rattle.mvpn_audit.specs.Case.{events_of, audited_of, past_of, is_windowed, IsCase}
+use Rattle.mvpn_audit.specs.Judging.{is_exit, exit, has_left, IsFaultOf, IsFaultAt, IsFault, AreFaultless, IsFirstFault, IsFirst, IsRead}
+use Rattle.mvpn_audit.specs.Marking.{last_line}
+use Rattle.mvpn_audit.specs.Missing.{has_not_left, lacks, is_missing, line_in, FirstMissing, IsMissed}
 use Rattle.mvpn_audit.specs.Sents.{sent_of, sents_of}
 use Rattle.mvpn_audit.proofs.DatagramLemmas.{sent_there, in_order}
 use Rattle.mvpn_audit.proofs.FateLemmas.{got_above}

@@ -1,17 +1,16 @@
 -- The pass over the events, event by event.
 use Rattle.std.specs.Prelude.{◌&&◌}
-use Rattle.std.proofs.Common.{◌≡◌, ℕ, zero, suc, ◌+◌, ◌<◌, ◌≤◌, ◌^◌, Bool, true, false, not, cond, ◌++◌, map, take, drop, length, get_or, List, [], ◌∷◌, slice_get, Option, None, Some, refl, sym, ap, subst, ◌∙◌, arith}
-use Rattle.std.proofs.lemmas.Bool.{true≢false, cases_Bool}
+use Rattle.std.proofs.Common.{◌≡◌, ℕ, zero, suc, ◌+◌, ◌<◌, ◌^◌, Bool, true, false, not, cond, ◌++◌, map, take, drop, length, List, [], ◌∷◌, slice_get, Option, None, Some, refl, sym, ap, subst, ◌∙◌, arith}
+use Rattle.std.proofs.lemmas.Bool.{true≢false}
 use Rattle.std.proofs.lemmas.Option.{none-some, slice_get_within}
-use Rattle.std.specs.List.{AllByRecursion}
-use Rattle.scenario_defs.specs.Rules.{ScriptRules, IsEventOf}
+use Rattle.scenario_defs.specs.Rules.{IsEventOf}
 use Rattle.scenario_defs.specs.declared.event.Event.{Event}
 use Rattle.scenario_defs.specs.declared.event.Event.TheVariants as events
 use Rattle.scenario_defs.specs.declared.event.Timed.{Timed}
 use Rattle.scenario_defs.specs.declared.scenario.Scenario.{Scenario}
 use Rattle.mvpn_model.specs.declared.message.Given.{Given}
 use Rattle.mvpn_model.specs.Messages.{message_of}
-use Rattle.mvpn_model.specs.Past.{Past, is_accepted, ticks_of, ticks_in, receivers}
+use Rattle.mvpn_model.specs.Past.{Past, is_accepted, ticks_of, ticks_in}
 use Rattle.mvpn_model.specs.Packet.{packet}
 use Rattle.mvpn_model.specs.Packets.{source_in, group_in}
 use Rattle.mvpn_model.specs.Report.{Datagram, sent_by, datagrams}
@@ -25,24 +24,21 @@ use Rattle.mvpn_audit.specs.declared.joined.Joined.{Joined}
 use Rattle.mvpn_audit.specs.declared.receivers.Flow.{Flow}
 use Rattle.mvpn_audit.specs.declared.sents.Sent.{Sent}
 use Rattle.mvpn_audit.specs.declared.sents.Walk.{Walk}
-use Rattle.mvpn_audit.specs.Case.{scenario_of, events_of, audited_of, past_of, fates_of, is_open, is_windowed, IsCase}
-use Rattle.mvpn_audit.specs.Fates.{fates_from, is_refused, opened, opens_after, closes, closings}
-use Rattle.mvpn_audit.specs.Joined.{Kept, kept_of, Follows, GoesOn, TakesMessage, TakesGiven, SetsNote, Steps, IsEmpty, IsFresh}
-use Rattle.mvpn_audit.specs.Receivers.{receivers_now}
-use Rattle.mvpn_audit.specs.Sents.{flow_of, fate_in, closing_in, sent_now, sent_of, sents_before, sents_of, IsAccepted, IsStepped, IsWalked}
-use Rattle.mvpn_audit.proofs.DatagramLemmas.{sent_at, one_more_sent}
+use Rattle.mvpn_audit.specs.Case.{scenario_of, events_of, audited_of, past_of, fates_of, is_open, IsCase}
+use Rattle.mvpn_audit.specs.Fates.{is_refused, opened, opens_after, closes, closings}
+use Rattle.mvpn_audit.specs.Joined.{Kept, kept_of, Follows, TakesGiven, Steps, IsEmpty, IsFresh}
+use Rattle.mvpn_audit.specs.Sents.{flow_of, fate_in, closing_in, sent_now, sent_of, sents_before, sents_of, IsStepped, IsWalked}
+use Rattle.mvpn_audit.proofs.DatagramLemmas.{append_none, sent_at, one_more_sent}
 use Rattle.mvpn_audit.proofs.FateLemmas.{event_judged}
 use Rattle.mvpn_audit.proofs.FollowLemmas.{one_more, refused_follows, steps_follow, empty_follows}
-use Rattle.mvpn_audit.proofs.InWindows.{length_fates}
 use Rattle.mvpn_audit.proofs.ReceiverLemmas.{receivers_same}
-use Rattle.mvpn_audit.proofs.WayLemmas.{item_at}
 
 -- ---- lists
 
 pub next_is : (n : ℕ) → n + 1 ≡ suc n
 next_is n = omega arith
 
-take_next : {X : Type 0} (xs : List X) (n : ℕ) (x : X) → slice_get xs n ≡ Some x → take (suc n) xs ≡ take n xs ++ x ∷ []
+pub take_next : {X : Type 0} (xs : List X) (n : ℕ) (x : X) → slice_get xs n ≡ Some x → take (suc n) xs ≡ take n xs ++ x ∷ []
 take_next [] n x e = absurd (none-some x e)
 take_next (y ∷ ys) zero x e = (λ i. some_same y x e i ∷ [])
 take_next (y ∷ ys) (suc n) x e = (λ i. y ∷ take_next ys n x e i)
@@ -65,10 +61,6 @@ opened_next before (first ∷ all) (own ∷ fates) (suc n) timed fate e f = open
 map_append : {X Y : Type 0} (f : X → Y) (xs ys : List X) → map f (xs ++ ys) ≡ map f xs ++ map f ys
 map_append f [] ys = refl
 map_append f (x ∷ xs) ys = (λ i. f x ∷ map_append f xs ys i)
-
-append_nothing : {X : Type 0} (xs : List X) → xs ++ [] ≡ xs
-append_nothing [] = refl
-append_nothing (x ∷ xs) = (λ i. x ∷ append_nothing xs i)
 
 closing_at : (all : List Timed) (fates : List Fate) (n : ℕ) (timed : Timed) (fate : Fate) → slice_get all n ≡ Some timed → slice_get fates n ≡ Some fate →
     slice_get (closings all fates) n ≡ Some (closes (drop n all) (drop n fates))
@@ -108,14 +100,8 @@ module _ (case : Case) (is : IsCase case) (number : ℕ) (timed : Timed) (at : s
       let j = event_judged case.script.now case.report.now case.marked.now is.rules.lines is.marked number timed at in
       (j.there.fate, j.there.at, j.refused)
 
-  pub number_small : number < 200000
+  number_small : number < 200000
   number_small = (let less = slice_get_within (events_of case) number timed at in let few = is.rules.few in omega (arith, less, few))
-
-  pub in_fates : number < length case.fates.now
-  in_fates =
-      let less = slice_get_within (events_of case) number timed at in
-      let same = ap length is.fates ∙ length_fates 0 (events_of case) case.marked.now in
-      omega (arith, less, same)
 
   pub fate_is : (fate : Fate) → slice_get case.fates.now number ≡ Some fate → (slice_get (fates_of case) number ≡ Some fate) × (is_refused fate ≡ not (is_accepted refused timed))
   fate_is fate e =
@@ -143,13 +129,13 @@ module _ (case : Case) (is : IsCase case) (number : ℕ) (timed : Timed) (at : s
 
   pub refused_sents : is_accepted refused timed ≡ false → sents_before case (number + 1) ≡ sents_before case number
   refused_sents isnt =
-      sents_next ∙ (ap (λ b. sents_before case number ++ map (sent_of case) (cond b (sent_by number timed.event) [])) isnt ∙ append_nothing (sents_before case number))
+      sents_next ∙ (ap (λ b. sents_before case number ++ map (sent_of case) (cond b (sent_by number timed.event) [])) isnt ∙ append_none (sents_before case number))
 
   accepted_sents : is_accepted refused timed ≡ true → sents_before case (number + 1) ≡ sents_before case number ++ map (sent_of case) (sent_by number timed.event)
   accepted_sents holds = sents_next ∙ ap (λ b. sents_before case number ++ map (sent_of case) (cond b (sent_by number timed.event) [])) holds
 
   pub quiet_sents : is_accepted refused timed ≡ true → flow_of timed.event ≡ None → sents_before case (number + 1) ≡ sents_before case number
-  quiet_sents holds none = accepted_sents holds ∙ (ap (λ (l : List Datagram). sents_before case number ++ map (sent_of case) l) (by timed.event none) ∙ append_nothing (sents_before case number))
+  quiet_sents holds none = accepted_sents holds ∙ (ap (λ (l : List Datagram). sents_before case number ++ map (sent_of case) l) (by timed.event none) ∙ append_none (sents_before case number))
     where
       by : (event : Event) → flow_of event ≡ None → sent_by number event ≡ []
       by (events.Send site source group payload) e = absurd (none-some _ (sym e))

@@ -1,6 +1,6 @@
 -- The offences of `out` lines, by the datagrams that were accepted.
 use Rattle.std.specs.Prelude.{◌≡◌, ◌≢◌, ℕ, zero, suc, ◌+◌, ◌<◌, ◌≤◌, ◌==◌, ◌||◌, nat_lt, nat_eq, Bool, true, false, not, List, [], take, drop, length}
-use Rattle.std.specs.Prelude.{slice_get, map, Option, None, Some, if◌then◌else◌}
+use Rattle.std.specs.Prelude.{slice_get, Option, None, Some, if◌then◌else◌}
 use Rattle.std.specs.List.{list_any}
 use Rattle.std.specs.declared.hash.FoldHasher.{FoldHasher}
 use Rattle.std.specs.declared.hash.BuildHasherDefault.{BuildHasherDefault}
@@ -19,10 +19,9 @@ use Rattle.scenario_defs.specs.Rules.{payload_limit}
 use Rattle.scenario_defs.specs.Vpn.{is_of_site}
 use Rattle.mvpn_model.specs.Packet.{packet}
 use Rattle.mvpn_model.specs.Report.{Datagram, is_out_at}
-use Rattle.audit_defs.specs.declared.verdict.Numbered.{Numbered}
 use Rattle.audit_defs.specs.declared.verdict.Offence.{Offence}
 use Rattle.audit_defs.specs.declared.verdict.Offence.TheVariants as offences
-use Rattle.audit_defs.specs.Cut.{Given, Audited, give, next_of}
+use Rattle.audit_defs.specs.Cut.{Given, Audited, give}
 use Rattle.audit_defs.specs.Offences.{iface_admits, site_admitted, named_before, InWindow, is_receiver}
 use Rattle.audit_defs.specs.Markers.{is_marker}
 use Rattle.audit_defs.specs.Verdicts.{rank}

@@ -1,5 +1,5 @@
 -- Who receives a flow, by what is kept.
-use Rattle.std.specs.Prelude.{ℕ, ◌==◌, ◌&&◌, Bool, false, not, List, [], filter, slice_get, Option, None, Some, if◌then◌else◌}
+use Rattle.std.specs.Prelude.{◌==◌, ◌&&◌, Bool, false, not, List, [], filter, slice_get, None, Some, if◌then◌else◌}
 use Rattle.std.specs.List.{list_any}
 use Rattle.mv_base.specs.declared.ids.IfaceId.{IfaceId}
 use Rattle.scenario_defs.specs.declared.scenario.Scenario.{Scenario}

@@ -33,7 +33,6 @@ fn is_missing(exits: &Exits, number: u64, sent: &Sent) -> bool
 }
 
 /// The event of the first datagram that did not leave where it was asked for.
-#[tactic(auto, using(crate::proofs::MissingLemmas::none_at_first, crate::proofs::MissingLemmas::one_more_none, crate::proofs::MissingLemmas::all_none, crate::proofs::MissingLemmas::first_is))]
 pub(crate) fn first_missing(exits: &Exits, sents: &[Sent]) -> Option<usize>
     ensures { IsMissed exits.now sents.now result }
 {

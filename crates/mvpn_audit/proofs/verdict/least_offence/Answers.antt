@@ -1,4 +1,4 @@
-use Rattle.std.proofs.Common.{List, sym, ap, ◌∙◌}
+use Rattle.std.proofs.Common.{List, ap, ◌∙◌}
 use Rattle.scenario_defs.specs.declared.event.Timed.{Timed}
 use Rattle.mvpn_audit.specs.Missing.{line_in}
 use Rattle.mvpn_audit.proofs.VerdictLemmas.{missing_answer, first_answer, none_answer}

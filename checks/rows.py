@@ -66,10 +66,8 @@ class Row:
         """Who runs the row. The reference program has no command but `replay` and `audit`."""
         if self.by:
             return [self.by]
-        if self.words == ['audit']:
-            return ['reference']
         is_replayed = self.words[:1] == ['replay'] and self.status in REPLAYED
-        return ['program', 'reference'] if is_replayed else ['program']
+        return ['program', 'reference'] if is_replayed or self.words == ['audit'] else ['program']
 
 
 # ---- texts of input

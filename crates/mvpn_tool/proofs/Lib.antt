@@ -6,6 +6,7 @@ pub mod EventLemmas
 pub mod OutcomeLemmas
 pub mod EndLemmas
 pub mod DecodeLemmas
+pub mod AuditLemmas
 pub mod RunsLemmas
 pub mod CountLemmas
 pub mod SweepLemmas

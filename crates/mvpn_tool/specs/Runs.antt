@@ -16,6 +16,12 @@ use Rattle.mvpn_tool.specs.Report.{AllRun, OneHalts}
 use Rattle.mvpn_tool.specs.Outcome.{EndsFaulty, EndsEarly, EndsHalted, EndsWellSome}
 use Rattle.mvpn_tool.specs.DecodeOutcome.{Decoded, DecodesFaulty, DecodesEarly}
 use Rattle.mvpn_tool.specs.Sweep.{SweepsPart, SweepsWellSome}
+use Rattle.audit_defs.specs.declared.verdict.Offence.{Offence}
+use Rattle.audit_defs.specs.declared.verdict.ReportLines.{ReportLines}
+use Rattle.audit_defs.specs.declared.verdict.Verdict.TheVariants as verdicts
+use Rattle.audit_defs.specs.Verdicts.{HasNoOffence, Offends}
+use Rattle.audit_text.specs.Texts.{HasFault as HasTextFault, Says}
+use Rattle.mvpn_tool.specs.AuditOutcome.{AuditsEarly, AuditsFaulty, Judged}
 use Rattle.mvpn_tool.specs.declared.command.Command.{Command}
 use Rattle.mvpn_tool.specs.declared.command.Command.TheVariants as commands
 use Rattle.mvpn_tool.specs.declared.command.Detail.{Detail}
@@ -147,6 +153,39 @@ pub record SweepRun (number : ℕ) (e : Ending) : Type 0 where
   pub only : (e.status ≡ 0) ⊎ (e.status ≡ 5) ⊎ (e.status ≡ 6)
   pub untouched : Untouched e
 
+-- the source tells what it had left, which says this script and this report
+abbrev pub GivesReport : Ending → Script → ReportLines → Type 0
+GivesReport e script report = (input : List ℕ) × (e.left ≡ Some input) × Says input script report
+
+-- `audit`
+pub record AuditRun (e : Ending) : Type 0 where
+  -- the report has no offence, and the line `yes` was written
+  pub zero : e.status ≡ 0 → Judged e.left e.old e.new verdicts.Yes
+  pub zero_always :
+      (script : Script) (report : ReportLines) → GivesReport e script report → HasNoOffence script report →
+      (e.status ≡ 0) ⊎ IsStopped e.status
+  -- it has one, and the line that tells the least was written
+  pub eight : e.status ≡ 8 → (line : ℕ) × (reason : Offence) × Judged e.left e.old e.new (verdicts.No line reason)
+  pub eight_always :
+      (script : Script) (report : ReportLines) (line : ℕ) (reason : Offence) → GivesReport e script report →
+      Offends script report line reason → (e.status ≡ 8) ⊎ IsStopped e.status
+  -- the text has a fault, and the line that tells it is written alone
+  pub three : e.status ≡ 3 → AuditsFaulty e.left e.old e.new
+  pub three_always :
+      (input : List ℕ) (fault : TextFault) → e.left ≡ Some input → HasTextFault input fault → (e.status ≡ 3) ⊎ IsStopped e.status
+  pub four : e.status ≡ 4 → Wrote e []
+  pub four_cause : e.status ≡ 4 → SourceFailed e
+  pub five : e.status ≡ 5 → AuditsEarly e.left e.old e.new
+  pub five_cause : e.status ≡ 5 → SinkFailed e
+  pub six : e.status ≡ 6 → Wrote e [] ⊎ AuditsEarly e.left e.old e.new
+  pub taken : e.status ≢ 4 → e.status ≢ 6 → Taken e.left e.rest
+  -- where neither end failed, nothing but memory keeps a report from being judged
+  pub complete :
+      (script : Script) (report : ReportLines) → (SourceFailed e → ⊥) → (SinkFailed e → ⊥) → GivesReport e script report →
+      (e.status ≡ 0) ⊎ (e.status ≡ 6) ⊎ (e.status ≡ 8)
+  pub only : (e.status ≡ 0) ⊎ (e.status ≡ 3) ⊎ (e.status ≡ 8) ⊎ IsStopped e.status
+  pub worldless : e.world ≡ None
+
 -- how a call ends whose words name that command, or none
 abbrev pub Runs : Option Command → Ending → Type 0
 Runs None e = UsageRun e
@@ -154,3 +193,4 @@ Runs (Some (commands.Replay detail)) e = ReplayRun detail e
 Runs (Some (commands.Decode format)) e = DecodeRun format e
 Runs (Some (commands.Make number)) e = MakeRun number e
 Runs (Some (commands.Sweep number)) e = SweepRun number e
+Runs (Some commands.Audit) e = AuditRun e

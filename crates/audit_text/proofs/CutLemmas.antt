@@ -10,7 +10,7 @@ use Rattle.std.proofs.lemmas.List.Folds.{list_any-append}
 use Rattle.std.proofs.lemmas.List.Quantifiers.{position-Some}
 use Rattle.std.proofs.lemmas.List.Splits.{slice_split_at, length-slice_split}
 use Rattle.line_words.proofs.WordsLemmas.{lines-first, lines-whole}
-use Rattle.audit_text.specs.Texts.{AreCut, is_mark}
+use Rattle.audit_text.specs.Texts.{is_mark}
 use Rattle.audit_text.specs.Cutting.{AreParts, line_length}
 
 -- ---- a line with its line feed

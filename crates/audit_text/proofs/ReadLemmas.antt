@@ -1,6 +1,6 @@
 -- The lines of a report, read one by one, and what a whole text says by its parts.
-use Rattle.std.proofs.Common.{◌≡◌, ℕ, ◌+◌, ◌<◌, ◌≤◌, List, [], ◌∷◌, ◌++◌, length, refl, sym, ap, ◌∙◌, subst, arith, append_assoc, append-nil, length-append}
-use Rattle.std.specs.Prelude.{Result, Ok, Err}
+use Rattle.std.proofs.Common.{◌≡◌, ℕ, ◌+◌, ◌≤◌, List, [], ◌∷◌, ◌++◌, length, refl, sym, ap, ◌∙◌, subst, arith, append_assoc, append-nil, length-append}
+use Rattle.std.specs.Prelude.{Ok, Err}
 use Rattle.std.specs.Str.Lines.{lines}
 use Rattle.scenario_defs.specs.declared.event.Script.{Script}
 use Rattle.scenario_defs.specs.declared.scenario.Scenario.{Scenario}
@@ -9,8 +9,7 @@ use Rattle.line_words.specs.Answers.{Fails}
 use Rattle.line_words.specs.declared.fault.ReadFault.{ReadFault}
 use Rattle.line_words.specs.declared.fault.ReadFault.TheVariants as faults
 use Rattle.line_words.specs.declared.fault.TextFault.{TextFault}
-use Rattle.scenario_lines.specs.scenario_draft.Adding.{empty_draft}
-use Rattle.scenario_text.specs.Grammar.{script_from, script_of}
+use Rattle.scenario_text.specs.Grammar.{script_of}
 use Rattle.scenario_text.proofs.FaultsLemmas.{short_text}
 use Rattle.audit_defs.specs.declared.verdict.Numbered.{Numbered}
 use Rattle.audit_defs.specs.declared.verdict.ReportLines.{ReportLines}

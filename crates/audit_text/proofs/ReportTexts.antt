@@ -1,13 +1,12 @@
 -- The lines of a report, written one behind another, are read line by line; behind a script and the line `report` they are a text of an audit.
-use Rattle.std.proofs.Common.{rules, ◌≡◌, ℕ, zero, suc, ◌+◌, ◌-◌, ◌<◌, ◌≤◌, ◌==◌, ◌&&◌, ◌^◌, ◌⊎◌, ◌/◌, ◌%◌, Bool, true, false, not, cond, List, [], ◌∷◌, ◌++◌, length, map, get_or, refl, sym, ap, subst, ◌∙◌, arith, inl, inr, append_assoc, append-nil, length-append, None, Some, Option, slice_get}
-use Rattle.std.specs.Prelude.{Result, Ok, Err, codes, decimal}
+use Rattle.std.proofs.Common.{rules, ◌≡◌, ℕ, zero, suc, ◌+◌, ◌-◌, ◌<◌, ◌≤◌, ◌==◌, ◌&&◌, ◌^◌, ◌/◌, ◌%◌, Bool, true, false, not, cond, List, [], ◌∷◌, ◌++◌, length, map, get_or, refl, sym, ap, subst, ◌∙◌, arith, append_assoc, append-nil, length-append, None, Some, Option, slice_get}
+use Rattle.std.specs.Prelude.{Ok, codes, decimal}
 use Rattle.std.specs.Char.{is_ascii_digit}
-use Rattle.std.specs.List.{All, list_all, list_any, slice_split, onto_first, flat_map, AllByRecursion}
+use Rattle.std.specs.List.{All, list_all, slice_split, onto_first, flat_map, AllByRecursion}
 use Rattle.std.specs.Str.Lines.{lines, lines_of_parts, strip_carriage_return}
-use Rattle.std.proofs.lemmas.Bool.{and_parts, and_from, cases_lt}
+use Rattle.std.proofs.lemmas.Bool.{and_parts, and_from}
 use Rattle.std.proofs.lemmas.Bool.Decides.{nat_tests}
 use Rattle.std.proofs.lemmas.Fmt.{decimal_is_IsNumeral}
-use Rattle.std.proofs.lemmas.List.{get_or_past}
 use Rattle.std.proofs.lemmas.List.Elements.{All-nil, All-cons}
 use Rattle.std.proofs.lemmas.List.Folds.{list_all-append}
 use Rattle.std.proofs.lemmas.List.Splits.{length-slice_split}
@@ -16,7 +15,7 @@ use Rattle.mv_base.specs.declared.ids.IfaceId.{IfaceId}
 use Rattle.mv_base.specs.declared.ids.NodeId.{NodeId}
 use Rattle.scenario_defs.specs.Names.{is_name, is_name_octet}
 use Rattle.scenario_defs.specs.Rules.{Rules}
-use Rattle.scenario_defs.specs.Text.{IsLineOf, ends_text, fault_word, hex_text, iface_name, kind_word, line_text, node_name, refusal_text}
+use Rattle.scenario_defs.specs.Text.{ends_text, fault_word, hex_text, iface_name, kind_word, line_text, node_name, refusal_text}
 use Rattle.scenario_defs.specs.declared.event.Kind.{Kind}
 use Rattle.scenario_defs.specs.declared.event.Kind.TheVariants as kinds
 use Rattle.scenario_defs.specs.declared.event.Script.{Script}
@@ -39,7 +38,7 @@ use Rattle.scenario_text.proofs.FaultsLemmas.{short_text}
 use Rattle.audit_defs.specs.declared.verdict.Numbered.{Numbered}
 use Rattle.audit_defs.specs.declared.verdict.ReportLines.{ReportLines}
 use Rattle.audit_defs.specs.Markers.{values}
-use Rattle.audit_text.specs.Texts.{AreWritten, IsKnown, IsWritten, Says, with_report}
+use Rattle.audit_text.specs.Texts.{AreWritten, IsKnown, Says, with_report}
 use Rattle.audit_text.proofs.CutLemmas.{first_line}
 use Rattle.audit_text.proofs.MarkLemmas.{said_unmarked}
 use Rattle.audit_text.proofs.SaysLemmas.{front_rules}

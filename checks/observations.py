@@ -6,14 +6,15 @@ frame. What the tool answers, by file and frame, has to be what was laid out: th
 was lost, or left where nobody asked. The same packets come behind tags, on other links and in other formats; some cases compare the
 events of the input. The captures that are kept in examples/lab/ are judged as well.
 
-The reference program judges, and where a command is named, that one too: both have to answer the same. Neither root nor a network is
-needed. Prints the cases that differ, and then 'N passed, M failed'.
+The reference program judges, and so does the program where its usage line has the command `audit`: `./mvpn` of this repository, unless
+another one is named. Neither root nor a network is needed. Prints the cases that differ, and then 'N passed, M failed'.
 """
 
 import argparse
 import hashlib
 import ipaddress
 import pathlib
+import shlex
 import struct
 import subprocess
 import sys
@@ -144,11 +145,11 @@ def cooked_2(frame):
 
 def timed(frames, link, made):
     """A file of pcap with the frames' times."""
-    octets = pcap_file([], link)
+    octets = [pcap_file([], link)]
     for frame in frames:
         body, time = made(frame), round(frame.time * 10 ** 6)
-        octets += struct.pack('<IIII', 1000 + time // 10 ** 6, time % 10 ** 6, len(body), len(body)) + body
-    return octets
+        octets += [struct.pack('<IIII', 1000 + time // 10 ** 6, time % 10 ** 6, len(body), len(body)), body]
+    return b''.join(octets)
 
 
 def timed_ng(frames):
@@ -444,12 +445,17 @@ def cases(commands):
     yield from lab_cases(commands)
 
 
+def has_audit(command):
+    run = subprocess.run(shlex.split(command), stdin=subprocess.DEVNULL, capture_output=True, text=True)
+    return ' audit' in run.stdout
+
+
 def main():
     options = argparse.ArgumentParser(description='Compares what tools/observe.py makes of captures with what is wanted.')
-    options.add_argument('--command', help='judges as well')
+    options.add_argument('--command', default=str(TOP / 'mvpn'), help='judges as well')
     command = options.parse_args().command
     passed, failed = 0, 0
-    for name, told in cases([REFERENCE, *([command] if command else [])]):
+    for name, told in cases([REFERENCE, *([command] if has_audit(command) else [])]):
         print(f'{name}: {told}\n' if told else '', end='')
         passed, failed = passed + (not told), failed + bool(told)
     print(f'{passed} passed, {failed} failed')

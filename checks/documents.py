@@ -6,8 +6,8 @@ what looks like a path of this repository does, as `network_defs/specs/Acts.antt
 of a crate. A word in capitals, as in `crates/NAME`, stands for any name. In ARCHITECTURE: that each crate is in one room of the
 house; that in the table of rules a path without a crate is beside the one before it; and that the recipe for a new event names
 exactly the crates in which two events both have a case, with each file of `src` and `specs` that has both. In CALLS: that each
-crate with public functions has a row. In FAULTS: that each section has a row for exactly the words of its enum in the code; that an
-example of a script or of a report is answered so by the reference program; and that one of octets is a row of checks/rows.
+crate with public functions has a row. In FAULTS: that each section has a row for exactly the words of its enum in the code, with
+an example, which is a row of rows.py.
 
 Of the crates: that each begins with a paragraph about itself, at the head of `src/lib.rt` or `src/main.rt`; and that the ways
 down crates.txt, which `rt` walks at each start, are not too many.
@@ -23,9 +23,7 @@ import re
 import subprocess
 import sys
 
-from reference.audit import audit
-from reference.replaying import replay
-from rows import Book
+from rows import faults
 
 TOP = pathlib.Path(__file__).resolve().parent.parent
 CRATES = TOP / 'crates'
@@ -36,7 +34,6 @@ FOLDERS = ('checks', 'docs', 'bench', 'tools', 'examples', 'crates')
 MERGE = re.compile(r'^(<{7}|>{7}|\|{7}) |^={7}$')
 LINK = re.compile(r'\]\(([^)#\s]*)(?:#([^)\s]*))?\)')
 QUOTED = re.compile(r'`([A-Za-z0-9_./-]+)`')
-QUOTED_TEXT = re.compile(r'`([^`]*)`')
 ANY_NAME = re.compile(r'(^|/)[A-Z]+(/|$)')
 # two events that are alike in nothing but that they are events: what has a case for both goes by cases over all of them
 EVENTS = (re.compile(r'\bIdle\b'), re.compile(r'\bUnselect\b'))
@@ -53,8 +50,6 @@ WORDS = {
     'Faults of LDP PDUs': ('mldp/src/mldp_msgs/fault.rt', 'LdpFault'),
     'Offences of a report': ('audit_defs/src/verdict.rt', 'Offence'),
 }
-# the scenario that `FIRST` stands for in FAULTS, and the octets that F stands for
-FIRST, MARKER = 'examples/first-run.txt', 'f' * 32
 LEAST_HEAD = 4
 MOST_WAYS = 100_000
 
@@ -197,60 +192,24 @@ def words_of(path, name):
     return ['self' if name == 'Same' else re.sub(r'(?<!^)(?=[A-Z])', '-', name).lower() for name in variants]
 
 
-def told_words(number, lines):
-    """The rows of a section of FAULTS, each with its line, its word, the words of a `decode` that its table is of, and its cells."""
-    words = ''
-    for at, line in enumerate(lines, number):
-        cells = [cell.strip() for cell in line.strip().strip('|').split(' | ')]
-        if line.startswith('| word'):
-            decode = re.search('`(decode .*?)`', cells[1])
-            words = decode[1] if decode else ''
-        word = re.match(r'\| `([a-z-]+)', line)
-        if word:
-            yield at, word[1], words, cells
-
-
-def scenario_of_first():
-    lines = (TOP / FIRST).read_text().splitlines()
-    return [line for line in lines[:lines.index('events')] if not line.startswith('#')]
-
-
-@functools.cache
-def decoded_rows():
-    """The inputs without white space, and the last lines, of the rows of `decode`, each with its words."""
-    rows = Book(sorted((TOP / 'checks' / 'rows').glob('*.txt'))).rows
-    return {
-        (' '.join(row.words), ''.join(row.input.decode('latin-1').split()).lower(), row.output.rstrip('\n').rpartition('\n')[2])
-        for row in rows if row.words[:1] == ['decode']}
-
-
-def is_example_right(words, example):
-    """Whether an example in a row of FAULTS is answered so; what stands there in other words than a text counts as right."""
-    given, _, answer = example.partition(' → ')
-    texts, answer = QUOTED_TEXT.findall(given), answer.strip('`')
-    if words:
-        octets = ''.join(texts[0].replace('F ', MARKER).split()).lower()
-        return (words, octets, answer) in decoded_rows()
-    if not texts:
-        return True
-    lines = [line for text in texts for line in (scenario_of_first() if text == 'FIRST' else [text])]
-    text = '\n'.join(lines) + '\n'
-    came, _ = audit(text) if 'report' in lines else replay(text.encode(), False)
-    return came == answer + '\n'
+def told_words(lines):
+    """The words of the rows of a section of FAULTS."""
+    return [found[1] for found in (re.match(r'\| `([a-z-]+)', line) for line in lines) if found]
 
 
 def faults_of_words(text):
-    """The words that a section of FAULTS lacks or has for nothing, and its examples that are answered otherwise."""
+    """The words that a section of FAULTS lacks or has for nothing, and rows of it that are none of three cells."""
     for title, (path, name) in WORDS.items():
         number, lines = section(text, title)
-        rows = list(told_words(number, lines))
-        told, wanted = [word for _, word, _, _ in rows], words_of(path, name)
+        told, wanted = told_words(lines), words_of(path, name)
         for word in sorted({*told, *wanted}):
             if told.count(word) != 1 or word not in wanted:
                 yield number, f'{word} of {name} has {told.count(word)} rows'
-        for at, word, words, cells in rows:
-            if len(cells) != 3 or not is_example_right(words, cells[1]):
-                yield at, f'the example of {word} is answered otherwise'
+        for at, line in enumerate(lines, number):
+            if line.startswith('| `') and (line.count(' | ') != 2 or ' → ' not in line.split(' | ')[1]):
+                yield at, 'no row of a word, an example and what to do'
+    if not any(faults()):
+        yield 0, 'no example that rows.py runs'
 
 
 def faults_of_document(document):

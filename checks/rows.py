@@ -4,7 +4,7 @@
 A row is the words of a command, its input, the whole output and the status. Rows stand in checks/rows/*.txt, and each
 examples/NAME.txt with its NAME.report is one more; its status is 7 where the last line of the report begins with `halt `, and else
 0. The command is `./mvpn` of this repository, unless another one is named. Rows of `replay` are run by the reference program of the
-definitions too. With files, only rows of these are run.
+definitions too. With files, only rows of these are run. Each example of docs/FAULTS.md is a row of the one line that is told there.
 
 A file of rows is made of blocks, and the first word of a block says what it is. Blank lines, and those that begin with
 `#`, are passed over.
@@ -39,6 +39,7 @@ from dataclasses import dataclass
 
 TOP = pathlib.Path(__file__).resolve().parent.parent
 ROWS = TOP / 'checks' / 'rows'
+FAULTS, FIRST = TOP / 'docs' / 'FAULTS.md', TOP / 'examples' / 'first-run.txt'
 REFERENCE = [sys.executable, str(TOP / 'checks' / 'reference.py')]
 ESCAPES = {'n': '\n', 'r': '\r', 't': '\t', '\\': '\\', '\n': ''}
 # the first words of blocks
@@ -194,6 +195,32 @@ def examples():
         yield Row(f'examples/{path.name}', ['replay'], path.read_bytes(), report, status)
 
 
+def faults():
+    """The examples of FAULTS that are told as texts: lines between backquotes, or octets for the `decode` that the table is of."""
+    words = ['replay']
+    for number, line in enumerate(FAULTS.read_text().splitlines(), 1):
+        example, arrow, answer = line.split(' | ')[1].partition(' → ') if line.count(' | ') == 2 else ('', '', '')
+        texts = re.findall('`([^`]*)`', example)
+        if line.startswith('| word'):
+            decode = re.search('`(decode .*?)`', line)
+            words = decode[1].split() if decode else ['replay']
+        elif arrow and texts:
+            yield fault_row(f'docs/FAULTS.md:{number}', words, texts, answer.strip('`'))
+
+
+def fault_row(place, words, texts, answer):
+    kind = answer.split()[0]
+    row = Row(place, words, output=answer + '\n', kinds=(kind,), status={'fault': 3, 'no': 8, 'refused': int(words[0] == 'decode')}[kind])
+    if words[0] == 'decode':
+        row.input = re.sub('^F ', 'f' * 32, texts[0]).encode()
+        return row
+    first = re.sub('(?m)^#.*\n', '', FIRST.read_text()).partition('events\n')[0]
+    row.input = ''.join(first if text == 'FIRST' else text + '\n' for text in texts).encode()
+    if 'report' in texts:
+        row.words, row.by = ['audit'], 'reference'
+    return row
+
+
 # ---- the check
 
 def differs(row, command, runner):
@@ -226,9 +253,9 @@ def main():
     options.add_argument('--command', default=str(TOP / 'mvpn'), help='runs the program')
     options.add_argument('files', nargs='*', help='names of files of rows, without .txt')
     given = options.parse_args()
-    rows = Book(sorted(ROWS.glob('*.txt'))).rows + list(examples())
+    rows = Book(sorted(ROWS.glob('*.txt'))).rows + [*examples(), *faults()]
     if given.files:
-        rows = [row for row in rows if re.split(r'\.txt', row.place)[0] in given.files]
+        rows = [row for row in rows if re.split(r'\.txt|\.md', row.place)[0] in given.files]
     commands = {'program': shlex.split(given.command), 'reference': REFERENCE}
     if not starts(commands['program']):
         print('the program does not start\n0 passed, 1 failed')

@@ -4,7 +4,7 @@
 A row is the words of a command, its input, the whole output and the status. Rows stand in checks/rows/*.txt, and each
 examples/NAME.txt with its NAME.report is one more; its status is 7 where the last line of the report begins with `halt `, and else
 0. The command is `./mvpn` of this repository, unless another one is named. Rows of `replay` are run by the reference program of the
-definitions too. With files, only rows of these are run. Each example of docs/FAULTS.md is a row of the one line that is told there.
+definitions too. With files, only rows of these are run.
 
 A file of rows is made of blocks, and the first word of a block says what it is. Blank lines, and those that begin with
 `#`, are passed over.
@@ -25,7 +25,8 @@ A file of rows is made of blocks, and the first word of a block says what it is.
         kinds K, K          only the lines of the output that begin with one of these are compared
         status N            the status; 0 where there is no such line
 
-Scenarios and short words count in all files. Prints the rows that differ, and then 'N passed, M failed'.
+Scenarios and short words count in all files. Each example of docs/FAULTS.md is a row as well, of the one line that is told
+there. Prints the rows that differ, and then 'N passed, M failed'.
 """
 
 import argparse

@@ -3,8 +3,8 @@
 report: `reference.py audit`; or writes the file of its hops: `reference.py pcap`; or tells the lines of such a file: `reference.py hops`.
 
 The text is read from standard input. What is written, and the status, are as by the program's `replay`: the report, with status 7
-where a line `halt` ends it, or the line of the text's first fault, with status 3. A text of `audit` is taken as well formed; the
-judgement is `yes`, or `no LINE REASON` with status 8.
+where a line `halt` ends it, or the line of the text's first fault, with status 3; and of `audit` `yes`, or `no LINE REASON` with
+status 8, or such a fault.
 """
 
 import sys
@@ -16,7 +16,7 @@ from reference.replaying import replay
 
 def main(words):
     if words == ['audit']:
-        text, status = audit(sys.stdin.read())
+        text, status = audit(sys.stdin.buffer.read())
     elif words == ['hops']:
         text, status = hops(sys.stdin.buffer.read())
     elif words == ['pcap']:

@@ -3,7 +3,8 @@
 
 A row is the words of a command, its input, the whole output and the status. Rows stand in checks/rows/*.txt, and each
 examples/NAME.txt with its NAME.report is one more; its status is 7 where the last line of the report begins with `halt `, and else
-0. The command is `./mvpn` of this repository, unless another one is named. Rows of `replay`, `pcap` and `hops` are run by the
+0. So is each examples/NAME.audit with its NAME.answer, a row of `audit`, of status 0 where the answer is `yes`, and else 8. The
+command is `./mvpn` of this repository, unless another one is named. Rows of `replay`, `audit`, `pcap` and `hops` are run by the
 reference program of the definitions too. With files, only rows of these are run.
 
 A file of rows is made of blocks, and the first word of a block says what it is. Blank lines, and those that begin with
@@ -66,9 +67,11 @@ class Row:
     by: str = ''
 
     def runners(self):
-        """Who runs the row. The reference program has few commands; rows of `audit` name it as the one that runs them."""
+        """Who runs the row. The reference program has few commands; rows of `audit` are run by it alone."""
         if self.by:
             return [self.by]
+        if self.words == ['audit']:
+            return ['reference']
         is_replayed = self.words[:1] and self.words[0] in REFERRED and self.status in (*REPLAYED, 1)
         return ['program', 'reference'] if is_replayed else ['program']
 
@@ -203,6 +206,9 @@ def examples():
         report = path.with_suffix('.report').read_text()
         status = 7 if re.search(r'^halt .*\n\Z', report, re.MULTILINE) else 0
         yield Row(f'examples/{path.name}', ['replay'], path.read_bytes(), report, status)
+    for path in sorted((TOP / 'examples').glob('*.audit')):
+        answer = path.with_suffix('.answer').read_text()
+        yield Row(f'examples/{path.name}', ['audit'], path.read_bytes(), answer, 0 if answer == 'yes\n' else 8)
 
 
 # ---- the check

@@ -1,6 +1,6 @@
 #!/usr/bin/env python3
 """Replays a scenario and its script by the definitions, plainly and slowly: `reference.py replay [--wire]`; or judges a finished
-report: `reference.py audit`.
+report: `reference.py audit`; or tells what an edge makes of the octets of a peer: `reference.py probe`.
 
 The text is read from standard input. What is written, and the status, are as by the program's `replay`: the report, with status 7
 where a line `halt` ends it, or the line of the text's first fault, with status 3. A text of `audit` is taken as well formed; the
@@ -10,16 +10,19 @@ judgement is `yes`, or `no LINE REASON` with status 8.
 import sys
 
 from reference.audit import audit
+from reference.probe import probe
 from reference.replaying import replay
 
 
 def main(words):
     if words == ['audit']:
         text, status = audit(sys.stdin.read())
+    elif words == ['probe']:
+        text, status = probe(sys.stdin.buffer.read())
     elif words in (['replay'], ['replay', '--wire']):
         text, status = replay(sys.stdin.buffer.read(), words == ['replay', '--wire'])
     else:
-        print('usage: reference.py replay [--wire] | audit')
+        print('usage: reference.py replay [--wire] | audit | probe')
         return 2
     sys.stdout.write(text)
     return status

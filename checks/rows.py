@@ -43,6 +43,8 @@ REFERENCE = [sys.executable, str(TOP / 'checks' / 'reference.py')]
 ESCAPES = {'n': '\n', 'r': '\r', 't': '\t', '\\': '\\', '\n': ''}
 # the first words of blocks
 KINDS = ['short', 'scenario', 'table', 'row']
+# a command that the reference program alone has
+ALONE = ['probe']
 # the statuses of a replay that came to its end, to a fault of the text, or to a halt
 REPLAYED = (0, 3, 7)
 # seconds that a run may take: a program that is built without its proofs is not optimized, and slow at the limits
@@ -62,9 +64,12 @@ class Row:
     by: str = ''
 
     def runners(self):
-        """Who runs the row. The reference program has no command but `replay` and `audit`; rows of `audit` name it as the one that runs them."""
+        """Who runs the row. The reference program has no command but `replay`, `audit` and `probe`; rows of `audit` name it as the one that
+        runs them."""
         if self.by:
             return [self.by]
+        if self.words == ALONE:
+            return ['reference']
         is_replayed = self.words[:1] == ['replay'] and self.status in REPLAYED
         return ['program', 'reference'] if is_replayed else ['program']
 

@@ -46,8 +46,9 @@ REFERENCE = [sys.executable, str(TOP / 'checks' / 'reference.py')]
 ESCAPES = {'n': '\n', 'r': '\r', 't': '\t', '\\': '\\', '\n': ''}
 # the first words of blocks
 KINDS = ['short', 'scenario', 'table', 'row']
-# the commands whose rows the reference program runs as well
-REFERRED = ('replay', 'pcap', 'hops')
+# the commands that the reference program has as well, and those that it has alone
+REFERRED = ('replay', 'audit', 'probe', 'pcap', 'hops')
+ALONE = ('audit', 'probe', 'pcap', 'hops')
 # the statuses of a replay that came to its end, to a fault of the text, or to a halt
 REPLAYED = (0, 3, 7)
 # seconds that a run may take: a program that is built without its proofs is not optimized, and slow at the limits
@@ -67,13 +68,14 @@ class Row:
     by: str = ''
 
     def runners(self):
-        """Who runs the row. The reference program has few commands; rows of `audit` are run by it alone."""
+        """Who runs the row: the reference program too, where it has the command."""
+        command = self.words[0] if self.words else ''
         if self.by:
             return [self.by]
-        if self.words == ['audit']:
+        if command in ALONE:
             return ['reference']
-        is_replayed = self.words[:1] and self.words[0] in REFERRED and self.status in (*REPLAYED, 1)
-        return ['program', 'reference'] if is_replayed else ['program']
+        is_referred = command in REFERRED and (command != 'replay' or self.status in REPLAYED)
+        return ['program', 'reference'] if is_referred else ['program']
 
 
 # ---- texts of input

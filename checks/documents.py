@@ -235,7 +235,7 @@ def is_example_right(words, example):
         return True
     lines = [line for text in texts for line in (scenario_of_first() if text == 'FIRST' else [text])]
     text = '\n'.join(lines) + '\n'
-    came, _ = audit(text) if 'report' in lines else replay(text.encode(), False)
+    came, _ = audit(text.encode()) if 'report' in lines else replay(text.encode(), False)
     return came == answer + '\n'
 
 

@@ -4,8 +4,8 @@
 A row is the words of a command, its input, the whole output and the status. Rows stand in checks/rows/*.txt, and each
 examples/NAME.txt with its NAME.report is one more; its status is 7 where the last line of the report begins with `halt `, and else
 0. So is each examples/NAME.audit with its NAME.answer, a row of `audit`, of status 0 where the answer is `yes`, and else 8. The
-command is `./mvpn` of this repository, unless another one is named. Rows of `replay`, `audit`, `pcap` and `hops` are run by the
-reference program of the definitions too. With files, only rows of these are run.
+command is `./mvpn` of this repository, unless another one is named. Rows of commands that the reference program of the
+definitions has are run by that one too. With files, only rows of these are run.
 
 A file of rows is made of blocks, and the first word of a block says what it is. Blank lines, and those that begin with
 `#`, are passed over.

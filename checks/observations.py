@@ -313,6 +313,10 @@ ANSWERS = {
     'a report of MLDv2': (
         [into('Y6', 1, records((4, 'ff3e::8000:1'), source='fe80::22', destination='ff02::16')),
          *stream(*PAYLOADS, flow=FLOW_SIX, at='X6', ifaces=('Y6',))], 'yes'),
+    'one link of both families': (
+        [Frame(frame.time, frame.iface[0] + last, frame.is_out, frame.packet) for last in '16'
+         for frame in with_six(*WELL, *stream(*PAYLOADS, flow=FLOW_SIX, at='X6', ifaces=('Y6',)))],
+        'yes'),
     'link-local and unicast packets': (
         [*WELL, into('X1', 4.1, udp(b'a', ('10.1.0.9', '224.0.0.251'))), into('X1', 4.2, udp(b'a', ('10.1.0.9', '10.2.0.9')))], 'yes'),
     'clocks that differ a little': ([JOINED, into('X1', 3.02, udp(b'one')), out('Y1', 3.01, udp(b'one'))], 'yes'),

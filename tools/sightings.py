@@ -167,7 +167,9 @@ class Reading:
     def __init__(self, scenario, own):
         self.scenario, self.own = scenario, own
         self.messages, self.datagrams, self.leaving = [], [], []
-        self.passed, self.cut, self.first, self.ifaces = Counter(), 0, 0, set()
+        self.passed, self.cut, self.first = Counter(), 0, 0
+        # the interfaces with captures, and their links: the site, the VRF and the octets of an address
+        self.ifaces, self.links = set(), set()
         self.memberships = Memberships()
         # how often a datagram entered at an interface, and those that entered at a site, by the site and what is the same of them
         self.entered, self.at_site = Counter(), {}
@@ -177,6 +179,7 @@ class Reading:
         found = []
         for path, iface, way in captures:
             self.ifaces.add(iface)
+            self.links.add(self.link(iface, len(self.scenario.ifaces[iface].addr.octets)))
             all_frames = frames_of(path)
             own = self.own_addresses(iface, all_frames)
             if not way and all_frames and not own:
@@ -209,7 +212,18 @@ class Reading:
         else:
             self.see_datagram(seen, is_out, octets, packet)
 
+    def link(self, iface, size):
+        return self.scenario.ifaces[iface].site, self.scenario.ifaces[iface].vrf, size
+
+    def is_of_other(self, iface, packet):
+        """Whether a packet is seen at an interface of the other family, where the link has a captured one of its own family as well."""
+        size = len(packet.source)
+        return len(self.scenario.ifaces[iface].addr.octets) != size and self.link(iface, size) in self.links
+
     def see_datagram(self, seen, is_out, octets, packet):
+        if self.is_of_other(seen.iface, packet):
+            self.passed['datagrams of the other family than their interface'] += 1
+            return
         if is_cut(octets):
             self.cut += 1
         if is_out:

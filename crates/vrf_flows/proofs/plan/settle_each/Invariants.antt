@@ -4,7 +4,7 @@ use Rattle.vrf_words.specs.declared.tree_defs.flow.Flow.{Flow}
 use Rattle.vrf_words.specs.tree_defs.Keys.{same_flow}
 use Rattle.vrf_flows.specs.Sight.{needs}
 use Rattle.vrf_flows.specs.Plan.{sets, settled_by}
-use Rattle.vrf_flows.proofs.plan.settle.Given as goal
+use Rattle.vrf_flows.proofs.plan.settle_each.Given as goal
 
 abbrev pub invariant-loop-flow : goal.invariant-loop-flow
 invariant-loop-flow l = record {

@@ -2,7 +2,7 @@ use Rattle.std.proofs.Common.{rules, ◌≡◌, true, Some}
 use Rattle.indexmap.specs.IndexMap.{get}
 use Rattle.vrf_words.specs.tree_defs.Keys.{same_flow}
 use Rattle.vrf_flows.proofs.FlowLemmas.{mark-one}
-use Rattle.vrf_flows.proofs.marks.mark_flow.Goals as goal
+use Rattle.vrf_flows.proofs.marks.mark_held.Goals as goal
 
 pub returns-in-Some-clause-each : goal.returns-in-Some-clause-each
 returns-in-Some-clause-each c = λ q.

@@ -4,7 +4,7 @@ use Rattle.vrf_words.specs.declared.tree_defs.flow.Flow.{Flow}
 use Rattle.vrf_flows.specs.declared.held.Held.{Held}
 use Rattle.vrf_words.specs.tree_defs.Keys.{same_flow}
 use Rattle.vrf_flows.proofs.FlowLemmas.{change_each, forget_by, lookup-forgotten, retained}
-use Rattle.vrf_flows.proofs.marks.forget.Goals as goal
+use Rattle.vrf_flows.proofs.marks.forget_held.Goals as goal
 
 pub returns-clause-each : goal.returns-clause-each
 returns-clause-each c =

@@ -9,7 +9,7 @@ use Rattle.vrf_flows.specs.Held.{Now}
 use Rattle.vrf_flows.specs.Plan.{puts, replan}
 use Rattle.vrf_flows.specs.Sight.{seen}
 use Rattle.vrf_flows.proofs.FlowLemmas.{puts-lookup, plan-end}
-use Rattle.vrf_flows.proofs.plan.plan.Goals as goal
+use Rattle.vrf_flows.proofs.plan.plan_all.Goals as goal
 
 pub loop-flow-preserved : goal.loop-flow-preserved
 loop-flow-preserved c = record {

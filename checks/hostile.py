@@ -1,16 +1,19 @@
 #!/usr/bin/env python3
-"""Sends octets that no honest peer sends through `probe`, and compares with the reference program: `hostile.py [--command COMMAND]
-[--seconds N] [--count N] [--seed N]`.
+"""Sends octets that no honest peer sends through `decode bgp`, and compares with the reference program: `hostile.py [--command COMMAND]
+[--probe] [--seconds N] [--count N] [--seed N]`.
 
 Real UPDATE messages are those of routes of every kind that edges write, of two customers in both families. Each mutation takes some of
 them end to end, and turns bits, cuts octets off, doubles or exchanges parts, joins the front of one with the back of another, or
-writes other lengths and types; the octets come in one to four pieces, with joins between them. What the program writes, and its
-status, must be what the definitions say (checks/reference/probe.py). Besides, whatever came: each line `want` has the address of the
-peer, and no line names a VRF of another edge.
+writes other lengths and types. The lines of the messages, but for the tunnels in them, and the first fault must be what the
+definitions say (checks/reference/updates.py).
 
-Stops after so many seconds or mutations, whichever comes first; the gate gives it a minute. Prints the seed and the first input that
-differs, and then 'N passed, M failed'. The command is `./mvpn` of this repository, unless another one is named; with `--command
-reference` the definitions alone are run, which shows that they answer everything.
+With `--probe` they go through `probe`, in one to four pieces, with joins between them. What is written, and the status, must be what
+the definitions say (checks/reference/probe.py). Besides, whatever came: each line `want` has the address of the peer, and no line names
+a VRF of another edge.
+
+Stops after so many seconds or mutations, whichever comes first. Prints the seed and the first input that differs, and then 'N passed,
+M failed'. The command is `./mvpn` of this repository, unless another one is named; with `--command reference --probe` the definitions
+alone are run, which shows that they answer everything.
 """
 
 import argparse
@@ -22,9 +25,11 @@ import sys
 import time
 
 from reference.base import V4, V6, Prefix
-from reference.octets import Active, Advert, Intra, Mcast, Mldp, Pmsi, Reach, Selective, SourceJoin, Unicast, Unreach, update_written
+from reference.octets import (
+    Active, Advert, Intra, Mcast, Mldp, Pmsi, Reach, Selective, SourceJoin, Unicast, Unreach, Update, update_written)
 from reference.place import lsp
-from reference.probe import probe
+from reference.probe import addr_text, hex_text, key_text, probe
+from reference.updates import messages_in
 
 TOP = pathlib.Path(__file__).resolve().parent.parent
 SCENARIO = """edge E1 192.0.2.1
@@ -46,6 +51,8 @@ iface X1 V1 X 10.1.0.1
 probe E2 E1
 """
 JOINS = ('join Y1 10.1.0.9 232.1.1.1', 'join Y2 2001:db8:1:0:0:0:0:9 ff3e:0:0:0:0:0:0:1', 'join Z1 10.1.0.9 232.1.1.1')
+# the words of messages
+NAMES = {1: 'open', 2: 'update', 3: 'notification', 4: 'keepalive', 5: 'refresh'}
 KEEPALIVE = (255,) * 16 + (0, 19, 4)
 # the most octets of a piece, so that its line is no longer than 4,096
 PIECE = 2040
@@ -173,6 +180,30 @@ def is_safe(told):
     return all(line[2] == '192.0.2.1' for line in words if line[0] == 'want') and all(line[1] in ('V2', 'V3') for line in words if line[0] == 'import')
 
 
+def decoded(octets):
+    """The lines of the messages, each tunnel as a star, and the first fault."""
+    messages, fault = messages_in(octets)
+    lines = []
+    for message in messages:
+        lines.append(NAMES[2 if isinstance(message, Update) else message.kind])
+        if isinstance(message, Update):
+            lines += [f'reach {addr_text(advert.next_hop)} {",".join(map(hex_text, advert.comms)) or "-"} * {key_text(advert.key)}' for advert in message.reach]
+            lines += [f'unreach {key_text(key)}' for key in message.unreach]
+    return lines, fault
+
+
+def is_decoded(command, octets):
+    """Whether the program tells just that. Octets that end inside a message have no fault, but the program says so."""
+    run = subprocess.run([*command, 'decode', 'bgp'], input=bytes(octets).hex().encode(), capture_output=True)
+    words = [line.split(' ') for line in run.stdout.decode('latin-1').splitlines()]
+    came = [' '.join(line[:3] + ['*'] + line[4:] if line[0] == 'reach' else line) for line in words]
+    lines, fault = decoded(octets)
+    if fault is not None:
+        return (came, run.returncode) == (lines + [f'refused {fault.place} {fault.word}'], 1)
+    is_cut = bool(came) and came[-1].endswith(' short') and (came[:-1], run.returncode) == (lines, 1)
+    return is_cut or (came, run.returncode) == (lines, 0)
+
+
 def answer(command, text):
     if command == ['reference']:
         return probe(text.encode())
@@ -181,9 +212,10 @@ def answer(command, text):
 
 
 def main():
-    options = argparse.ArgumentParser(description='Sends hostile octets through probe and compares with the definitions.')
+    options = argparse.ArgumentParser(description='Sends hostile octets through the program and compares with the definitions.')
     options.add_argument('--command', default=str(TOP / 'mvpn'), help='runs the program')
-    options.add_argument('--seconds', type=float, default=60)
+    options.add_argument('--probe', action='store_true', help='through `probe`')
+    options.add_argument('--seconds', type=float, default=30)
     options.add_argument('--count', type=int, default=10000)
     options.add_argument('--seed', type=int, default=1)
     given = options.parse_args()
@@ -192,7 +224,15 @@ def main():
     for _ in range(given.count):
         if time.monotonic() > ends:
             break
-        text = text_of(mutation(messages, chance), chance)
+        octets = mutation(messages, chance)
+        if not given.probe:
+            if is_decoded(command, octets):
+                passed += 1
+            else:
+                failed += 1
+                print(f'seed {given.seed}, decode bgp: {bytes(octets).hex()}')
+            continue
+        text = text_of(octets, chance)
         wanted, came = probe(text.encode()), answer(command, text)
         if came == wanted and came[1] in (0, 1) and is_safe(came[0]):
             passed += 1

@@ -70,10 +70,10 @@ class Row:
     def runners(self):
         """Who runs the row: the reference program too, where it has the command."""
         command = self.words[0] if self.words else ''
+        if command in ALONE:
+            return [] if self.by == 'program' else ['reference']
         if self.by:
             return [self.by]
-        if command in ALONE:
-            return ['reference']
         is_referred = command in REFERRED and (command != 'replay' or self.status in REPLAYED)
         return ['program', 'reference'] if is_referred else ['program']
 

@@ -4,7 +4,7 @@ use Rattle.vrf_words.specs.declared.tree_defs.flow.Flow.{Flow}
 use Rattle.vrf_words.specs.tree_defs.Keys.{same_flow}
 use Rattle.vrf_flows.specs.Plan.{puts}
 use Rattle.vrf_trees.specs.Plan.{renewal}
-use Rattle.vrf_trees.proofs.plan.plan_stale.Given as goal
+use Rattle.vrf_trees.proofs.plan.plan_all.Given as goal
 
 abbrev pub invariant-loop-flow : goal.invariant-loop-flow
 invariant-loop-flow l = record {

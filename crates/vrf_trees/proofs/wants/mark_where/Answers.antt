@@ -5,7 +5,7 @@ use Rattle.vrf_words.specs.tree_defs.Keys.{same_flow}
 use Rattle.vrf_trees.specs.declared.wants.Wants.{Wants}
 use Rattle.vrf_trees.specs.Wants.{tunnels_in}
 use Rattle.vrf_trees.proofs.MarkLemmas.{lookup-marked, mark_each, retained, tunnels-marked}
-use Rattle.vrf_trees.proofs.wants.mark.Goals as goal
+use Rattle.vrf_trees.proofs.wants.mark_where.Goals as goal
 
 pub returns-clause-each : goal.returns-clause-each
 returns-clause-each c =

@@ -5,7 +5,7 @@ use Rattle.vrf_flows.specs.Plan.{puts}
 use Rattle.vrf_flows.proofs.FlowLemmas.{puts-lookup}
 use Rattle.vrf_trees.specs.Plan.{renewal}
 use Rattle.vrf_trees.proofs.PlanLemmas.{stale-end}
-use Rattle.vrf_trees.proofs.plan.plan_stale.Goals as goal
+use Rattle.vrf_trees.proofs.plan.plan_all.Goals as goal
 
 pub returns-clause-each : goal.returns-clause-each
 returns-clause-each c = λ q.

@@ -3,8 +3,9 @@
 
 A row is the words of a command, its input, the whole output and the status. Rows stand in checks/rows/*.txt, and each
 examples/NAME.txt with its NAME.report is one more; its status is 7 where the last line of the report begins with `halt `, and else
-0. The command is `./mvpn` of this repository, unless another one is named. Rows of `replay` are run by the reference program of the
-definitions too. With files, only rows of these are run.
+0. So is each examples/NAME.audit with its NAME.answer, a row of `audit`, of status 0 where the answer is `yes`, and else 8. The
+command is `./mvpn` of this repository, unless another one is named. Rows of commands that the reference program of the
+definitions has are run by that one too. With files, only rows of these are run.
 
 A file of rows is made of blocks, and the first word of a block says what it is. Blank lines, and those that begin with
 `#`, are passed over.
@@ -20,8 +21,10 @@ A file of rows is made of blocks, and the first word of a block says what it is.
         < TEXT              a line of input. `\\t`, `\\r`, `\\n`, `\\\\` and `\\xHH` are octets; a `\\` at the end takes the line's LF away
         each M..N TEXT      that line for each of the numbers, which stands for `%`
         fill N TEXT         that line, filled with spaces up to N octets
+        octets HEX          octets of input in hexadecimal digits, with short words and spaces
         do EVENTS           events parted by `;`. The first of them puts the line `events` in front, unless it is there
         > LINE              a line of the output
+        wrote HEX           octets of the output, as behind `octets`
         kinds K, K          only the lines of the output that begin with one of these are compared
         status N            the status; 0 where there is no such line
 
@@ -45,6 +48,9 @@ REFERENCE = [sys.executable, str(TOP / 'checks' / 'reference.py')]
 ESCAPES = {'n': '\n', 'r': '\r', 't': '\t', '\\': '\\', '\n': ''}
 # the first words of blocks
 KINDS = ['short', 'scenario', 'table', 'row']
+# the commands that the reference program has as well, and those that it has alone
+REFERRED = ('replay', 'audit', 'probe', 'pcap', 'hops')
+ALONE = ('audit', 'probe', 'pcap', 'hops')
 # the statuses of a replay that came to its end, to a fault of the text, or to a halt
 REPLAYED = (0, 3, 7)
 # seconds that a run may take: a program that is built without its proofs is not optimized, and slow at the limits
@@ -64,11 +70,14 @@ class Row:
     by: str = ''
 
     def runners(self):
-        """Who runs the row. The reference program has no command but `replay` and `audit`; rows of `audit` name it as the one that runs them."""
+        """Who runs the row: the reference program too, where it has the command."""
+        command = self.words[0] if self.words else ''
+        if command in ALONE:
+            return [] if self.by == 'program' else ['reference']
         if self.by:
             return [self.by]
-        is_replayed = self.words[:1] == ['replay'] and self.status in REPLAYED
-        return ['program', 'reference'] if is_replayed else ['program']
+        is_referred = command in REFERRED and (command != 'replay' or self.status in REPLAYED)
+        return ['program', 'reference'] if is_referred else ['program']
 
 
 # ---- texts of input
@@ -158,6 +167,8 @@ class Book:
             row.by = rest
         elif key == '>':
             row.output += self.spelled(rest) + '\n'
+        elif key == 'wrote':
+            row.output += self.octets_of(rest).decode('latin-1')
         elif key == 'kinds':
             row.kinds = tuple(rest.split(', '))
         elif key == 'status':
@@ -174,6 +185,8 @@ class Book:
             return (lines.replace(word, text) if word else lines).encode()
         if key == '<':
             return line_of(rest)
+        if key == 'octets':
+            return self.octets_of(rest)
         if key == 'each':
             return each(rest)
         if key == 'fill':
@@ -182,6 +195,9 @@ class Book:
             begins = b'' if b'events' in row.input.split(b'\n') else b'events\n'
             return begins + ''.join(event.strip() + '\n' for event in self.spelled(rest).split(';')).encode()
         raise ValueError(f'{place}: no line of a row begins with {key}')
+
+    def octets_of(self, text):
+        return bytes.fromhex(self.spelled(text))
 
     def spelled(self, text):
         """The text with its short words written out, and one space between words."""
@@ -194,6 +210,9 @@ def examples():
         report = path.with_suffix('.report').read_text()
         status = 7 if re.search(r'^halt .*\n\Z', report, re.MULTILINE) else 0
         yield Row(f'examples/{path.name}', ['replay'], path.read_bytes(), report, status)
+    for path in sorted((TOP / 'examples').glob('*.audit')):
+        answer = path.with_suffix('.answer').read_text()
+        yield Row(f'examples/{path.name}', ['audit'], path.read_bytes(), answer, 0 if answer == 'yes\n' else 8)
 
 
 def faults():

@@ -6,16 +6,21 @@ from dataclasses import dataclass
 from . import report
 from .history import Step, is_calm, receivers
 from .joinprune import PimFault, decoded
+from .lines import TextFault, lines_of
 from .octets import packet
 from .refusals import group_in, packet_fault, source_in
-from .script import read
+from .script import read_lines
 
 REASONS = ('markers', 'halt', 'number', 'bytes', 'admit', 'again', 'asked', 'missing')
 NEVER_REFUSED = ('tick', 'timers', 'restart', 'cost', 'heal', 'settle', 'drain', 'state')
+REFUSALS = ('empty', 'state', 'place', 'full', 'ours')
+FAULT_WORDS = (
+    'short', 'version', 'pim-type', 'checksum', 'family', 'encoding', 'mask-length', 'flags', 'not-multicast', 'trailing', 'header-length',
+    'total-length', 'link-local')
 OF_WINDOW = ('send', 'packet', 'hop', 'drain', 'state')
 
 
-# ---- the text: a scenario and its script, the line `report`, and the lines of a report
+# ---- the text: a scenario and its script, the line `report`, and the lines of a report (audit_text: Texts)
 
 @dataclass(frozen=True)
 class Numbered:
@@ -23,41 +28,78 @@ class Numbered:
     value: object
 
 
-def line_in(scenario, words):
-    """The report line that the words say; they are taken as well formed."""
-    def number_of(things, name):
-        return next(number for number, thing in enumerate(things) if thing.name == name)
+def number_below(limit, word):
+    """The number of a word; how it is written is compared afterwards."""
+    number = int(word)
+    if not 0 <= number < limit:
+        raise ValueError(word)
+    return number
 
+
+def number_of(things, name):
+    return [thing.name for thing in things].index(name)
+
+
+def octets_in(word):
+    return () if word == '-' else tuple(bytes.fromhex(word))
+
+
+def refusal_in(words):
+    match words:
+        case ['bytes', place, word] if word in FAULT_WORDS:
+            return f'bytes {number_below(2 ** 32, place)} {word}'
+        case [word] if word in REFUSALS:
+            return word
+    raise ValueError(' '.join(words))
+
+
+def named_line(scenario, words):
+    """The only report line that the words can be."""
     def node(name):
         return number_of(scenario.nodes, name)
 
     match words:
         case ['out', number, iface, octets]:
-            return report.Out(int(number), number_of(scenario.ifaces, iface), tuple(bytes.fromhex(octets)))
+            return report.Out(number_below(2 ** 64, number), number_of(scenario.ifaces, iface), octets_in(octets))
         case ['refused', line, *reason]:
-            return report.Refused(int(line), ' '.join(reason))
-        case ['state', *numbers]:
-            return report.State(*(int(number) for number in numbers))
+            return report.Refused(number_below(2 ** 32, line), refusal_in(reason))
+        case ['state', *numbers] if len(numbers) == 5:
+            return report.State(*(number_below(2 ** 64, number) for number in numbers))
         case ['halt', line, 'label', name]:
-            return report.Halt(int(line), node(name))
-        case ['put' | 'take' as word, kind, start, end, octets]:
-            return (report.Put if word == 'put' else report.Take)(kind, node(start), node(end), tuple(bytes.fromhex(octets)))
+            return report.Halt(number_below(2 ** 32, line), node(name))
+        case ['put' | 'take' as word, 'bgp' | 'ldp' as kind, start, end, octets]:
+            return (report.Put if word == 'put' else report.Take)(kind, node(start), node(end), octets_in(octets))
         case ['hop', start, end, label, ttl, number]:
-            return report.Hop(node(start), node(end), int(label), int(ttl), int(number))
+            return report.Hop(
+                node(start), node(end), number_below(2 ** 32, label), number_below(2 ** 8, ttl), number_below(2 ** 64, number))
         case ['land', start, end, label, number]:
-            return report.Land(node(start), node(end), int(label), int(number))
+            return report.Land(node(start), node(end), number_below(2 ** 32, label), number_below(2 ** 64, number))
     raise ValueError(' '.join(words))
 
 
-def parted(text):
-    """The script, the numbered lines of the report, and the number of the line after the last one."""
-    lines = text.split('\n')
-    if lines[-1] == '':
-        lines.pop()
-    at = next(place for place, line in enumerate(lines) if line.split() == ['report'])
-    script = read('\n'.join(lines[:at]))
-    numbered = tuple(
-        Numbered(place + 1, line_in(script.scenario, lines[place].removesuffix('\r').split())) for place in range(at + 1, len(lines)))
+def line_in(scenario, number, text):
+    """The report line that is written so."""
+    try:
+        line = named_line(scenario, text.split(' '))
+        if report.line_text(scenario, line) == text + '\n':
+            return Numbered(number, line)
+    except ValueError:
+        pass
+    raise TextFault(number, 1, 'report')
+
+
+def is_mark(line):
+    return line.strip(' ') == 'report'
+
+
+def parted(octets):
+    """The script, the numbered lines of the report, and the number of the line behind the last one. Raises the first TextFault."""
+    lines = lines_of(octets)
+    at = next((place for place, line in enumerate(lines) if is_mark(line)), None)
+    if at is None:
+        raise TextFault(len(lines) + 1, 1, 'report')
+    script = read_lines(lines[:at])
+    numbered = tuple(line_in(script.scenario, place + 1, lines[place]) for place in range(at + 1, len(lines)))
     return script, numbered, len(lines) + 1
 
 
@@ -237,7 +279,10 @@ def offences(script, numbered, end):
 
 def audit(text):
     """What the command answers, and its status."""
-    found = list(offences(*parted(text)))
+    try:
+        found = list(offences(*parted(text)))
+    except TextFault as fault:
+        return f'{fault}\n', 3
     if not found:
         return 'yes\n', 0
     line, reason = min(found, key=lambda one: (one[0], REASONS.index(one[1])))

@@ -273,8 +273,12 @@ def event_of(draft, line, before):
 
 def read(text):
     """The script that the text says, in octets or as a str. Raises its first TextFault."""
+    return read_lines(lines_of(text if isinstance(text, bytes) else text.encode()))
+
+
+def read_lines(rows):
+    """The script that the lines say."""
     draft, events, is_script = Draft(), [], False
-    rows = lines_of(text if isinstance(text, bytes) else text.encode())
     for number, row in enumerate(rows, 1):
         line = tried(number, row)
         if line is None:

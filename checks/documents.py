@@ -48,6 +48,7 @@ WORDS = {
     'Faults of MCAST-VPN routes': ('bgp_values/src/mvpn_nlri/fault.rt', 'RouteReason'),
     'Faults of BGP messages': ('bgp_messages/src/bgp_attributes/fault.rt', 'StreamFault'),
     'Faults of LDP PDUs': ('mldp/src/mldp_msgs/fault.rt', 'LdpFault'),
+    'Faults of files of hops': ('core_pcap/src/fault.rt', 'PcapFault'),
     'Offences of a report': ('audit_defs/src/verdict.rt', 'Offence'),
 }
 LEAST_HEAD = 4

@@ -126,7 +126,7 @@ none_at : (line : ℕ) (all : List ℕ) → AllByRecursion (λ own. line < own) 
 none_at line [] h = refl
 none_at line (own ∷ all) h = or_from (own == line) (list_any (λ l. l == line) all) (ne_eqb own line (λ (same : own ≡ line). (let more = h.0 in omega (arith, same, more)))) (none_at line all h.1)
 
-got_above : (bound : ℕ) (events : List Timed) → Rises bound events → (place : ℕ) (timed : Timed) → slice_get events place ≡ Some timed → bound < timed.line
+pub got_above : (bound : ℕ) (events : List Timed) → Rises bound events → (place : ℕ) (timed : Timed) → slice_get events place ≡ Some timed → bound < timed.line
 got_above bound [] rises place timed e = absurd (none-some timed e)
 got_above bound (first ∷ events) rises zero timed e = subst (λ (t : Timed). bound < t.line) (some_same first timed e) rises.0
 got_above bound (first ∷ events) rises (suc place) timed e = (let low = rises.0 in let more = got_above first.line events rises.1 place timed e in omega (arith, low, more))

@@ -29,13 +29,13 @@ use Rattle.mvpn_audit.proofs.WindowLemmas.{At, GoOn, Ends, closes_says, says_clo
 
 -- ---- places in fronts and rests of lists
 
-got_front : {X : Type 0} (xs : List X) (count place : ℕ) (x : X) → slice_get (take count xs) place ≡ Some x → (place < count) × (slice_get xs place ≡ Some x)
+pub got_front : {X : Type 0} (xs : List X) (count place : ℕ) (x : X) → slice_get (take count xs) place ≡ Some x → (place < count) × (slice_get xs place ≡ Some x)
 got_front xs zero place x e = absurd (none-some x e)
 got_front [] (suc count) place x e = absurd (none-some x e)
 got_front (y ∷ xs) (suc count) zero x e = (omega arith, e)
 got_front (y ∷ xs) (suc count) (suc place) x e = (let r = got_front xs count place x e in let less = r.0 in (omega (arith, less), r.1))
 
-front_got : {X : Type 0} (xs : List X) (count place : ℕ) (x : X) → place < count → slice_get xs place ≡ Some x → slice_get (take count xs) place ≡ Some x
+pub front_got : {X : Type 0} (xs : List X) (count place : ℕ) (x : X) → place < count → slice_get xs place ≡ Some x → slice_get (take count xs) place ≡ Some x
 front_got xs zero place x less e = absurd (omega (arith, less))
 front_got [] (suc count) place x less e = absurd (none-some x e)
 front_got (y ∷ xs) (suc count) zero x less e = e
@@ -46,7 +46,7 @@ got_rest xs zero place = ap (slice_get xs) (let same : place ≡ zero + place = 
 got_rest [] (suc count) place = refl
 got_rest (y ∷ xs) (suc count) place = got_rest xs count place ∙ ap (slice_get (y ∷ xs)) (let same : suc (count + place) ≡ suc count + place = omega arith in same)
 
-length_fates : (number : ℕ) (all : List Timed) (marked : List Marked) → length (fates_from number all marked) ≡ length all
+pub length_fates : (number : ℕ) (all : List Timed) (marked : List Marked) → length (fates_from number all marked) ≡ length all
 length_fates number [] marked = refl
 length_fates number (timed ∷ all) marked = ap suc (length_fates (number + 1) all (left_after number marked))
 
@@ -57,7 +57,7 @@ length_front [] (y ∷ ys) (suc count) same = absurd (omega (arith, same))
 length_front (x ∷ xs) [] (suc count) same = absurd (omega (arith, same))
 length_front (x ∷ xs) (y ∷ ys) (suc count) same = ap suc (length_front xs ys count (omega (arith, same)))
 
-split : (a b : ℕ) → (a < b) ⊎ (b ≤ a)
+pub split : (a b : ℕ) → (a < b) ⊎ (b ≤ a)
 split zero zero = inr (omega arith)
 split zero (suc b) = inl (omega arith)
 split (suc a) zero = inr (omega arith)

@@ -10,3 +10,10 @@ pub mod WindowLemmas
 pub mod StateLemmas
 pub mod InWindows
 pub mod AskLemmas
+pub mod DatagramLemmas
+pub mod ReceiverLemmas
+pub mod WalkLemmas
+pub mod NamedLemmas
+pub mod ReadLemmas
+pub mod VerdictLemmas
+pub mod MissingLemmas

@@ -92,7 +92,7 @@ whole_found events all few p e =
 
 -- ---- lines that rise
 
-rise_above : (bound end : ℕ) (all : List Numbered) (place : ℕ) (numbered : Numbered) → LinesRise bound all end → slice_get all place ≡ Some numbered → bound < numbered.line
+pub rise_above : (bound end : ℕ) (all : List Numbered) (place : ℕ) (numbered : Numbered) → LinesRise bound all end → slice_get all place ≡ Some numbered → bound < numbered.line
 rise_above bound end [] place numbered h e = absurd (none-some numbered e)
 rise_above bound end (own ∷ all) zero numbered h e = subst (λ (n : Numbered). bound < n.line) (some_same own numbered e) h.0
 rise_above bound end (own ∷ all) (suc place) numbered h e = (let low = h.0 in let high = rise_above own.line end all place numbered h.1 e in omega (arith, low, high))

@@ -85,7 +85,7 @@ module _ (script : Script) (report : ReportLines) (marked : List Marked) (are : 
   belong : AllByRecursion (Belongs 0 script.events all_fates) own_pairs
   belong = all_belong (named (values report.lines)) 0 script.events (markers report.lines) marked zipped
 
-  lines_are : (audited script report.lines).lines ≡ give (length script.events) (places_of marked) report.lines
+  pub lines_are : (audited script report.lines).lines ≡ give (length script.events) (places_of marked) report.lines
   lines_are = ap (λ l. give (length script.events) l report.lines) are.places
 
   paired : AllByRecursion (IsPaired own_pairs) (audited script report.lines).lines

@@ -2,3 +2,9 @@ pub mod Placed
 pub mod Marking
 pub mod Joined
 pub mod Fates
+pub mod Vpns
+pub mod Receivers
+pub mod Case
+pub mod Sents
+pub mod Judging
+pub mod Missing

@@ -48,7 +48,7 @@ fn is_refusable(event: &Event) -> bool
     }
 }
 
-fn is_marker(line: &ReportLine) -> bool
+pub(crate) fn is_marker(line: &ReportLine) -> bool
     ensures { result ≡ is_marker line.now }
 {
     match line {

@@ -1,0 +1,19 @@
+use Rattle.mvpn_audit.proofs.WalkLemmas.{clock_fits, count_fits, is_fresh, stepped}
+use Rattle.mvpn_audit.proofs.sents.Walk.accept.Goals as goal
+
+pub step-requires-clause-clock : goal.step-requires-clause-clock
+step-requires-clause-clock c =
+    clock_fits c.args.case.now c.requires.is c.args.number c.args.timed.now c.requires.at c.args.self.now c.send_of.new.self.joined c.requires.walked c.in_ok-send_of.ensures.joined
+
+pub step-requires-clause-room : goal.step-requires-clause-room
+step-requires-clause-room c =
+    count_fits c.args.case.now c.requires.is c.args.number c.args.timed.now c.requires.at c.args.self.now c.send_of.new.self.joined c.requires.walked c.in_ok-send_of.ensures.joined
+
+pub step-requires-clause-fresh : goal.step-requires-clause-fresh
+step-requires-clause-fresh c =
+    is_fresh c.args.case.now c.requires.is c.args.number c.args.timed.now c.requires.at c.args.self.now c.send_of.new.self.joined c.requires.walked c.in_ok-send_of.ensures.joined
+
+pub returns : goal.returns
+returns c =
+    stepped c.args.case.now c.requires.is c.args.number c.args.timed.now c.requires.at c.args.self.now c.send_of.new.self c.step.new.self c.requires.walked c.requires.accepted
+    c.in_ok-send_of.ensures.joined c.in_ok-send_of.ensures.is_open c.in_ok-send_of.ensures.sents c.in_ok-step.ensures

@@ -1,14 +1,13 @@
 -- What an edge answers that was given lines, and what it does not.
 use Rattle.std.specs.Option.{IsSome}
-use Rattle.std.proofs.Common.{◌≡◌, ◌≢◌, ◌⊎◌, ℕ, ◌<◌, Bool, true, false, cond, not, List, [], ◌∷◌, ◌++◌, length, Option, Some, None, Result, Ok, Err, inl, inr, refl, sym, ap, subst, ◌∙◌}
-use Rattle.mv_base.specs.Address.{same_addr, same_addr_equiv}
+use Rattle.std.proofs.Common.{◌≡◌, ◌⊎◌, ℕ, ◌<◌, Bool, true, false, cond, not, List, [], ◌∷◌, ◌++◌, length, Option, Some, None, Ok, Err, inl, inr, refl, sym, ap, subst, ◌∙◌}
+use Rattle.mv_base.specs.Address.{same_addr_equiv}
 use Rattle.mv_base.specs.Lists.{Among}
 use Rattle.mv_base.specs.core_walks.Topology.{Topology}
 use Rattle.mv_base.specs.declared.addr.Addr.{Addr}
 use Rattle.mv_base.specs.declared.ids.IfaceId.{IfaceId}
 use Rattle.mv_base.specs.declared.ids.NodeId.{NodeId}
 use Rattle.pim_joinprune.specs.declared.message.JoinPrune.{JoinPrune}
-use Rattle.pim_joinprune.specs.declared.fault.PimFault.{PimFault}
 use Rattle.pim_joinprune.specs.Reading.{decoded}
 use Rattle.network_defs.specs.session_defs.PeerSession.{PeerSession, fault_at}
 use Rattle.edge_streams.specs.Streams.{told_fault}

@@ -1,11 +1,10 @@
 -- An edge that was given lines, and the next one.
-use Rattle.std.proofs.Common.{◌≡◌, ◌≢◌, ℕ, ◌+◌, ◌<◌, Bool, true, false, List, [], ◌∷◌, ◌++◌, length, Option, Some, None, inl, inr, ◌-◌, refl, sym, ap, subst, ◌∙◌, append_assoc, arith}
+use Rattle.std.proofs.Common.{◌≡◌, ◌≢◌, ℕ, ◌<◌, true, false, List, [], ◌∷◌, ◌++◌, length, Option, Some, None, inl, inr, ◌-◌, refl, sym, ap, subst, ◌∙◌, append_assoc, arith}
 use Rattle.std.proofs.lemmas.Bool.{cases_lt}
 use Rattle.std.proofs.lemmas.List.{append-nil, length-append, get_or_append_left, get_or-append_right}
 use Rattle.std.proofs.lemmas.Option.{same_Some}
-use Rattle.std.specs.Prelude.{fold, is_some, map}
+use Rattle.std.specs.Prelude.{fold, is_some}
 use Rattle.std.specs.FinMap as maps
-use Rattle.std.specs.FinMap.{FinMap}
 use Rattle.mv_base.specs.Octets.{IsOctets}
 use Rattle.mv_base.specs.core_walks.Core.{Core, IsCoreOf}
 use Rattle.mv_base.specs.core_walks.Topology.{Topology}
@@ -14,12 +13,12 @@ use Rattle.mv_base.specs.declared.ids.IfaceId.{IfaceId}
 use Rattle.mv_base.specs.declared.ids.NodeId.{NodeId}
 use Rattle.bgp_messages.specs.declared.bgp_attributes.fault.StreamFault.{StreamFault}
 use Rattle.label_defs.specs.Keys.{node_cmp}
-use Rattle.label_defs.specs.Node.{Spent, LacksLabel}
+use Rattle.label_defs.specs.Node.{LacksLabel}
 use Rattle.scenario_defs.specs.Rules.{Rules}
 use Rattle.scenario_defs.specs.declared.event.IfaceEntry.{IfaceEntry}
 use Rattle.scenario_defs.specs.declared.event.JoinEntry.TheVariants.{Source}
 use Rattle.scenario_defs.specs.declared.event.Kind.TheVariants as kinds
-use Rattle.edge_defs.specs.Edge.{Control, Taken}
+use Rattle.edge_defs.specs.Edge.{Control}
 use Rattle.edge_defs.specs.Place.{EdgePlace}
 use Rattle.edge_defs.specs.Steps.{Raised}
 use Rattle.edge_defs.specs.pim_defs.Entries.{Entries, applied, are_too_many}
@@ -28,7 +27,7 @@ use Rattle.edge_words.proofs.edge_laws.Taken.{put_own}
 use Rattle.edge_routes.specs.edge_home.Home.{Home, place_of}
 use Rattle.network_defs.specs.mvpn_model.Messages.{own_addr}
 use Rattle.network_defs.specs.node_defs.EdgeState.{EdgeState, fresh_state}
-use Rattle.network_defs.specs.session_defs.Message.{BgpFault, SessionFault}
+use Rattle.network_defs.specs.session_defs.Message.{BgpFault}
 use Rattle.network_defs.specs.session_defs.PeerSession.{fault_at}
 use Rattle.edge_streams.specs.Kept.{fault_as}
 use Rattle.edge_streams.specs.Streams.{told_fault}
@@ -38,13 +37,13 @@ use Rattle.edge_core.specs.Answers.{Lacks, Makes, step_of}
 use Rattle.edge_core.specs.Pim.{is_over}
 use Rattle.edge_core.specs.State.{IsIn, data_of, home_of, is_up}
 use Rattle.edge_core.specs.View.{EdgeView}
-use Rattle.probe_defs.specs.Given.{Comes, behind, begun, fault_in, given, messages_in, peer_session}
+use Rattle.probe_defs.specs.Given.{behind, begun, fault_in, given, messages_in, peer_session}
 use Rattle.probe_defs.specs.Lines.{joins_of, octets_of}
 use Rattle.probe_defs.specs.Probed.{edge_with, joined, table_of, taken_at_once}
 use Rattle.probe_defs.specs.declared.probe.ProbeLine.{ProbeLine}
 use Rattle.probe_defs.specs.declared.probe.ProbeLine.TheVariants.{Join, Piece}
 use Rattle.probe_defs.proofs.LineLemmas.{comes}
-use Rattle.edge_probe.specs.Behind.{IsFresh, IsGiven, IsInCore, IsTold, MayJoin}
+use Rattle.edge_probe.specs.Behind.{IsFresh, IsGiven, IsInCore}
 use Rattle.edge_probe.proofs.RoomLemmas.{joined_few, not_over}
 
 -- ---- a line more

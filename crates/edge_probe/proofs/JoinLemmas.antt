@@ -1,9 +1,8 @@
 -- A join that fits an edge: its message can be written, and is read again.
-use Rattle.std.proofs.Common.{◌≡◌, ℕ, Bool, true, false, List, [], ◌∷◌, Option, Some, None, Result, Ok, refl, sym, ap, subst, ◌∙◌}
+use Rattle.std.proofs.Common.{◌≡◌, ℕ, Bool, true, false, List, [], ◌∷◌, Option, Some, None, Ok, refl, sym, ap, subst, ◌∙◌}
 use Rattle.std.specs.Prelude.{slice_get}
-use Rattle.std.specs.List.{list_any}
 use Rattle.std.specs.Option.{IfSome}
-use Rattle.mv_base.specs.Address.{IsAddr, same_addr, same_addr_equiv}
+use Rattle.mv_base.specs.Address.{IsAddr}
 use Rattle.mv_base.specs.declared.addr.Addr.{Addr}
 use Rattle.mv_base.specs.declared.addr.Addr.TheVariants.{V4}
 use Rattle.mv_base.specs.declared.ids.IfaceId.{IfaceId}
@@ -15,7 +14,7 @@ use Rattle.pim_joinprune.proofs.WritingLemmas.{written_spells}
 use Rattle.pim_joinprune.proofs.pim_laws.DecodingLemmas.{spelled_read}
 use Rattle.pim_defs.specs.Single.{join_of}
 use Rattle.pim_defs.proofs.SingleLemmas.{join_spelled}
-use Rattle.scenario_defs.specs.Rules.{AreOfOneFamily, IsOfIface, Rules}
+use Rattle.scenario_defs.specs.Rules.{AreOfOneFamily, Rules}
 use Rattle.scenario_defs.specs.declared.event.JoinEntry.TheVariants.{Source}
 use Rattle.scenario_defs.specs.declared.scenario.Iface.{Iface}
 use Rattle.scenario_defs.specs.declared.scenario.Scenario.{Scenario}

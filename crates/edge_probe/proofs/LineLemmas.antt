@@ -1,14 +1,11 @@
 -- The lines so far, and the next one.
-use Rattle.std.proofs.Common.{◌≡◌, ℕ, zero, suc, ◌+◌, ◌<◌, ◌≤◌, List, [], ◌∷◌, ◌++◌, length, take, drop, get_or, Option, Some, None, refl, sym, ap, subst, ◌∙◌, arith}
+use Rattle.std.proofs.Common.{◌≡◌, ℕ, zero, suc, ◌<◌, List, [], ◌∷◌, ◌++◌, length, take, get_or, Option, None, refl, sym, ap, subst, ◌∙◌, arith}
 use Rattle.std.specs.List.{AllByRecursion}
 use Rattle.mv_base.specs.core_walks.Topology.{Topology}
 use Rattle.mv_base.specs.declared.addr.Addr.{Addr}
 use Rattle.mv_base.specs.declared.ids.IfaceId.{IfaceId}
 use Rattle.mv_base.specs.declared.ids.NodeId.{NodeId}
 use Rattle.mv_base.specs.framing.Cut.{cut_at}
-use Rattle.scenario_defs.specs.declared.event.IfaceEntry.{IfaceEntry}
-use Rattle.scenario_defs.specs.declared.event.JoinEntry.TheVariants.{Source}
-use Rattle.edge_routes.specs.edge_home.Home.{Home}
 use Rattle.edge_core.specs.State.{home_of}
 use Rattle.edge_core.specs.View.{EdgeView}
 use Rattle.probe_defs.specs.Given.{fault_in}

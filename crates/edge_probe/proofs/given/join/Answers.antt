@@ -1,4 +1,4 @@
-use Rattle.std.proofs.Common.{◌≡◌, ◌∙◌, refl, sym, ap, subst}
+use Rattle.std.proofs.Common.{◌∙◌, sym, subst}
 use Rattle.pim_joinprune.specs.Spelling.{IsJoinPrune}
 use Rattle.scenario_defs.specs.declared.event.JoinEntry.TheVariants.{Source}
 use Rattle.edge_core.specs.State.{home_of}

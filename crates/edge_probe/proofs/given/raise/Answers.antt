@@ -1,4 +1,4 @@
-use Rattle.std.proofs.Common.{◌≡◌, ◌∙◌, refl, sym, ap, subst, Err}
+use Rattle.std.proofs.Common.{refl, ap, Err}
 use Rattle.edge_core.specs.declared.fault.EdgeFault.{EdgeFault}
 use Rattle.edge_probe.proofs.AnswerLemmas.{memory_alone}
 use Rattle.edge_probe.proofs.GivenLemmas.{first_down, first_given, first_not_lacking}

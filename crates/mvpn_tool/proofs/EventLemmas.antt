@@ -1,7 +1,11 @@
 -- Laws of one event.
 use Rattle.std.proofs.Common.{◌≡◌, ℕ, ◌⊎◌, inl, inr, List, [], ◌∷◌, ◌++◌, take, refl, sym, ap, subst, ◌∙◌}
 use Rattle.std.specs.Prelude.{Option, Result, Ok, Err, OnOk, OnErr, IfErr, All}
+use Rattle.std.specs.List.{AllByRecursion}
+use Rattle.std.proofs.lemmas.List.Elements.{recursion_from_All}
 use Rattle.mv_base.specs.declared.ids.NodeId.{NodeId}
+use Rattle.report_text.specs.report_lines.Bounds.{HasTypeBounds}
+use Rattle.audit_text.specs.Texts.{IsKnown}
 use Rattle.mv_io.specs.Octets.{Appended, AppendedPart}
 use Rattle.mv_io.proofs.OctetsLemmas.{appended-nil, prefix-nil}
 use Rattle.scenario_defs.specs.Text.{IsLineOf}
@@ -41,6 +45,11 @@ not_label : (stop : Stop) → (stop ≡ stops.Sink) ⊎ (stop ≡ stops.Memory) 
 not_label stop (inl sink) e = absurd cc
 not_label stop (inr memory) e = absurd cc
 
+-- Lines that name what is there and keep to their bounds are known.
+all_known : (scenario : Scenario) (all : List ReportLine) → AllByRecursion (IsLineOf scenario) all → AllByRecursion HasTypeBounds all → AllByRecursion (IsKnown scenario) all
+all_known scenario [] names bounds = tt
+all_known scenario (line ∷ more) names bounds = ((names.0, bounds.0), all_known scenario more names.1 bounds.1)
+
 module _ (scenario : Scenario) (timed : Timed) (view : WorldView) where
   abbrev pub reached : Place scenario timed view → IsReached timed view
   reached place = record { cores = place.cores; script = place.script; count = place.count; trace = place.trace; world = place.state; behind = place.behind; next = place.next }
@@ -63,10 +72,11 @@ module _ (scenario : Scenario) (timed : Timed) (view : WorldView) where
       made_are_known place known = subst (All (IsLineOf scenario)) (sym (made_lines place (advance place))) known
 
       -- The step was made, and its lines were written.
-      pub event_made : (old new : Option (List ℕ)) (result : Answer) → OnOk result (Appended old new (lines_text detail scenario new_lines)) →
+      pub event_made : ((place : Place scenario timed view) → All (IsLineOf scenario) (event_lines timed.line (outcome place.state timed))) → All HasTypeBounds new_lines →
+          (old new : Option (List ℕ)) (result : Answer) → OnOk result (Appended old new (lines_text detail scenario new_lines)) →
           OnErr result (AppendedPart old new (lines_text detail scenario new_lines)) → IfErr result (λ stop. (stop ≡ stops.Sink) ⊎ (stop ≡ stops.Memory)) →
           EventEnds detail scenario timed view now old new result
-      event_made old new (Ok tt) whole part others = record {
+      event_made names bounds old new (Ok tt) whole part others = record {
         made = λ place.
             let a = advance place in
             record {
@@ -74,12 +84,14 @@ module _ (scenario : Scenario) (timed : Timed) (view : WorldView) where
               state = a.next;
               is = a.is;
               behind = reached_more timed view (reached place) own new_lines now a;
+              known = subst (AllByRecursion (IsKnown scenario)) (a.told ∙ ap (λ (l : List ReportLine). l ++ lines_in a.acts) none)
+                  (all_known scenario new_lines (recursion_from_All (IsLineOf scenario) new_lines (made_are_known place (names place))) (recursion_from_All HasTypeBounds new_lines bounds));
               text = subst (λ (l : List ReportLine). Appended old new (lines_text detail scenario l)) (made_lines place a) whole;
             };
         lacks = λ e. absurd (not_failed stops.Label e);
         part = tt;
       }
-      event_made old new (Err stop) whole part others = record {
+      event_made names bounds old new (Err stop) whole part others = record {
         made = tt;
         lacks = λ e. absurd (not_label stop others (same_stop stop stops.Label e));
         part = λ place. subst (λ (l : List ReportLine). AppendedPart old new (lines_text detail scenario l)) (made_lines place (advance place)) part;

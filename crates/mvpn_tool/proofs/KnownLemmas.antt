@@ -13,7 +13,11 @@ use Rattle.scenario_defs.specs.declared.event.Timed.{Timed}
 use Rattle.scenario_defs.specs.declared.report.ReportLine.TheVariants as lines
 use Rattle.scenario_defs.specs.declared.scenario.Scenario.{Scenario}
 use Rattle.mvpn_model.specs.Once.{Once}
-use Rattle.mvpn_model.specs.Report.{Entry, refused_lines}
+use Rattle.mvpn_model.specs.Report.{Entry, lines_of, refused_lines}
+use Rattle.audit_defs.specs.declared.verdict.ReportLines.{ReportLines}
+use Rattle.audit_defs.specs.Markers.{values}
+use Rattle.audit_defs.specs.Verdicts.{HasNoOffence}
+use Rattle.run_laws.specs.Plain.{plain}
 use Rattle.mvpn_model.specs.Safe.{Safe}
 use Rattle.network_defs.specs.Costs.{AreCoresOf, Cores}
 use Rattle.network_defs.specs.Events.{Happened, Outcome, Done, Halted}
@@ -119,7 +123,11 @@ module _ (readable_runs : ReadableRuns) (rule : KeepsRule) (tells : ReportsReady
     Safe script.scenario events (refused_lines (report_of trace)) (report_of trace))
     (once : (cores : Cores) (script : Script) (events : List Timed) (trace : List Traced) (new : World) → SoundRun cores script events trace new → Rises 0 events →
     Once script.scenario events (refused_lines (report_of trace)) (report_of trace))
-    (local : (cores : Cores) (script : Script) (events : List Timed) (trace : List Traced) (new : World) → SoundRun cores script events trace new → Local new trace) where
+    (local : (cores : Cores) (script : Script) (events : List Timed) (trace : List Traced) (new : World) → SoundRun cores script events trace new → Local new trace)
+    (fair : (cores : Cores) (script : Script) (trace : List Traced) (new : World) (report : ReportLines) → SoundRun cores script script.events trace new → Rises 0 script.events →
+    values report.lines ≡ lines_of (report_of trace) → HasNoOffence script report)
+    (plain_fair : (cores : Cores) (script : Script) (trace : List Traced) (new : World) (report : ReportLines) → SoundRun cores script script.events trace new → Rises 0 script.events →
+    values report.lines ≡ lines_of (plain (report_of trace)) → HasNoOffence script report) where
   -- A run of all events is as it is to be.
   pub whole_run : (cores : Cores) (script : Script) (trace : List Traced) (state : World) → ScriptRules script → ScriptHasOctets script → AreCoresOf script.scenario cores →
       Run cores script script.events trace state → IsWholeRun cores script trace state
@@ -137,6 +145,10 @@ module _ (readable_runs : ReadableRuns) (rule : KeepsRule) (tells : ReportsReady
         label_rule = rule_from_start rule cores script sound.scenario of_scenario sound.sound_events;
         unready = tells cores script script.events trace state rules.scenario rules.lines run;
         settles = settles_in settled drained cores script script.events trace state sound;
+        fair = λ report same. elim same [
+          | inl whole ↦ fair cores script trace state report sound rules.lines whole
+          | inr told ↦ plain_fair cores script trace state report sound rules.lines told
+        ];
       }
 
 module _ (readable_events : ReadableEvents) (rule : KeepsRule) (tells : ReportsReady) (settled : SettlesWithin) (drained : DrainsWithin)

@@ -1,4 +1,5 @@
 pub mod TextLemmas
+pub mod OwnReports
 pub mod KnownLemmas
 pub mod FirstEventLemmas
 pub mod EventLemmas

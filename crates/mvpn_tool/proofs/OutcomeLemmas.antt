@@ -1,6 +1,7 @@
 -- Laws of what was replayed so far.
 use Rattle.std.proofs.Common.{◌≡◌, ℕ, zero, suc, ◌+◌, ◌<◌, List, [], ◌∷◌, ◌++◌, length, take, drop, get_or, slice_get, refl, sym, ap, subst, ◌∙◌, append-nil, arith}
 use Rattle.std.specs.Prelude.{Option, Some, Result, Ok, Err}
+use Rattle.std.specs.List.{AllByRecursion}
 use Rattle.std.proofs.lemmas.List.{take_all}
 use Rattle.std.proofs.lemmas.Option.{slice_get_read}
 use Rattle.mv_base.specs.declared.ids.NodeId.{NodeId}
@@ -11,7 +12,10 @@ use Rattle.scenario_defs.specs.declared.event.Script.{Script}
 use Rattle.scenario_defs.specs.declared.event.Timed.{Timed}
 use Rattle.scenario_defs.specs.declared.report.ReportLine.TheVariants as lines
 use Rattle.scenario_defs.specs.declared.scenario.Scenario.{Scenario}
-use Rattle.mvpn_model.specs.Report.{Entry}
+use Rattle.scenario_defs.specs.declared.report.ReportLine.{ReportLine}
+use Rattle.audit_text.specs.Texts.{IsKnown}
+use Rattle.mvpn_model.specs.Report.{Entry, lines_of}
+use Rattle.network_events.specs.delivery_laws.Flood.{lines_in}
 use Rattle.network_defs.specs.Costs.{AreCoresOf, Cores}
 use Rattle.network_defs.specs.Events.{Happened, Outcome, Done, Halted}
 use Rattle.network_defs.specs.Run.{Halts, Run, Traced, outcome, report_of, traced}
@@ -27,7 +31,7 @@ use Rattle.mvpn_tool.specs.declared.command.Detail.{Detail}
 use Rattle.mvpn_tool.specs.declared.stop.Stop.{Stop}
 use Rattle.mvpn_tool.specs.declared.stop.Stop.TheVariants as stops
 use Rattle.mvpn_tool.proofs.FirstEventLemmas.{behind_none}
-use Rattle.mvpn_tool.proofs.TextLemmas.{text_halted, text_more, text_none, text_of-append}
+use Rattle.mvpn_tool.proofs.TextLemmas.{lines_at, lines_of-append, report_of-append, text_halted, text_more, text_none, text_of-append}
 
 abbrev ended : Stop → Result WorldView Stop
 ended stop = Err stop
@@ -59,6 +63,17 @@ halts_at cores script count trace state timed acts node of_scenario run at lacks
   whole = ap (λ (n : ℕ). report_of (trace ++ traced n acts) ++ record { event = n; lines = lines.Halt timed.line node ∷ [] } ∷ []) (sym (length_first script.events count timed at));
 }
 
+known_append : (scenario : Scenario) (first more : List ReportLine) → AllByRecursion (IsKnown scenario) first → AllByRecursion (IsKnown scenario) more → AllByRecursion (IsKnown scenario) (first ++ more)
+known_append scenario [] more a b = b
+known_append scenario (line ∷ first) more a b = (a.0, known_append scenario first more a.1 b)
+
+-- The lines of one event more are known.
+known_more : (scenario : Scenario) (trace : List Traced) (count : ℕ) (acts : List Happened) → AllByRecursion (IsKnown scenario) (lines_of (report_of trace)) → AllByRecursion (IsKnown scenario) (lines_in acts) →
+    AllByRecursion (IsKnown scenario) (lines_of (report_of (trace ++ traced count acts)))
+known_more scenario trace count acts a b =
+    subst (AllByRecursion (IsKnown scenario)) (sym (ap lines_of (report_of-append trace (traced count acts)) ∙ lines_of-append (report_of trace) (report_of (traced count acts))))
+    (known_append scenario (lines_of (report_of trace)) (lines_of (report_of (traced count acts))) a (subst (AllByRecursion (IsKnown scenario)) (sym (lines_at count acts)) b))
+
 module _ (known : KnownRuns) (detail : Detail) (script : Script) (rules : ScriptRules script) (octets : ScriptHasOctets script) where
   abbrev text : List Entry → List ℕ
   text report = text_of detail script.scenario report
@@ -79,6 +94,7 @@ module _ (known : KnownRuns) (detail : Detail) (script : Script) (rules : Script
         trace = [];
         state = start script.scenario own.0;
         behind = behind_none script rules view begun own.0 own.1;
+        known = tt;
         text = subst (Appended old old) (sym (text_none known.text detail script.scenario)) (appended-nil old);
       }
 
@@ -115,6 +131,7 @@ module _ (known : KnownRuns) (detail : Detail) (script : Script) (rules : Script
           trace = r.trace ++ traced count g.acts;
           state = g.state;
           behind = g.behind;
+          known = known_more script.scenario r.trace count g.acts r.known (subst (λ (s : Scenario). AllByRecursion (IsKnown s) (lines_in g.acts)) (sym names) g.known);
           text = subst (Appended old new) (sym both) (appended-append old mid new (text (report_of r.trace)) (event_text detail scenario timed view place_of) r.text g.text);
         }
 

@@ -18,7 +18,7 @@ use Rattle.mvpn_tool.specs.declared.command.Detail.{Detail}
 use Rattle.mvpn_tool.specs.declared.command.Detail.TheVariants as details
 
 -- all are kept
-all_told : (all : List ReportLine) → all ≡ filter (is_told details.Wire) all
+pub all_told : (all : List ReportLine) → all ≡ filter (is_told details.Wire) all
 all_told [] = refl
 all_told (line ∷ more) = ap (λ (l : List ReportLine). line ∷ l) (all_told more)
 

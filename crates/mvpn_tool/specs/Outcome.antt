@@ -1,5 +1,6 @@
 -- How a replay may end: what it read, what it wrote, and in what world.
 use Rattle.std.specs.Prelude.{◌≡◌, ℕ, ◌+◌, ◌++◌, ◌⊎◌, ⊤, List, [], length, slice_get, Option, None, Some, Result, Ok, Err, MatchResult, OnOk, OnErr, IsErrOf}
+use Rattle.std.specs.List.{AllByRecursion}
 use Rattle.mv_base.specs.declared.ids.NodeId.{NodeId}
 use Rattle.mv_io.specs.Octets.{Appended, AppendedPart}
 use Rattle.scenario_defs.specs.declared.event.Script.{Script}
@@ -8,13 +9,15 @@ use Rattle.scenario_defs.specs.declared.scenario.Scenario.{Scenario}
 use Rattle.line_words.specs.FaultText.{fault_text}
 use Rattle.line_words.specs.declared.fault.TextFault.{TextFault}
 use Rattle.scenario_text.specs.Grammar.{script_of}
-use Rattle.mvpn_model.specs.Report.{Entry}
+use Rattle.mvpn_model.specs.Report.{Entry, lines_of}
 use Rattle.network_defs.specs.Costs.{Cores}
 use Rattle.network_defs.specs.Events.{Happened, Done, Halted}
 use Rattle.network_defs.specs.Run.{Traced, outcome, report_of, traced}
 use Rattle.network_defs.specs.World.{World}
 use Rattle.run_laws.specs.Octets.{ScriptHasOctets}
 use Rattle.network_events.specs.WorldView.{WorldView}
+use Rattle.network_events.specs.delivery_laws.Flood.{lines_in}
+use Rattle.audit_text.specs.Texts.{IsKnown}
 use Rattle.mvpn_tool.specs.FirstEvents.{IsBehindFirst}
 use Rattle.mvpn_tool.specs.Input.{IsInput, Taken}
 use Rattle.mvpn_tool.specs.Report.{IsHaltedRun, IsReport, IsWholeRun, event_lines, lines_text, text_of}
@@ -47,6 +50,7 @@ pub record GoesOn (detail : Detail) (scenario : Scenario) (timed : Timed) (view 
   pub state : World
   pub is : outcome place.state timed ≡ Done acts state
   pub behind : IsBehindFirst place.cores place.script (place.count + 1) (place.trace ++ traced place.count acts) state now
+  pub known : AllByRecursion (IsKnown scenario) (lines_in acts)
   pub text : Appended old new (event_text detail scenario timed view place)
 
 -- The event lacks a label, and its text was written.
@@ -66,12 +70,14 @@ pub record EventEnds (detail : Detail) (scenario : Scenario) (timed : Timed) (vi
 
 -- ---- a script
 
--- The first so many events were replayed: the world is behind them, and the text of their report was written.
+-- The first so many events were replayed: the world is behind them, the lines of their report name what is of the scenario and keep
+-- to the bounds of their types, and its text was written.
 pub record Replayed (detail : Detail) (script : Script) (count : ℕ) (old new : Option (List ℕ)) (view : WorldView) : Type 0 where
   pub cores : Cores
   pub trace : List Traced
   pub state : World
   pub behind : IsBehindFirst cores script count trace state view
+  pub known : AllByRecursion (IsKnown script.scenario) (lines_of (report_of trace))
   pub text : Appended old new (text_of detail script.scenario (report_of trace))
 
 -- All events were replayed.

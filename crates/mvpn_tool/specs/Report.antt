@@ -1,5 +1,5 @@
 -- The reports of a script, and what `replay` writes of one.
-use Rattle.std.specs.Prelude.{◌≡◌, ℕ, Bool, true, List, [], ◌∷◌, ◌++◌, length, filter}
+use Rattle.std.specs.Prelude.{◌≡◌, ◌⊎◌, ℕ, Bool, true, List, [], ◌∷◌, ◌++◌, length, filter, codes}
 use Rattle.std.specs.List.{flat_map}
 use Rattle.mv_base.specs.declared.ids.NodeId.{NodeId}
 use Rattle.scenario_defs.specs.Text.{line_text}
@@ -8,7 +8,7 @@ use Rattle.scenario_defs.specs.declared.report.ReportLine.{ReportLine}
 use Rattle.scenario_defs.specs.declared.report.ReportLine.TheVariants as lines
 use Rattle.scenario_defs.specs.declared.scenario.Scenario.{Scenario}
 use Rattle.mvpn_model.specs.Once.{Once}
-use Rattle.mvpn_model.specs.Report.{Entry, report_text, refused_lines}
+use Rattle.mvpn_model.specs.Report.{Entry, lines_of, report_text, refused_lines}
 use Rattle.mvpn_model.specs.Safe.{Safe}
 use Rattle.network_defs.specs.Costs.{AreCoresOf, Cores}
 use Rattle.network_defs.specs.Events.{Outcome, Done, Halted}
@@ -21,6 +21,9 @@ use Rattle.run_laws.specs.Plain.{is_plain, plain}
 use Rattle.run_laws.specs.Ready.{ReportsUnready}
 use Rattle.run_laws.specs.rule_laws.Throughout.{ThroughoutEvents}
 use Rattle.settle_laws.specs.Behind.{Settles}
+use Rattle.audit_defs.specs.declared.verdict.ReportLines.{ReportLines}
+use Rattle.audit_defs.specs.Markers.{values}
+use Rattle.audit_defs.specs.Verdicts.{HasNoOffence}
 use Rattle.mvpn_tool.specs.declared.command.Detail.{Detail}
 use Rattle.mvpn_tool.specs.declared.command.Detail.TheVariants as details
 
@@ -28,7 +31,7 @@ use Rattle.mvpn_tool.specs.declared.command.Detail.TheVariants as details
 -- that is sent while the network is calm leaves once at each of its receivers, and nowhere else; and each hop is licensed by what its
 -- node and the neighbour have put and taken. The label rule holds after each act. The last number of each `state` line is how many
 -- sessions are not ready by the events alone. After each `settle` no octet is in transit and no timer is due, and after each `drain` no
--- copy is on a link.
+-- copy is on a link. The lines of its report, whole or plain, have no offence.
 pub record IsWholeRun (cores : Cores) (script : Script) (trace : List Traced) (world : World) : Type 0 where
   pub of_scenario : AreCoresOf script.scenario cores
   pub run : Run cores script script.events trace world
@@ -38,6 +41,9 @@ pub record IsWholeRun (cores : Cores) (script : Script) (trace : List Traced) (w
   pub label_rule : ThroughoutEvents LabelRule (start script.scenario cores) script.events
   pub unready : ReportsUnready script.scenario script.events (refused_lines (report_of trace)) (report_of trace)
   pub settles : Settles cores script script.events trace
+  pub fair :
+      (report : ReportLines) → (values report.lines ≡ lines_of (report_of trace)) ⊎ (values report.lines ≡ lines_of (plain (report_of trace))) →
+      HasNoOffence script report
 
 -- The run halts at that node, for want of a label, with this report, whose last line says so. It is safe and local up to there, and the
 -- label rule holds after each act. Of the events before the one that halts each datagram of a calm network was delivered once, and what is
@@ -82,6 +88,10 @@ told details.Plain report = plain report
 -- the text of what is told of a report
 abbrev pub text_of : Detail → Scenario → List Entry → List ℕ
 text_of detail scenario report = report_text scenario (told detail report)
+
+-- a script, the line `report`, and what is told of a report behind it
+abbrev pub own_report : Detail → List ℕ → Script → List Entry → List ℕ
+own_report detail text script report = text ++ codes "report\n" ++ text_of detail script.scenario report
 
 -- whether a line is told
 abbrev pub is_told : Detail → ReportLine → Bool

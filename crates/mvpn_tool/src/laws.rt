@@ -1,15 +1,22 @@
 //! What is known of a script and of its runs. No function here does anything: each says what laws of lower crates come to.
-ghost use Rattle.std.specs.Prelude.{All};
+ghost use Rattle.std.specs.Prelude.{All, ◌≡◌, ◌≤◌, ◌++◌, ◌∷◌, [], ℕ, List, Option, Ok, length};
 ghost use Rattle.scenario_defs.specs.Text.{IsLineOf};
 ghost use Rattle.scenario_defs.specs.declared.event.Timed.{Timed};
 ghost use Rattle.scenario_defs.specs.declared.scenario.Scenario.{Scenario};
-ghost use Rattle.network_defs.specs.Run.{outcome};
+ghost use Rattle.network_defs.specs.Run.{outcome, report_of};
+ghost use Rattle.scenario_text.specs.Grammar.{script_of};
+ghost use Rattle.audit_defs.specs.declared.verdict.ReportLines.{ReportLines};
+ghost use Rattle.audit_defs.specs.Verdicts.{HasNoOffence};
+ghost use Rattle.audit_text.specs.Texts.{Says};
+ghost use Rattle.mvpn_tool.specs.declared.command.Detail.{Detail};
 ghost use Rattle.run_laws.specs.Octets.{ScriptHasOctets};
 ghost use Rattle.network_events.specs.WorldView.{WorldView};
 ghost use Rattle.mvpn_tool.specs.Known.{KnownRuns};
-ghost use Rattle.mvpn_tool.specs.Outcome.{Place};
-ghost use Rattle.mvpn_tool.specs.Report.{event_lines};
+ghost use Rattle.mvpn_tool.specs.Outcome.{Place, ReplaysWhole};
+ghost use Rattle.mvpn_tool.specs.Report.{event_lines, own_report};
 
+use audit_laws::runs_have_no_offence;
+use audit_text::reports_are_said;
 use license_laws::{halting_runs_are_local, runs_are_local};
 use network_events::of_network_laws::core_laws::each_scenario_has_cores;
 use network_events::of_once_laws::{
@@ -61,4 +68,18 @@ pub(crate) fn runs_are_known()
     one_run_or_one_halt();
     first_events_of_a_run_run();
     a_plain_report_says_as_much();
+    runs_have_no_offence();
+}
+
+/// What `replay` writes of all events of a script that ends with a line feed, behind that script and the line `report`, is a report without
+/// an offence.
+pub fn own_reports_have_no_offence()
+    ensures { (detail : Detail) (front : List ℕ) (script : Script) (old new : Option (List ℕ)) (view : WorldView) →
+        script_of (front ++ 10 ∷ []) ≡ Ok script → (whole : ReplaysWhole detail script old new view) →
+        length (own_report detail (front ++ 10 ∷ []) script (report_of whole.replayed.trace)) ≤ 16777216 →
+        (report : ReportLines) × Says (own_report detail (front ++ 10 ∷ []) script (report_of whole.replayed.trace)) script report
+        × HasNoOffence script report }
+{
+    a_plain_report_says_as_much();
+    reports_are_said();
 }

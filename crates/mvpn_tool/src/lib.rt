@@ -8,7 +8,7 @@
 //! `Commands`); `Report` is a whole run and a halted one with all that is promised of them, `Known` what the laws of
 //! runs say, `Outcome`, `DecodeOutcome` and `Sweep` how each command may end. Below it are the text room
 //! (`scenario_text`, `report_text`, `decode_text`, `generator`), the network (`network_events`), the laws of runs
-//! (`settle_laws`, `license_laws`, `run_laws`, `made_laws`) and `mv_io`; above it `mvpn` is the program.
+//! (`settle_laws`, `license_laws`, `run_laws`, `audit_laws`, `made_laws`) and `mv_io`; above it `mvpn` is the program.
 #![tactic(auto)]
 
 mod command;
@@ -24,6 +24,7 @@ mod sweep;
 mod top;
 
 pub use command::{Command, Detail};
+pub use laws::own_reports_have_no_offence;
 pub use network_events::World;
 pub use stop::Stop;
 pub use top::{End, run};

@@ -13,7 +13,7 @@ ghost use Rattle.mvpn_tool.specs.declared.stop.Stop.TheVariants as stops;
 use crate::command::Detail;
 use crate::input::read_all;
 use crate::laws::{lines_are_known, runs_are_known, script_has_octets};
-use crate::report::{put_lines, text_of_fault};
+use crate::report::{have_type_bounds, put_lines, text_of_fault};
 use crate::stop::Stop;
 use mv_base::{Bytes, NodeId};
 use mv_io::{Sink, Source, write_all};
@@ -91,7 +91,10 @@ fn replay_event<K: Sink>(
     lines_are_known();
     let mut lines = Lines::new(alloc);
     match world.step(timed.line, &timed.event, &mut lines) {
-        Ok(()) => write_lines(detail, scenario, &lines, text, sink),
+        Ok(()) => {
+            have_type_bounds(lines.as_slice());
+            write_lines(detail, scenario, &lines, text, sink)
+        }
         Err(Halt::NoMemory) => Err(Stop::Memory),
         Err(Halt::NoLabel(node)) => {
             Err(write_halt(detail, scenario, timed.line, node, &mut lines, text, sink))

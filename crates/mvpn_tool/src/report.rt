@@ -2,14 +2,25 @@
 ghost use Rattle.std.specs.Prelude.{◌≡◌, ◌++◌, [], ◌∷◌, All, OnOk, IfOk};
 ghost use Rattle.scenario_defs.specs.Text.{IsLineOf};
 ghost use Rattle.line_words.specs.FaultText.{fault_text};
+ghost use Rattle.report_text.specs.report_lines.Bounds.{HasTypeBounds};
 ghost use Rattle.mvpn_tool.specs.Report.{is_told, lines_text};
 
 use crate::command::Detail;
 use line_words::{TextFault, reason_word};
 use mv_base::{Bytes, NoMemory};
+use report_text::report_lines::has_type_bounds;
 use report_text::write_line;
 use scenario_defs::{ReportLine, Scenario};
 use std::alloc::Global;
+
+/// What the types of the program say of lines. It does nothing else.
+pub fn have_type_bounds(lines: &[ReportLine])
+    ensures { All HasTypeBounds lines.now }
+{
+    for line in lines {
+        has_type_bounds(line);
+    }
+}
 
 /// Whether a line is told.
 fn is_told(detail: Detail, line: &ReportLine) -> bool

@@ -15,7 +15,8 @@ write_lines-requires g c =
 
 pub returns-in-Ok-clause-ends : goal.returns-in-Ok-clause-ends
 returns-in-Ok-clause-ends g c =
-    event_made c.args.scenario.now c.args.timed.now c.args.world.now c.args.detail c.step.new.self _ _ c.new-lines.ensures c.in-Ok.ensures _ _ c.write_lines.result
+    event_made c.args.scenario.now c.args.timed.now c.args.world.now c.args.detail c.step.new.self _ _ c.new-lines.ensures c.in-Ok.ensures
+    (c.lines_are_known.ensures _ _ _) (rw c.as_slice.ensures at c.have_type_bounds.ensures) _ _ c.write_lines.result
     c.write_lines.ensures.ok c.write_lines.ensures.err c.write_lines.ensures.others
 
 pub returns-in-Err-NoMemory-clause-ends : goal.returns-in-Err-NoMemory-clause-ends

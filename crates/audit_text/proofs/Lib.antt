@@ -1,0 +1,5 @@
+pub mod CutLemmas
+pub mod ReadLemmas
+pub mod SaysLemmas
+pub mod MarkLemmas
+pub mod ReportTexts

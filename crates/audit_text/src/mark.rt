@@ -1,0 +1,84 @@
+//! The line `report` of a text.
+ghost use Rattle.std.specs.Prelude.{◌≡◌, ◌==◌, ◌≤◌, ◌+◌, false, length, position, IfOk, IfErr};
+ghost use Rattle.std.specs.List.{list_all, list_any};
+ghost use Rattle.std.specs.Str.Lines.{lines};
+ghost use Rattle.audit_text.specs.Texts.{is_ended, is_mark};
+ghost use Rattle.audit_text.specs.Cutting.{line_length, AreParts};
+
+use line_words::{TEXT_LIMIT, split_line};
+
+/// The texts before and behind a line `report`, and the number of that line.
+#[derive(Clone, Copy)]
+pub(crate) struct Parts<'a> {
+    pub front: &'a [u8],
+    pub number: u32,
+    pub behind: &'a [u8],
+}
+
+fn are_spaces(octets: &[u8]) -> bool
+    ensures { result ≡ list_all (λ octet. octet == 32) octets.now }
+{
+    octets.iter().all(|octet| *octet == b' ')
+}
+
+/// Whether octets are `report` with nothing but spaces behind.
+fn is_ended(octets: &[u8]) -> bool
+    ensures { result ≡ is_ended octets.now }
+{
+    match octets.strip_prefix(b"report".as_slice()) {
+        Some(behind) => are_spaces(behind),
+        None => false,
+    }
+}
+
+/// Whether the only word of the line is `report`.
+fn is_mark(line: &[u8]) -> bool
+    ensures { result ≡ is_mark line.now }
+{
+    let mut rest = line;
+    'spaces: while let [b' ', behind @ ..] = rest {
+        rest = behind;
+    }
+    is_ended(rest)
+}
+
+fn line_feed(text: &[u8]) -> Option<usize>
+    ensures { result ≡ position (λ octet. octet == 10) text.now }
+{
+    text.iter().position(|octet| *octet == b'\n')
+}
+
+/// How many octets the first line of a text has, with the line feed behind it.
+fn line_length(text: &[u8]) -> usize
+    ensures { result ≡ line_length text.now }
+{
+    match line_feed(text) {
+        Some(place) => place + 1,
+        None => text.len(),
+    }
+}
+
+/// The parts of a text before and behind its first line `report`. Where there is none, answers the number of the line behind the last.
+pub(crate) fn parts_of(text: &[u8]) -> Result<Parts<'_>, u32>
+    requires { length text.now ≤ TEXT_LIMIT }
+    ensures parts { IfOk result (λ parts. AreParts text.now parts.front.now parts.behind.now parts.number) }
+    ensures none { IfErr result (λ number. (list_any is_mark (lines text.now) ≡ false) × (number ≡ length (lines text.now) + 1)) }
+{
+    let mut place = 0;
+    let mut number = 1;
+    'lines: while place < text.len() {
+        let rest = &text[place..];
+        let (line, behind) = split_line(rest);
+        if is_mark(line) {
+            let front = &text[..place];
+            return Ok(Parts {
+                front,
+                number,
+                behind,
+            });
+        }
+        number += 1;
+        place += line_length(rest);
+    }
+    Err(number)
+}

@@ -1,7 +1,7 @@
 #!/usr/bin/env python3
 """Runs a command by the definitions, plainly and slowly: `reference.py replay [--wire]` replays a scenario and its script; `audit`
-judges a finished report; `probe` tells what an edge makes of the octets of a peer; `pcap` writes the file of the hops of a replay,
-and `hops` tells the lines of such a file.
+judges a finished report; `probe` tells what an edge makes of the octets of a peer; `ingress` replicates at the ingress; `pcap` writes
+the file of the hops of a replay, and `hops` tells the lines of such a file.
 
 The input is read from standard input. What is written, and the status, are as by the program.
 """
@@ -9,6 +9,7 @@ The input is read from standard input. What is written, and the status, are as b
 import sys
 
 from reference.audit import audit
+from reference.ingress import ingress
 from reference.pcap import hops, pcap
 from reference.probe import probe
 from reference.replaying import replay
@@ -19,6 +20,7 @@ COMMANDS = {
     ('replay', '--wire'): lambda octets: replay(octets, True),
     ('audit',): audit,
     ('probe',): probe,
+    ('ingress',): ingress,
     ('pcap',): pcap,
     ('hops',): hops,
 }

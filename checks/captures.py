@@ -7,7 +7,8 @@ Of each example and its report `tools/wireshark.py` makes a file. What is told o
 
 The octets of one example are then put into segments and files of other kinds: cut short, in another order, sent twice, behind tags and
 labels, on other links, in other formats. What is told has to be the same. Last come streams with faults and with octets that are
-missing, and messages of PIM with other checksums, whose lines are laid out here.
+missing, and messages of PIM with other checksums, whose lines are laid out here; and a capture of live daemons, with its lines beside it
+(examples/lab/daemons).
 
 The command is `./mvpn` of this repository, unless another one is named. Prints the cases that differ, and then 'N passed, M failed'.
 """
@@ -30,6 +31,7 @@ from wireshark import streams_of
 
 TOP = pathlib.Path(__file__).resolve().parent.parent
 TOOL = [sys.executable, str(TOP / 'tools' / 'decode_capture.py')]
+LAB = TOP / 'examples' / 'lab'
 # the example whose octets are put into other segments and files
 OTHERWISE = 'dual-homed.txt'
 # by its first word, the type of a message, as tshark tells it
@@ -353,11 +355,28 @@ def made_cases(command):
         yield name, [differences(texts(told(command, pcap_file(frames))), wanted)]
 
 
+def lab_differences(command, path):
+    """In what the lines of a kept capture differ from those beside it, each behind its frame."""
+    capture = path.read_bytes()
+    lines = told(command, capture)
+    yield differences([f'{line[0]} {line[5]}' for line in lines], (path.parent / 'told').read_text().splitlines())
+    if shutil.which('tshark'):
+        types = [(frame, time, type_of(text)) for frame, time, *_, text in lines if type_of(text) is not None]
+        hello = 0
+        yield differences(types, [one for one in shown(capture) if one[2] != hello])
+
+
+def lab_cases(command):
+    for path in sorted(LAB.glob('daemons/*.pcap')):
+        yield f'lab, {path.name}', list(lab_differences(command, path))
+
+
 def cases(program, command):
     for name, text in examples().items():
         yield name, list(example_differences(program, command, name, text))
     yield from other_cases(program, command, examples()[OTHERWISE])
     yield from made_cases(command)
+    yield from lab_cases(command)
 
 
 def main():

@@ -6,7 +6,8 @@ what looks like a path of this repository does, as `network_defs/specs/Acts.antt
 of a crate. A word in capitals, as in `crates/NAME`, stands for any name. In ARCHITECTURE: that each crate is in one room of the
 house; that in the table of rules a path without a crate is beside the one before it; and that the recipe for a new event names
 exactly the crates in which two events both have a case, with each file of `src` and `specs` that has both. In CALLS: that each
-crate with public functions has a row.
+crate with public functions has a row. In FAULTS: that each section has a row for exactly the words of its enum in the code, with
+an example, which is a row of rows.py.
 
 Of the crates: that each begins with a paragraph about itself, at the head of `src/lib.rt` or `src/main.rt`; and that the ways
 down crates.txt, which `rt` walks at each start, are not too many.
@@ -22,9 +23,11 @@ import re
 import subprocess
 import sys
 
+from rows import faults
+
 TOP = pathlib.Path(__file__).resolve().parent.parent
 CRATES = TOP / 'crates'
-ARCHITECTURE, CALLS = 'docs/ARCHITECTURE.md', 'docs/CALLS.md'
+ARCHITECTURE, CALLS, FAULTS = 'docs/ARCHITECTURE.md', 'docs/CALLS.md', 'docs/FAULTS.md'
 # the folders of a crate, and those at the top whose files documents name
 PARTS = ('src', 'specs', 'proofs', 'must-fail')
 FOLDERS = ('checks', 'docs', 'bench', 'tools', 'examples', 'crates')
@@ -34,6 +37,20 @@ QUOTED = re.compile(r'`([A-Za-z0-9_./-]+)`')
 ANY_NAME = re.compile(r'(^|/)[A-Z]+(/|$)')
 # two events that are alike in nothing but that they are events: what has a case for both goes by cases over all of them
 EVENTS = (re.compile(r'\bIdle\b'), re.compile(r'\bUnselect\b'))
+# the sections of FAULTS, each with the file of its enum and the enum
+WORDS = {
+    'Faults of a text': ('line_words/src/fault.rt', 'Reason'),
+    'Refused events': ('scenario_defs/src/report.rt', 'Refusal'),
+    'Faults of Join/Prune messages': ('pim_joinprune/src/fault.rt', 'PimFault'),
+    'Faults of packets': ('label_forwarding/src/fault.rt', 'PacketFault'),
+    'Faults of FEC elements': ('mldp/src/mldp_fec/fault.rt', 'FecReason'),
+    'Faults of PMSI Tunnel attributes': ('bgp_values/src/pmsi_attr/fault.rt', 'PmsiReason'),
+    'Faults of MCAST-VPN routes': ('bgp_values/src/mvpn_nlri/fault.rt', 'RouteReason'),
+    'Faults of BGP messages': ('bgp_messages/src/bgp_attributes/fault.rt', 'StreamFault'),
+    'Faults of LDP PDUs': ('mldp/src/mldp_msgs/fault.rt', 'LdpFault'),
+    'Faults of files of hops': ('core_pcap/src/fault.rt', 'PcapFault'),
+    'Offences of a report': ('audit_defs/src/verdict.rt', 'Offence'),
+}
 LEAST_HEAD = 4
 MOST_WAYS = 100_000
 
@@ -169,6 +186,33 @@ def crates_without_row(text):
     return [name for name in lower_crates() if name not in named and has_calls(name)]
 
 
+def words_of(path, name):
+    """The words of the variants of an enum: of `Same` it is `self`, and of the others the name in lower case."""
+    body = re.search(rf'^pub enum {name} {{\n(.*?)^}}', (CRATES / path).read_text(), re.M | re.S)[1]
+    variants = re.findall(r'^    (\w+)\b', body, re.M)
+    return ['self' if name == 'Same' else re.sub(r'(?<!^)(?=[A-Z])', '-', name).lower() for name in variants]
+
+
+def told_words(lines):
+    """The words of the rows of a section of FAULTS."""
+    return [found[1] for found in (re.match(r'\| `([a-z-]+)', line) for line in lines) if found]
+
+
+def faults_of_words(text):
+    """The words that a section of FAULTS lacks or has for nothing, and rows of it that are none of three cells."""
+    for title, (path, name) in WORDS.items():
+        number, lines = section(text, title)
+        told, wanted = told_words(lines), words_of(path, name)
+        for word in sorted({*told, *wanted}):
+            if told.count(word) != 1 or word not in wanted:
+                yield number, f'{word} of {name} has {told.count(word)} rows'
+        for at, line in enumerate(lines, number):
+            if line.startswith('| `') and (line.count(' | ') != 2 or ' → ' not in line.split(' | ')[1]):
+                yield at, 'no row of a word, an example and what to do'
+    if not any(faults()):
+        yield 0, 'no example that rows.py runs'
+
+
 def faults_of_document(document):
     text = (TOP / document).read_text()
     for number, line in enumerate(text.splitlines(), 1):
@@ -180,6 +224,8 @@ def faults_of_document(document):
         yield from faults_of_recipe(text)
     if document == CALLS:
         yield from ((0, f'no row of {crate}') for crate in crates_without_row(text))
+    if document == FAULTS:
+        yield from faults_of_words(text)
 
 
 def faults_of_heads():

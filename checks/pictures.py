@@ -2,7 +2,8 @@
 """Draws each example, and the way of each of its datagrams, by `tools/draw.py` and the reference program: `pictures.py`.
 
 A picture has to be well-formed XML, and has to have the name of each node, and one arrow for each `hop` and each `out` line of its
-datagram. The picture of the README has to be the one that is drawn. Prints the pictures that differ, and then 'N passed, M failed'.
+datagram; that of the script in time one arrow for each `out` line, a dot for each datagram that was accepted, and each `state` line.
+The pictures in docs/ have to be those that are drawn. Prints the pictures that differ, and then 'N passed, M failed'.
 """
 
 import pathlib
@@ -15,10 +16,11 @@ from reference.script import read
 TOP = pathlib.Path(__file__).resolve().parent.parent
 sys.path.insert(0, str(TOP / 'tools'))
 
-from draw import datagram_of, picture
+from draw import datagram_of, datagrams_of, picture
+from time_picture import time_picture
 
-# the example and the datagram of the README's picture
-SHOWN, NUMBER = 'two-customers', 3
+# the pictures in docs/: the example, and its datagrams, or none where it is the script in time
+SHOWN = {'two-customers': [3], 'changed-costs': [1, 2], 'restart': []}
 
 
 def words_of(drawn, kind):
@@ -33,20 +35,40 @@ def arrows(report, number):
 
 
 def is_drawn(script, report, number):
-    drawn = picture(script.scenario, datagram_of(script, report, number))
+    found = datagram_of(script, report, number)
+    drawn = picture(script.scenario, *([found] if found else []))
     told = sorted(title for title in words_of(drawn, 'title') if title.startswith(('hop ', 'out ')))
     return told == arrows(report, number) and {node.name for node in script.scenario.nodes} <= set(words_of(drawn, 'text'))
+
+
+def is_drawn_in_time(text, script, report):
+    drawn = time_picture(text, script, report).text()
+    lines = [line.split() for line in report.splitlines()]
+    outs = sorted(f'out {words[1]} {words[2]}' for words in lines if words[0] == 'out')
+    states = [' '.join(words[1:]) for words in lines if words[0] == 'state']
+    texts = words_of(drawn, 'text')
+    refused = {int(words[1]) for words in lines if words[0] == 'refused'}
+    ended = min([int(words[1]) for words in lines if words[0] == 'halt'], default=len(text))
+    sent = sum(timed.event.word in ('send', 'packet') and timed.line not in refused and timed.line < ended for timed in script.events)
+    return (sorted(words_of(drawn, 'title')) == outs and all(texts.count('calm' if one == '0 0 0 0 0' else one) for one in states)
+            and all(str(number) in texts for number in range(1, sent + 1)))
+
+
+def shown(name, text, script, report):
+    numbers = SHOWN[name]
+    return picture(script.scenario, *datagrams_of(script, report, numbers)) if numbers else time_picture(text, script, report).text()
 
 
 def checked():
     """Each picture, and whether it is as it has to be."""
     for path in sorted((TOP / 'examples').glob('*.txt')):
-        script, (report, _) = read(path.read_text()), replay(path.read_text(), True)
+        text = path.read_text()
+        script, (report, _) = read(text), replay(text, True)
         sent = sum(timed.event.word in ('send', 'packet') for timed in script.events)
         yield from ((f'{path.name}, datagram {number}', is_drawn(script, report, number)) for number in range(sent + 1))
-        if path.stem == SHOWN:
-            drawn = picture(script.scenario, datagram_of(script, report, NUMBER))
-            yield f'docs/{SHOWN}.svg', drawn == (TOP / 'docs' / f'{SHOWN}.svg').read_text()
+        yield f'{path.name} in time', is_drawn_in_time(text, script, report)
+        if path.stem in SHOWN:
+            yield f'docs/{path.stem}.svg', shown(path.stem, text, script, report) == (TOP / 'docs' / f'{path.stem}.svg').read_text()
 
 
 def main():

@@ -1,27 +1,38 @@
 #!/usr/bin/env python3
-"""Replays a scenario and its script by the definitions, plainly and slowly: `reference.py replay [--wire]`; or judges a finished
-report: `reference.py audit`.
+"""Runs a command by the definitions, plainly and slowly: `reference.py replay [--wire]` replays a scenario and its script; `audit`
+judges a finished report; `probe` tells what an edge makes of the octets of a peer; `ingress` replicates at the ingress; `pcap` writes
+the file of the hops of a replay, and `hops` tells the lines of such a file.
 
-The text is read from standard input. What is written, and the status, are as by the program's `replay`: the report, with status 7
-where a line `halt` ends it, or the line of the text's first fault, with status 3; and of `audit` `yes`, or `no LINE REASON` with
-status 8, or such a fault.
+The input is read from standard input. What is written, and the status, are as by the program.
 """
 
 import sys
 
 from reference.audit import audit
+from reference.ingress import ingress
+from reference.pcap import hops, pcap
+from reference.probe import probe
 from reference.replaying import replay
+
+# what each command makes of an input: what is written, and the status
+COMMANDS = {
+    ('replay',): lambda octets: replay(octets, False),
+    ('replay', '--wire'): lambda octets: replay(octets, True),
+    ('audit',): audit,
+    ('probe',): probe,
+    ('ingress',): ingress,
+    ('pcap',): pcap,
+    ('hops',): hops,
+}
 
 
 def main(words):
-    if words == ['audit']:
-        text, status = audit(sys.stdin.buffer.read())
-    elif words in (['replay'], ['replay', '--wire']):
-        text, status = replay(sys.stdin.buffer.read(), words == ['replay', '--wire'])
-    else:
-        print('usage: reference.py replay [--wire] | audit')
+    command = COMMANDS.get(tuple(words))
+    if command is None:
+        print('usage: reference.py', ' | '.join(' '.join(known) for known in COMMANDS))
         return 2
-    sys.stdout.write(text)
+    written, status = command(sys.stdin.buffer.read())
+    sys.stdout.buffer.write(written if isinstance(written, bytes) else written.encode())
     return status
 
 

@@ -4,8 +4,8 @@
 A row is the words of a command, its input, the whole output and the status. Rows stand in checks/rows/*.txt, and each
 examples/NAME.txt with its NAME.report is one more; its status is 7 where the last line of the report begins with `halt `, and else
 0. So is each examples/NAME.audit with its NAME.answer, a row of `audit`, of status 0 where the answer is `yes`, and else 8. The
-command is `./mvpn` of this repository, unless another one is named. Rows of `replay` and of `audit` are run by the reference
-program of the definitions too. With files, only rows of these are run.
+command is `./mvpn` of this repository, unless another one is named. Rows of commands that the reference program of the
+definitions has are run by that one too. With files, only rows of these are run.
 
 A file of rows is made of blocks, and the first word of a block says what it is. Blank lines, and those that begin with
 `#`, are passed over.
@@ -21,12 +21,15 @@ A file of rows is made of blocks, and the first word of a block says what it is.
         < TEXT              a line of input. `\\t`, `\\r`, `\\n`, `\\\\` and `\\xHH` are octets; a `\\` at the end takes the line's LF away
         each M..N TEXT      that line for each of the numbers, which stands for `%`
         fill N TEXT         that line, filled with spaces up to N octets
+        octets HEX          octets of input in hexadecimal digits, with short words and spaces
         do EVENTS           events parted by `;`. The first of them puts the line `events` in front, unless it is there
         > LINE              a line of the output
+        wrote HEX           octets of the output, as behind `octets`
         kinds K, K          only the lines of the output that begin with one of these are compared
         status N            the status; 0 where there is no such line
 
-Scenarios and short words count in all files. Prints the rows that differ, and then 'N passed, M failed'.
+Scenarios and short words count in all files. Each example of docs/FAULTS.md is a row as well, of the one line that is told
+there. Prints the rows that differ, and then 'N passed, M failed'.
 """
 
 import argparse
@@ -40,10 +43,14 @@ from dataclasses import dataclass
 
 TOP = pathlib.Path(__file__).resolve().parent.parent
 ROWS = TOP / 'checks' / 'rows'
+FAULTS, FIRST = TOP / 'docs' / 'FAULTS.md', TOP / 'examples' / 'first-run.txt'
 REFERENCE = [sys.executable, str(TOP / 'checks' / 'reference.py')]
 ESCAPES = {'n': '\n', 'r': '\r', 't': '\t', '\\': '\\', '\n': ''}
 # the first words of blocks
 KINDS = ['short', 'scenario', 'table', 'row']
+# the commands that the reference program has as well, and those that it has alone
+REFERRED = ('replay', 'audit', 'probe', 'ingress', 'pcap', 'hops')
+ALONE = ('probe', 'ingress', 'pcap', 'hops')
 # the statuses of a replay that came to its end, to a fault of the text, or to a halt
 REPLAYED = (0, 3, 7)
 # seconds that a run may take: a program that is built without its proofs is not optimized, and slow at the limits
@@ -63,11 +70,14 @@ class Row:
     by: str = ''
 
     def runners(self):
-        """Who runs the row. The reference program has no command but `replay` and `audit`."""
+        """Who runs the row: the reference program too, where it has the command."""
+        command = self.words[0] if self.words else ''
+        if command in ALONE:
+            return [] if self.by == 'program' else ['reference']
         if self.by:
             return [self.by]
-        is_replayed = self.words[:1] == ['replay'] and self.status in REPLAYED
-        return ['program', 'reference'] if is_replayed or self.words == ['audit'] else ['program']
+        is_referred = command in REFERRED and (command != 'replay' or self.status in REPLAYED)
+        return ['program', 'reference'] if is_referred else ['program']
 
 
 # ---- texts of input
@@ -157,6 +167,8 @@ class Book:
             row.by = rest
         elif key == '>':
             row.output += self.spelled(rest) + '\n'
+        elif key == 'wrote':
+            row.output += self.octets_of(rest).decode('latin-1')
         elif key == 'kinds':
             row.kinds = tuple(rest.split(', '))
         elif key == 'status':
@@ -173,6 +185,8 @@ class Book:
             return (lines.replace(word, text) if word else lines).encode()
         if key == '<':
             return line_of(rest)
+        if key == 'octets':
+            return self.octets_of(rest)
         if key == 'each':
             return each(rest)
         if key == 'fill':
@@ -181,6 +195,9 @@ class Book:
             begins = b'' if b'events' in row.input.split(b'\n') else b'events\n'
             return begins + ''.join(event.strip() + '\n' for event in self.spelled(rest).split(';')).encode()
         raise ValueError(f'{place}: no line of a row begins with {key}')
+
+    def octets_of(self, text):
+        return bytes.fromhex(self.spelled(text))
 
     def spelled(self, text):
         """The text with its short words written out, and one space between words."""
@@ -196,6 +213,32 @@ def examples():
     for path in sorted((TOP / 'examples').glob('*.audit')):
         answer = path.with_suffix('.answer').read_text()
         yield Row(f'examples/{path.name}', ['audit'], path.read_bytes(), answer, 0 if answer == 'yes\n' else 8)
+
+
+def faults():
+    """The examples of FAULTS that are told as texts: lines between backquotes, or octets for the `decode` that the table is of."""
+    words = ['replay']
+    for number, line in enumerate(FAULTS.read_text().splitlines(), 1):
+        example, arrow, answer = line.split(' | ')[1].partition(' → ') if line.count(' | ') == 2 else ('', '', '')
+        texts = re.findall('`([^`]*)`', example)
+        if line.startswith('| word'):
+            decode = re.search('`(decode .*?)`', line)
+            words = decode[1].split() if decode else ['replay']
+        elif arrow and texts:
+            yield fault_row(f'docs/FAULTS.md:{number}', words, texts, answer.strip('`'))
+
+
+def fault_row(place, words, texts, answer):
+    kind = answer.split()[0]
+    row = Row(place, words, output=answer + '\n', kinds=(kind,), status={'fault': 3, 'no': 8, 'refused': int(words[0] == 'decode')}[kind])
+    if words[0] == 'decode':
+        row.input = re.sub('^F ', 'f' * 32, texts[0]).encode()
+        return row
+    first = re.sub('(?m)^#.*\n', '', FIRST.read_text()).partition('events\n')[0]
+    row.input = ''.join(first if text == 'FIRST' else text + '\n' for text in texts).encode()
+    if 'report' in texts:
+        row.words, row.by = ['audit'], 'reference'
+    return row
 
 
 # ---- the check
@@ -230,9 +273,9 @@ def main():
     options.add_argument('--command', default=str(TOP / 'mvpn'), help='runs the program')
     options.add_argument('files', nargs='*', help='names of files of rows, without .txt')
     given = options.parse_args()
-    rows = Book(sorted(ROWS.glob('*.txt'))).rows + list(examples())
+    rows = Book(sorted(ROWS.glob('*.txt'))).rows + [*examples(), *faults()]
     if given.files:
-        rows = [row for row in rows if re.split(r'\.txt', row.place)[0] in given.files]
+        rows = [row for row in rows if re.split(r'\.txt|\.md', row.place)[0] in given.files]
     commands = {'program': shlex.split(given.command), 'reference': REFERENCE}
     if not starts(commands['program']):
         print('the program does not start\n0 passed, 1 failed')

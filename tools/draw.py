@@ -1,11 +1,12 @@
 #!/usr/bin/env python3
-"""Draws a network, and the way of a datagram through it, as SVG: `draw.py SCENARIO [REPORT] [--datagram N] > OUT.svg`.
+"""Draws a network, the way of a datagram through it, or a script in time, as SVG: `draw.py SCENARIO [REPORT] [OPTION..] > OUT.svg`.
 
 SCENARIO is a file with a scenario and its script, taken as well formed. Its edges stand in two columns, the core nodes between
 them and the sites outside, and each customer has its colour. With `--datagram N` the way of datagram N is drawn too, by the
 report that `replay --wire` writes for that scenario, which stands in REPORT or comes on standard input: an arrow between a site
 and a VRF where the datagram enters and where it leaves, and one along a link for each copy, beside its label; it is dashed where
-the copy did not land.
+the copy did not land. With `--datagram` twice, two such pictures stand side by side. With `--time-line` the script is drawn in place
+of the network, event by event, by the same report: time_picture.py says how.
 """
 
 import argparse
@@ -14,15 +15,15 @@ import math
 import pathlib
 import sys
 from dataclasses import dataclass
-from xml.sax.saxutils import escape
 
-sys.path.insert(0, str(pathlib.Path(__file__).resolve().parent.parent / 'checks'))
+# behind this folder, as tools/wireshark.py does
+sys.path.append(str(pathlib.Path(__file__).resolve().parent.parent / 'checks'))
 
 from reference.scenario import edge_of, edges, entered, ifaces_where, is_of_site, is_of_vrf
 from reference.script import read
+from svg import COLOURS, INK, PALE, Box, Picture, arrow, aside, between, line_through, moved, rect, side_by_side, stacked, text_at
+from time_picture import time_picture
 
-COLOURS = ('#1f6fb2', '#c4541a', '#2e8540', '#8b3fa8', '#9c7416', '#117a7a', '#b3264a', '#5a6470')
-INK, PALE = '#333333', '#f3f3f3'
 # the least widths of boxes and of the space for interfaces, and the space beside core nodes where they are few, and where not
 EDGE, SITE, CORE, IFACES, FEW, MORE = 130, 150, 100, 170, 240, 460
 # how far a link may bend around boxes, to either side
@@ -51,50 +52,6 @@ def iface_text(iface):
 def widest(texts, least):
     """A width for each of the texts."""
     return max([least, *(7.5 * len(text) + 24 for text in texts)])
-
-
-# ---- points and boxes
-
-@dataclass(frozen=True)
-class Box:
-    """A box around its middle."""
-
-    x: float
-    y: float
-    width: float
-    height: float
-
-    def has(self, point, margin):
-        return abs(point[0] - self.x) <= self.width / 2 + margin and abs(point[1] - self.y) <= self.height / 2 + margin
-
-    def border(self, point):
-        """Where the line from the middle to a point outside leaves the box."""
-        across, down = abs(point[0] - self.x), abs(point[1] - self.y)
-        part = min(self.width / 2 / across if across else 1, self.height / 2 / down if down else 1)
-        return between((self.x, self.y), point, part)
-
-
-def between(start, end, part):
-    return start[0] + (end[0] - start[0]) * part, start[1] + (end[1] - start[1]) * part
-
-
-def aside(start, end, distance):
-    """So far to the left of the way from the start to the end."""
-    across, down = end[0] - start[0], end[1] - start[1]
-    length = math.hypot(across, down) or 1
-    return down / length * distance, -across / length * distance
-
-
-def moved(points, by):
-    return [(x + by[0], y + by[1]) for x, y in points]
-
-
-def stacked(heights, gap, middle):
-    """The middles of boxes of these heights, one below the other around a middle."""
-    top = middle - (sum(heights) + gap * (len(heights) - 1)) / 2
-    for height in heights:
-        yield top + height / 2
-        top += height + gap
 
 
 # ---- the layout
@@ -273,31 +230,6 @@ def datagram_of(script, report, number):
 
 # ---- what is drawn
 
-def text_at(point, words, size=12, colour=INK, bold=False):
-    weight = ' font-weight="bold"' if bold else ''
-    return (f'<text x="{point[0]:.0f}" y="{point[1] + size / 3:.0f}" font-size="{size}" fill="{colour}"{weight} stroke="white" '
-            f'stroke-width="3" paint-order="stroke">{escape(words)}</text>')
-
-
-def line_through(points, colour, width):
-    return f'<polyline points="{spelled(points)}" fill="none" stroke="{colour}" stroke-width="{width}"/>'
-
-
-def arrow(points, colour, title, dashed=False):
-    dashes = ' stroke-dasharray="6 4"' if dashed else ''
-    return (f'<polyline points="{spelled(points)}" fill="none" stroke="{colour}" stroke-width="3"{dashes} '
-            f'marker-end="url(#{colour[1:]})"><title>{escape(title)}</title></polyline>')
-
-
-def spelled(points):
-    return ' '.join(f'{x:.0f},{y:.0f}' for x, y in points)
-
-
-def rect(box, fill, stroke, round_by, width=1):
-    return (f'<rect x="{box.x - box.width / 2:.0f}" y="{box.y - box.height / 2:.0f}" width="{box.width:.0f}" '
-            f'height="{box.height:.0f}" rx="{round_by}" fill="{fill}" stroke="{stroke}" stroke-width="{width}"/>')
-
-
 def links(layout):
     for link in layout.scenario.links:
         yield line_through(layout.way(link.a, link.b), '#999999', 2)
@@ -383,35 +315,42 @@ def way_of(layout, datagram):
     return [*enters(layout, datagram.event.site), *outs(layout, datagram), *copies(layout, datagram, colour), caption(layout, datagram)]
 
 
-def picture(scenario, datagram=None):
-    """The text of the SVG picture."""
+def network_picture(scenario, datagram=None):
     layout = Layout(scenario)
-    left, top, width, height = layout.around()
-    heads = [f'<marker id="{colour[1:]}" viewBox="0 0 10 10" refX="9" refY="5" markerWidth="11" markerHeight="11" '
-             f'markerUnits="userSpaceOnUse" orient="auto"><path d="M0 0L10 5L0 10z" fill="{colour}"/></marker>' for colour in (*COLOURS, INK)]
     drawn = [*links(layout), *ifaces(layout), *nodes(layout), *vrfs(layout), *sites(layout)]
     drawn += way_of(layout, datagram) if datagram else []
-    return '\n'.join([
-        f'<svg xmlns="http://www.w3.org/2000/svg" viewBox="{left:.0f} {top:.0f} {width:.0f} {height:.0f}" width="{width:.0f}" '
-        f'height="{height:.0f}" font-family="sans-serif" text-anchor="middle">',
-        f'<rect x="{left:.0f}" y="{top:.0f}" width="{width:.0f}" height="{height:.0f}" fill="white"/>',
-        '<defs>', *heads, '</defs>', *drawn, *costs(layout), *iface_names(layout), '</svg>', ''])
+    return Picture(*layout.around(), [*drawn, *costs(layout), *iface_names(layout)])
+
+
+def picture(scenario, *datagrams):
+    """The text of the SVG picture: of the network, or of the ways of datagrams, side by side."""
+    if len(datagrams) > 1:
+        return side_by_side([network_picture(scenario, datagram) for datagram in datagrams]).text()
+    return network_picture(scenario, *datagrams).text()
+
+
+def datagrams_of(script, report, numbers):
+    found = [datagram_of(script, report, number) for number in numbers]
+    if None in found:
+        sys.exit(f'no datagram {numbers[found.index(None)]} was accepted')
+    return found
 
 
 def main():
-    options = argparse.ArgumentParser(description='Draws a network, and the way of a datagram through it, as SVG.')
+    options = argparse.ArgumentParser(description='Draws a network, the way of a datagram through it, or a script, as SVG.')
     options.add_argument('scenario', type=pathlib.Path)
     options.add_argument('report', nargs='?', type=pathlib.Path, help='of replay --wire; else it comes on standard input')
-    options.add_argument('--datagram', type=int)
+    options.add_argument('--datagram', type=int, action='append', default=[], metavar='N', help='the way of this one')
+    options.add_argument('--time-line', action='store_true', help='all events of the script')
     given = options.parse_args()
-    script = read(given.scenario.read_text())
-    datagram = None
-    if given.datagram is not None:
+    text = given.scenario.read_text()
+    script, report = read(text), ''
+    if given.datagram or given.time_line:
         report = given.report.read_text() if given.report else sys.stdin.read()
-        datagram = datagram_of(script, report, given.datagram)
-        if datagram is None:
-            sys.exit(f'no datagram {given.datagram} was accepted')
-    sys.stdout.write(picture(script.scenario, datagram))
+    if given.time_line:
+        sys.stdout.write(time_picture(text, script, report).text())
+    else:
+        sys.stdout.write(picture(script.scenario, *datagrams_of(script, report, given.datagram)))
 
 
 if __name__ == '__main__':

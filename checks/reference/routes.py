@@ -134,7 +134,7 @@ def join_by(peer, value):
 
 
 def lsp_of(pmsi):
-    if pmsi is None:
+    if pmsi is None or not isinstance(pmsi.tunnel, Mldp):
         return None
     fec = pmsi.tunnel.fec
     return fec if fec.kind == 'p2mp' and is_lsp_opaque(fec.opaque) else None

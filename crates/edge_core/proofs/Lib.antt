@@ -12,3 +12,4 @@ pub mod DueLemmas
 pub mod FirstLemmas
 pub mod CallLemmas
 pub mod TreeLemmas
+pub mod ListedLemmas

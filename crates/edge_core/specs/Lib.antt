@@ -8,3 +8,4 @@ pub mod Answers
 pub mod Called
 pub mod Taking
 pub mod Pim
+pub mod Listed

@@ -3,7 +3,7 @@ use Rattle.std.specs.Prelude.{ℕ, Option, refl}
 use Rattle.std.specs.Coded.{Coded, code_by, coded×, coded_option, coded_ℕ}
 use Rattle.std.specs.FinMap as maps
 use Rattle.std.specs.FinMap.{FinMap}
-use Rattle.bgp_messages.specs.bgp_values.mv_base.contracts.ids.NodeId as nodes
+use Rattle.mv_base.specs.contracts.ids.NodeId as nodes
 use Rattle.label_defs.specs.Keys.{node_cmp}
 use Rattle.label_defs.specs.Node.{Spent}
 use Rattle.network_defs.specs.session_defs.Octets.{Stream}

@@ -7,7 +7,8 @@
 //! tree of which the edge becomes or stops being a leaf. Octets that come are fed to the session's stream, the messages
 //! that wait then are taken one after another, and the first fault of the stream is answered (`octets.rt`; RFC 4271
 //! section 4, RFC 5036 section 3.1). `calls.rt` has the calls that may change an edge: each answers for a spent edge,
-//! has its part done by `Parts`, and notes whether the edge is spent now. `specs/State.antt` says what holds of an edge
+//! has its part done by `Parts`, and notes whether the edge is spent now. `queries.rt` and `lists.rt` have what is
+//! asked of an edge, which changes nothing. `specs/State.antt` says what holds of an edge
 //! that is not spent (`IsLive`) and which edge of `node_defs` it is (`IsIn`); `Answers`, `Taking` and `Pim` what calls
 //! answer. Above it `network_nodes` has it as one of the two kinds of nodes.
 #![tactic(auto)]
@@ -19,6 +20,7 @@ mod datagrams;
 mod edge;
 mod fate;
 mod fault;
+mod lists;
 mod octets;
 mod operators;
 mod parts;
@@ -32,3 +34,4 @@ pub use edge_routing::of_edge_streams as of_edge_streams;
 pub use edge_routing::of_edge_streams::SessionReason;
 pub use fate::{Branches, Fate};
 pub use fault::EdgeFault;
+pub use lists::Fecs;

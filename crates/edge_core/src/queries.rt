@@ -128,7 +128,7 @@ impl Edge {
     }
 
     /// Whether the VRF imports a route of the tunnel from the edge of that number (RFC 6514 sections 9.1.2 and 12.3). It takes no memory.
-    pub fn imports(&self, vrf: VrfId, edge: NodeId, fec: &Fec) -> bool
+    pub fn imports_tunnel(&self, vrf: VrfId, edge: NodeId, fec: &Fec) -> bool
         requires own { is_own_vrf (home_of self.now) vrf ≡ true }
         ensures { (walks : Walks) (own : OwnVrf) → Among own (vrfs_of (home_of self.now)) → own.id ≡ vrf →
             result ≡ imports (place_of (home_of self.now) walks) (data_of self.now).control own edge fec.now }
@@ -138,7 +138,7 @@ impl Edge {
 
     /// Whether the edge is to be a leaf of the tunnel (RFC 6514 sections 9.1.2 and 12.3). It takes no memory. Of a spent edge nothing is
     /// said.
-    pub fn wants(&self, fec: &Fec) -> bool
+    pub fn wants_tunnel(&self, fec: &Fec) -> bool
         ensures { self.now.spent ≡ None → (walks : Walks) →
             result ≡ sets.contains (leaves (place_of (home_of self.now) walks) (data_of self.now).control) fec.now }
     {

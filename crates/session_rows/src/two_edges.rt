@@ -333,8 +333,8 @@ impl EdgeInCore {
 
     /// Whether the VRF imports the tunnel from the peer, whether the edge is to be a leaf of it, and whether it is one.
     pub(crate) fn imports(&self, fec: &Fec) -> (bool, bool, bool) {
-        let imports = self.edge.imports(self.role.vrf, self.role.peer, fec);
-        let wants = self.edge.wants(fec);
+        let imports = self.edge.imports_tunnel(self.role.vrf, self.role.peer, fec);
+        let wants = self.edge.wants_tunnel(fec);
         (imports, wants, self.edge.label_node().fib().is_leaf(fec))
     }
 

@@ -1,5 +1,6 @@
 pub use Rattle.pim_state.proofs as pim_state
 pub mod FlowLemmas
+pub mod StaleLemmas
 pub mod TreeLemmas
 pub mod SetLemmas
 pub mod StateLemmas

@@ -3,7 +3,7 @@ use Rattle.std.specs.Prelude.{ℕ, ◌&&◌, ◌||◌, not, Bool, true, false, L
 use Rattle.std.specs.List.{list_any}
 use Rattle.std.specs.declared.hash.FoldHasher.{FoldHasher}
 use Rattle.std.specs.declared.hash.BuildHasherDefault.{BuildHasherDefault}
-use Rattle.indexmap.specs.IndexMap.{IndexMap}
+use Rattle.indexmap.specs.IndexMap.{IndexMap, get}
 use Rattle.mv_base.specs.declared.addr.Addr.{Addr}
 use Rattle.mv_base.specs.Address.{same_addr}
 use Rattle.mv_base.specs.Prefix.{covers}
@@ -38,6 +38,15 @@ abbrev pub is_stale : Option Held → Bool
 is_stale None = false
 is_stale (Some held) = held.stale
 
+-- whether the flow is stale in the table
+abbrev pub is_stale_in : FlowTable → Flow → Bool
+is_stale_in flows flow = is_stale (get same_flow flows flow)
+
+-- whether a flow is held and not stale
+abbrev pub is_fresh : Option Held → Bool
+is_fresh None = false
+is_fresh (Some held) = not held.stale
+
 -- ---- causes
 
 abbrev pub concerns : Cause → Flow → Bool
@@ -67,6 +76,10 @@ marked touched (Some held) = Some (mark touched held)
 -- what is held of a flow of which nothing is known
 abbrev pub unknown : Held
 unknown = record { stale = true; kept = None }
+
+-- what is held of a flow that is known to be this, or none of the VRF
+abbrev pub settled_as : Now → Held
+settled_as kept = record { stale = false; kept = kept }
 
 -- what is held of a flow, where it is to be held too
 abbrev pub held_too : Bool → Option Held → Option Held

@@ -6,6 +6,7 @@ ghost use Rattle.vrf_words.specs.declared.tree_defs.flow.Flow.{Flow};
 ghost use Rattle.vrf_words.specs.tree_defs.Keys.{same_flow};
 ghost use Rattle.vrf_flows.specs.Held.{cause_of, concerns, held_too, joins_flow, joins_in, joins_itself, holds_entry};
 
+use crate::table::FlowTable;
 use indexmap::IndexMap;
 use mv_base::{Addr, NoMemory, Prefix, Seq};
 use pim_defs::Expiry;
@@ -30,8 +31,8 @@ pub(crate) struct Held {
     pub kept: Option<Kept>,
 }
 
-/// Each flow that the VRF may have.
-pub(crate) type FlowTable = IndexMap<Flow, Held>;
+/// Flows, each with what is held of it.
+pub(crate) type HeldFlows = IndexMap<Flow, Held>;
 
 /// What touches flows.
 #[derive(Clone, Copy)]
@@ -80,14 +81,10 @@ pub(crate) fn hold(flows: &mut FlowTable, flow: Flow) -> Result<(), NoMemory>
     ensures grown { (q : Flow) → get same_flow flows.new q ≡ held_too (is_some (get same_flow flows.new q)) (get same_flow flows.old q) }
     ensures unique { IsUnique same_flow flows.new }
 {
-    if flows.contains_key(&flow) {
+    if flows.holds(&flow) {
         return Ok(());
     }
-    let held = Held {
-        stale: true,
-        kept: None,
-    };
-    flows.insert(flow, held)?;
+    flows.hold(flow)?;
     Ok(())
 }
 

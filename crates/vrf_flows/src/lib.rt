@@ -3,11 +3,13 @@
 //! lost by it, and where a datagram leaves. Contracts see `VrfData` of `vrf_words`. One map has each flow that the VRF
 //! may have, with what it was at the last refresh and whether something touched it since: where an entry joins it, or
 //! where its source is known to send. A refresh computes anew what is marked (`marks.rt`, `plan.rt`); that what is not
-//! marked is what recomputing gives is the invariant (`specs/State.antt`). The interfaces that ask are kept with a
-//! flow. A join or prune of (S,G) marks one flow, one of (*,G) looks at all that are held; where the clock moved, a
-//! refresh looks once at each entry. By the rule of the nearest edge all flows are chosen for again, since the core may
-//! have changed. Where a refresh runs out of memory, all flows are marked, and the next one computes each anew. Below
-//! it are `pim_state`, `umh_select` and `core_paths`; above it `vrf_trees` adds the tunnels of the VRF.
+//! marked is what recomputing gives is the invariant (`specs/State.antt`). The flows that are marked one by one are
+//! listed beside the map (`table.rt`, `stale.rt`), and a refresh looks at these alone; where a group, a prefix or all
+//! flows were marked, it looks at each. The interfaces that ask are kept with a flow. A join or prune of (S,G) marks
+//! one flow, one of (*,G) looks at all that are held; where the clock moved, a refresh looks once at each entry. By the
+//! rule of the nearest edge all flows are chosen for again, since the core may have changed. Where a refresh runs out
+//! of memory, all flows are marked, and the next one computes each anew. Below it are `pim_state`, `umh_select` and
+//! `core_paths`; above it `vrf_trees` adds the tunnels of the VRF.
 #![tactic(auto)]
 
 mod flows;
@@ -15,10 +17,13 @@ mod held;
 mod marks;
 mod plan;
 mod sight;
+mod stale;
 mod state;
+mod table;
 
 pub use flows::VrfFlows;
 // The names `of_..`: words of lower crates that this crate's contracts are made of.
 pub use pim_state as of_pim_state;
 pub use plan::{Joins, put};
+pub use stale::StaleFlows;
 pub use state::FlowChanges;

@@ -6,7 +6,8 @@ ghost use Rattle.vrf_words.specs.declared.tree_defs.flow.Flow.{Flow};
 ghost use Rattle.vrf_words.specs.tree_defs.Keys.{same_flow};
 ghost use Rattle.vrf_flows.specs.Held.{concerns, mark, marked, forgotten, unknown, names, names_in, lapses, ends, lapsed, ended, differ};
 
-use crate::held::{Cause, FlowTable, Held, cause_of};
+use crate::held::{Cause, Held, HeldFlows, cause_of};
+use crate::table::FlowTable;
 use indexmap::IndexMap;
 use mv_base::Addr;
 use pim_defs::{Expiry, entry_of};
@@ -15,7 +16,7 @@ use scenario_defs::IfaceEntry;
 use vrf_words::tree_defs::Flow;
 
 /// Marks the flow, where it is held.
-fn mark_flow(flows: &mut FlowTable, flow: Flow)
+pub(crate) fn mark_held(flows: &mut HeldFlows, flow: Flow)
     requires unique { IsUnique same_flow flows.old }
     ensures each { (q : Flow) → get same_flow flows.new q ≡ marked (same_flow flow q) (get same_flow flows.old q) }
     ensures unique { IsUnique same_flow flows.new }
@@ -26,7 +27,7 @@ fn mark_flow(flows: &mut FlowTable, flow: Flow)
 }
 
 /// Marks the flows that the cause touches. It looks at each flow that is held.
-fn mark_where(flows: &mut FlowTable, cause: &Cause)
+pub(crate) fn mark_where(flows: &mut HeldFlows, cause: &Cause)
     requires unique { IsUnique same_flow flows.old }
     ensures each { (q : Flow) → get same_flow flows.new q ≡ marked (concerns cause.now q) (get same_flow flows.old q) }
     ensures unique { IsUnique same_flow flows.new }
@@ -48,8 +49,8 @@ pub(crate) fn mark(flows: &mut FlowTable, cause: &Cause)
     ensures unique { IsUnique same_flow flows.new }
 {
     match cause {
-        Cause::Flow(flow) => mark_flow(flows, *flow),
-        _ => mark_where(flows, cause),
+        Cause::Flow(flow) => flows.mark(*flow),
+        _ => flows.mark_where(cause),
     }
 }
 
@@ -156,7 +157,7 @@ pub(crate) fn mark_ended(flows: &mut FlowTable, entries: &IndexMap<IfaceEntry, E
 }
 
 /// Keeps nothing of what the flows were, and marks them all. It takes no memory.
-pub(crate) fn forget(flows: &mut FlowTable)
+pub(crate) fn forget_held(flows: &mut HeldFlows)
     requires unique { IsUnique same_flow flows.old }
     ensures each { (q : Flow) → get same_flow flows.new q ≡ forgotten (get same_flow flows.old q) }
     ensures unique { IsUnique same_flow flows.new }

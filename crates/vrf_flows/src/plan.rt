@@ -6,12 +6,14 @@ ghost use Rattle.umh_select.specs.Routes.{AreCosts, AreOfCore};
 ghost use Rattle.vrf_words.specs.declared.tree_defs.flow.Flow.{Flow};
 ghost use Rattle.vrf_words.specs.tree_defs.Keys.{same_flow};
 ghost use Rattle.vrf_words.specs.tree_defs.Flows.{gained, same_upstream, upstream_of};
-ghost use Rattle.vrf_flows.specs.Held.{kept_of};
+ghost use Rattle.vrf_flows.specs.Held.{is_stale_in, kept_of};
+ghost use Rattle.vrf_flows.specs.Stale.{AreAmong};
 ghost use Rattle.vrf_flows.specs.Sight.{seen, needs};
 ghost use Rattle.vrf_flows.specs.Plan.{choice_in, joined_by, replan, put_at, planned, gain, loss, settled, settled_by};
 
-use crate::held::{FlowTable, Held, Kept};
+use crate::held::{Held, HeldFlows, Kept};
 use crate::sight::{Sight, flow_at, is_needed};
+use crate::table::FlowTable;
 use indexmap::IndexMap;
 use mv_base::NoMemory;
 use std::alloc::Global;
@@ -82,8 +84,8 @@ fn plan_flow(
     put(plan, flow, next)
 }
 
-/// The flows that are stale, each with what it is now.
-pub(crate) fn plan(alloc: Global, flows: &FlowTable, sight: &Sight<'_>) -> Result<Plan, NoMemory>
+/// The flows that are stale, each with what it is now. It looks at each flow that is held.
+fn plan_all(alloc: Global, flows: &HeldFlows, sight: &Sight<'_>) -> Result<Plan, NoMemory>
     requires me { sight.now.me.0 < sight.now.core.now.nodes }
     requires peers { AreOfCore sight.now.core.now.nodes sight.now.routes.now.learned }
     requires unique { IsUnique same_flow flows.now }
@@ -96,6 +98,65 @@ pub(crate) fn plan(alloc: Global, flows: &FlowTable, sight: &Sight<'_>) -> Resul
         plan_flow(alloc, sight, &mut plan, *flow, held)?;
     }
     Ok(plan)
+}
+
+/// Plans a flow, where it is held and stale.
+fn plan_one(
+    alloc: Global,
+    flows: &HeldFlows,
+    sight: &Sight<'_>,
+    plan: &mut Plan,
+    flow: Flow,
+) -> Result<(), NoMemory>
+    requires me { sight.now.me.0 < sight.now.core.now.nodes }
+    requires peers { AreOfCore sight.now.core.now.nodes sight.now.routes.now.learned }
+    requires unique { IsUnique same_flow plan.old }
+    ensures each { (cost : NodeId → ℕ) → AreCosts sight.now.core.now sight.now.me cost → (q : Flow) →
+        OnOk result (get same_flow plan.new q
+        ≡ put_at (same_flow flow q) (planned (get same_flow flows.now flow) (seen sight.now cost flow)) (get same_flow plan.old q)) }
+    ensures unique { IsUnique same_flow plan.new }
+{
+    match flows.get(&flow) {
+        Some(held) => plan_flow(alloc, sight, plan, flow, held),
+        None => Ok(()),
+    }
+}
+
+/// The flows that are stale, each with what it is now, where these are among the listed ones. It looks at those alone.
+fn plan_listed(
+    alloc: Global,
+    flows: &HeldFlows,
+    listed: &[Flow],
+    sight: &Sight<'_>,
+) -> Result<Plan, NoMemory>
+    requires me { sight.now.me.0 < sight.now.core.now.nodes }
+    requires peers { AreOfCore sight.now.core.now.nodes sight.now.routes.now.learned }
+    requires among { AreAmong (is_stale_in flows.now) listed.now }
+    ensures each { (cost : NodeId → ℕ) → AreCosts sight.now.core.now sight.now.me cost → (q : Flow) →
+        IfOk result (λ plan. get same_flow plan q ≡ planned (get same_flow flows.now q) (seen sight.now cost q)) }
+    ensures unique { IfOk result (λ plan. IsUnique same_flow plan) }
+{
+    let mut plan = IndexMap::new(alloc);
+    for flow in listed {
+        plan_one(alloc, flows, sight, &mut plan, *flow)?;
+    }
+    Ok(plan)
+}
+
+/// The flows that are stale, each with what it is now.
+pub(crate) fn plan(alloc: Global, flows: &FlowTable, sight: &Sight<'_>) -> Result<Plan, NoMemory>
+    requires me { sight.now.me.0 < sight.now.core.now.nodes }
+    requires peers { AreOfCore sight.now.core.now.nodes sight.now.routes.now.learned }
+    requires unique { IsUnique same_flow flows.now }
+    ensures each { (cost : NodeId → ℕ) → AreCosts sight.now.core.now sight.now.me cost → (q : Flow) →
+        IfOk result (λ plan. get same_flow plan q ≡ planned (get same_flow flows.now q) (seen sight.now cost q)) }
+    ensures unique { IfOk result (λ plan. IsUnique same_flow plan) }
+{
+    let held = flows.held();
+    match flows.stale() {
+        Some(listed) => plan_listed(alloc, held, listed, sight),
+        None => plan_all(alloc, held, sight),
+    }
 }
 
 /// The edge of a choice, where it is another one.
@@ -153,7 +214,7 @@ fn gained(before: Option<Upstream>, after: Option<Upstream>) -> Option<Upstream>
 pub(crate) fn joined_before(flows: &FlowTable, flow: &Flow) -> Option<Upstream>
     ensures { result ≡ joined_by (kept_of (get same_flow flows.now flow.now)) }
 {
-    match flows.get(flow) {
+    match flows.held().get(flow) {
         Some(held) => joined_by(&held.kept),
         None => None,
     }
@@ -203,14 +264,7 @@ fn settle_flow(
     ensures unique { IsUnique same_flow flows.new }
 {
     match kept {
-        Some(kept) => {
-            let held = Held {
-                stale: false,
-                kept: Some(kept),
-            };
-            flows.insert(flow, held)?;
-            Ok(())
-        }
+        Some(kept) => flows.settle(flow, Some(kept)),
         None => settle_none(flows, flow, is_needed(sight, flow)),
     }
 }
@@ -224,20 +278,15 @@ fn settle_none(flows: &mut FlowTable, flow: Flow, needed: bool) -> Result<(), No
     ensures unique { IsUnique same_flow flows.new }
 {
     if needed {
-        let held = Held {
-            stale: false,
-            kept: None,
-        };
-        flows.insert(flow, held)?;
-        Ok(())
+        flows.settle(flow, None)
     } else {
-        flows.swap_remove(&flow);
+        flows.let_go(&flow);
         Ok(())
     }
 }
 
 /// Holds what the plan says. A flow that is needed stays held, also after want of memory.
-pub(crate) fn settle(flows: &mut FlowTable, plan: Plan, sight: &Sight<'_>) -> Result<(), NoMemory>
+fn settle_each(flows: &mut FlowTable, plan: Plan, sight: &Sight<'_>) -> Result<(), NoMemory>
     requires unique { IsUnique same_flow plan }
     requires held { IsUnique same_flow flows.old }
     ensures each { (q : Flow) →
@@ -249,5 +298,22 @@ pub(crate) fn settle(flows: &mut FlowTable, plan: Plan, sight: &Sight<'_>) -> Re
     for (flow, kept) in plan {
         settle_flow(flows, flow, kept, sight)?;
     }
+    Ok(())
+}
+
+/// Holds what the plan says, which has each flow that is stale, so that none is then. A flow that is needed stays held, also
+/// after want of memory.
+pub(crate) fn settle(flows: &mut FlowTable, plan: Plan, sight: &Sight<'_>) -> Result<(), NoMemory>
+    requires unique { IsUnique same_flow plan }
+    requires held { IsUnique same_flow flows.old }
+    requires planned { (q : Flow) → is_stale_in flows.old q ≡ true → is_some (get same_flow plan q) ≡ true }
+    ensures each { (q : Flow) →
+        OnOk result (get same_flow flows.new q ≡ settled (needs sight.now q) (get same_flow plan q) (get same_flow flows.old q)) }
+    ensures held { (q : Flow) → needs sight.now q ≡ true → is_some (get same_flow flows.old q) ≡ true →
+        is_some (get same_flow flows.new q) ≡ true }
+    ensures unique { IsUnique same_flow flows.new }
+{
+    settle_each(flows, plan, sight)?;
+    flows.none_stale();
     Ok(())
 }

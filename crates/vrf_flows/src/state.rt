@@ -17,12 +17,13 @@ ghost use Rattle.vrf_flows.specs.Sight.{ifaces_of, is_sent};
 ghost use Rattle.vrf_flows.specs.State.{IsSound, iface_in, no_vrf, compares_costs};
 ghost use Rattle.vrf_flows.specs.State.{given_at, is_announced_in, is_noted_in, needed_in, vrf_of};
 
-use crate::held::{Cause, FlowTable, Kept, hold, hold_entries, hold_message};
-use crate::marks::{forget, mark, mark_between, mark_ended, mark_message};
+use crate::held::{Cause, Kept, hold, hold_entries, hold_message};
+use crate::marks::{mark, mark_between, mark_ended, mark_message};
 use crate::plan::{Joins, joined_before, joins_of, leaves_of, plan, settle};
 use crate::sight::{Sight, asking_now};
+use crate::table::FlowTable;
 use core_paths::Core;
-use indexmap::{IndexMap, IndexSet};
+use indexmap::IndexSet;
 use mv_base::{IfaceId, NoMemory, NodeId, Prefix, Rd, Rule, Seq, SiteId};
 use pim_joinprune::JoinPrune;
 use pim_state::{Downstream, TakeFault};
@@ -171,7 +172,7 @@ impl State {
             actives: IndexSet::new(alloc),
             sent: IndexSet::new(alloc),
             routes: Umh::of(alloc, rule),
-            flows: IndexMap::new(alloc),
+            flows: FlowTable::of(alloc),
             clock: 0,
         }
     }
@@ -369,7 +370,7 @@ impl State {
         match self.refreshed(now, me, core) {
             Ok(changes) => Ok(changes),
             Err(fault) => {
-                forget(&mut self.flows);
+                self.flows.forget();
                 Err(fault)
             }
         }
@@ -420,7 +421,7 @@ impl State {
         ensures sound { IsSound self.new }
         ensures forgotten { vrf_of self.new ≡ record (vrf_of self.old) { flows = maps.empty } }
     {
-        forget(&mut self.flows);
+        self.flows.forget();
     }
 
     /// Whether the flow's upstream is where a datagram comes from.
@@ -448,7 +449,7 @@ impl State {
         if now != self.clock {
             return None;
         }
-        match self.flows.get(flow) {
+        match self.flows.held().get(flow) {
             None => Some(&[]),
             Some(held) => {
                 if held.stale {

@@ -83,6 +83,10 @@ abbrev pub is_stale : Option Wants → Bool
 is_stale None = false
 is_stale (Some own) = own.stale
 
+-- whether what the flow wants is stale in the table
+abbrev pub is_stale_in : WantTable → Flow → Bool
+is_stale_in wants flow = is_stale (get same_flow wants flow)
+
 -- A flow is there exactly where its upstream is another edge, with that edge; and where it is not stale, it is what is wanted.
 pub record Holds (leaf : Leaf) (ups : Flow → Option Upstream) (held : Flow → Option Wants) : Type 0 where
   pub edges : (q : Flow) → edge_in (held q) ≡ edge_to (ups q)

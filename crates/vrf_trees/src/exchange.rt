@@ -1,5 +1,5 @@
 //! What flows want from now on in the place of what they wanted, and which tunnels come and go by it.
-ghost use Rattle.std.specs.Prelude.{◌≡◌, ◌||◌, not, filter, if◌then◌else◌, IfOk, OnOk};
+ghost use Rattle.std.specs.Prelude.{◌≡◌, ◌||◌, not, filter, false, if◌then◌else◌, IfOk, OnOk};
 ghost use Rattle.std.specs.FinSet as sets;
 ghost use Rattle.std.specs.List.{IsDistinct};
 ghost use Rattle.indexmap.specs.IndexMap.{get, IsUnique};
@@ -8,10 +8,11 @@ ghost use Rattle.vrf_words.specs.declared.tree_defs.flow.Flow.{Flow};
 ghost use Rattle.vrf_words.specs.tree_defs.Keys.{same_flow};
 ghost use Rattle.vrf_trees.specs.Changes.{AreNew};
 ghost use Rattle.vrf_trees.specs.Plan.{carried, comes, fecs_in, goes};
-ghost use Rattle.vrf_trees.specs.Wants.{is_fec, is_in, tunnels_in};
+ghost use Rattle.vrf_trees.specs.Wants.{is_fec, is_in, is_stale, tunnels_in};
 
 use crate::plan::Plan;
-use crate::wants::{WantTable, Wants, is_wanted};
+use crate::table::WantTable;
+use crate::wants::{Wants, is_wanted};
 use indexmap::{IndexMap, IndexSet};
 use mldp::mldp_fec::Fec;
 use mv_base::{NoMemory, Seq};
@@ -55,7 +56,7 @@ fn fecs_in(wants: &Option<Wants>) -> &[Fec]
 fn fecs_at<'a>(wants: &'a WantTable, flow: &Flow) -> &'a [Fec]
     ensures { result.now ≡ fecs_in (get same_flow wants.now flow.now) }
 {
-    match wants.get(flow) {
+    match wants.held().get(flow) {
         Some(own) => own.fecs.as_slice(),
         None => &[],
     }
@@ -105,12 +106,9 @@ fn carry_flow(wants: &mut WantTable, flow: Flow, next: Option<Wants>) -> Result<
     ensures unique { IsUnique same_flow wants.new }
 {
     match next {
-        Some(own) => {
-            wants.insert(flow, own)?;
-            Ok(())
-        }
+        Some(own) => wants.put(flow, own),
         None => {
-            wants.swap_remove(&flow);
+            wants.let_go(&flow);
             Ok(())
         }
     }
@@ -129,10 +127,24 @@ fn carry(wants: &mut WantTable, plan: Plan) -> Result<(), NoMemory>
     Ok(())
 }
 
+/// Carries the plan out, behind which no flow is stale.
+fn carry_out(wants: &mut WantTable, plan: Plan) -> Result<(), NoMemory>
+    requires unique { IsUnique same_flow plan }
+    requires held { IsUnique same_flow wants.old }
+    requires fresh { (q : Flow) → is_stale (carried (get same_flow plan q) (get same_flow wants.old q)) ≡ false }
+    ensures each { (q : Flow) → OnOk result (get same_flow wants.new q ≡ carried (get same_flow plan q) (get same_flow wants.old q)) }
+    ensures unique { IsUnique same_flow wants.new }
+{
+    carry(wants, plan)?;
+    wants.none_stale();
+    Ok(())
+}
+
 /// Carries the plan out, and tells which tunnels come and go by it. It looks only at tunnels of flows of the plan.
 pub(crate) fn exchange(alloc: Global, wants: &mut WantTable, plan: Plan) -> Result<Told, NoMemory>
     requires unique { IsUnique same_flow plan }
     requires held { IsUnique same_flow wants.old }
+    requires fresh { (q : Flow) → is_stale (carried (get same_flow plan q) (get same_flow wants.old q)) ≡ false }
     ensures each { (q : Flow) → OnOk result (get same_flow wants.new q ≡ carried (get same_flow plan q) (get same_flow wants.old q)) }
     ensures unique { IsUnique same_flow wants.new }
     ensures wanted { IfOk result (λ told. AreNew told.wants
@@ -143,7 +155,7 @@ pub(crate) fn exchange(alloc: Global, wants: &mut WantTable, plan: Plan) -> Resu
     let come = coming(alloc, &plan)?;
     let gone = going(alloc, &plan, wants)?;
     let more = unwanted(alloc, come.as_slice(), wants)?;
-    carry(wants, plan)?;
+    carry_out(wants, plan)?;
     let less = unwanted(alloc, gone.as_slice(), wants)?;
     Ok(Told {
         wants: more,

@@ -5,8 +5,9 @@
 //! selective tunnels that it wants (`wants.rt`). A contract sees `TreeData` of `vrf_words`. A selective route that is
 //! learned or forgotten marks the flows of its pattern (`routes.rt`), and a refresh computes those and the flows whose
 //! upstream changed (`plan.rt`, `exchange.rt`, `refresh.rt`); what is not marked is what the routes give, which is the
-//! invariant. Whether a tunnel is wanted is a look over the lists of flows. Below it are `vrf_flows`, `selective` and
-//! `vrf_words`; above it `edge_control` has such a tree for each VRF of an edge.
+//! invariant. With no mark a refresh looks at no flow (`table.rt`). Whether a tunnel is wanted is a look over the lists
+//! of flows. Below it are `vrf_flows`, `selective` and `vrf_words`; above it `edge_control` has such a tree for each
+//! VRF of an edge.
 #![tactic(auto)]
 
 mod changes;
@@ -15,6 +16,7 @@ mod joins;
 mod plan;
 mod refresh;
 mod routes;
+mod table;
 mod tree;
 mod wants;
 

@@ -4,10 +4,12 @@ ghost use Rattle.indexmap.specs.IndexMap.{get, IsUnique};
 ghost use Rattle.vrf_words.specs.declared.tree_defs.flow.Flow.{Flow};
 ghost use Rattle.vrf_words.specs.tree_defs.Keys.{same_flow};
 ghost use Rattle.vrf_flows.specs.Plan.{put_at};
-ghost use Rattle.vrf_trees.specs.Wants.{wants_of};
+ghost use Rattle.vrf_flows.specs.Stale.{AreAmong};
+ghost use Rattle.vrf_trees.specs.Wants.{is_stale_in, wants_of};
 ghost use Rattle.vrf_trees.specs.Plan.{planned, renewal, with_joins, with_leaves};
 
-use crate::wants::{WantTable, Wants, wants_of};
+use crate::table::WantTable;
+use crate::wants::{FlowWants, Wants, wants_of};
 use indexmap::IndexMap;
 use mv_base::NoMemory;
 use selective::LeafTunnels;
@@ -68,8 +70,8 @@ fn plan_join(
     put(plan, flow, Some(Some(next)))
 }
 
-/// The flows that are stale.
-fn plan_stale(alloc: Global, leaf: &LeafTunnels, wants: &WantTable) -> Result<Plan, NoMemory>
+/// The flows that are stale. It looks at each flow.
+fn plan_all(alloc: Global, leaf: &LeafTunnels, wants: &FlowWants) -> Result<Plan, NoMemory>
     requires unique { IsUnique same_flow wants.now }
     ensures each { (q : Flow) → IfOk result (λ plan. get same_flow plan q ≡ planned leaf.now q (get same_flow wants.now q)) }
     ensures unique { IfOk result (λ plan. IsUnique same_flow plan) }
@@ -79,6 +81,56 @@ fn plan_stale(alloc: Global, leaf: &LeafTunnels, wants: &WantTable) -> Result<Pl
         plan_held(alloc, leaf, &mut plan, *flow, held)?;
     }
     Ok(plan)
+}
+
+/// Plans a flow, where it is there and stale.
+fn plan_one(
+    alloc: Global,
+    leaf: &LeafTunnels,
+    wants: &FlowWants,
+    plan: &mut Plan,
+    flow: Flow,
+) -> Result<(), NoMemory>
+    requires unique { IsUnique same_flow plan.old }
+    ensures each { (q : Flow) → OnOk result (get same_flow plan.new q
+        ≡ put_at (same_flow flow q) (planned leaf.now flow (get same_flow wants.now flow)) (get same_flow plan.old q)) }
+    ensures unique { IsUnique same_flow plan.new }
+{
+    match wants.get(&flow) {
+        Some(held) => plan_held(alloc, leaf, plan, flow, held),
+        None => Ok(()),
+    }
+}
+
+/// The flows that are stale, where these are among the listed ones. It looks at those alone.
+fn plan_listed(
+    alloc: Global,
+    leaf: &LeafTunnels,
+    wants: &FlowWants,
+    listed: &[Flow],
+) -> Result<Plan, NoMemory>
+    requires among { AreAmong (is_stale_in wants.now) listed.now }
+    ensures each { (q : Flow) → IfOk result (λ plan. get same_flow plan q ≡ planned leaf.now q (get same_flow wants.now q)) }
+    ensures unique { IfOk result (λ plan. IsUnique same_flow plan) }
+{
+    let mut plan = IndexMap::new(alloc);
+    for flow in listed {
+        plan_one(alloc, leaf, wants, &mut plan, *flow)?;
+    }
+    Ok(plan)
+}
+
+/// The flows that are stale.
+fn plan_stale(alloc: Global, leaf: &LeafTunnels, wants: &WantTable) -> Result<Plan, NoMemory>
+    requires unique { IsUnique same_flow wants.now }
+    ensures each { (q : Flow) → IfOk result (λ plan. get same_flow plan q ≡ planned leaf.now q (get same_flow wants.now q)) }
+    ensures unique { IfOk result (λ plan. IsUnique same_flow plan) }
+{
+    let held = wants.held();
+    match wants.stale() {
+        Some(listed) => plan_listed(alloc, leaf, held, listed),
+        None => plan_all(alloc, leaf, held),
+    }
 }
 
 /// Plans the flows that leave their upstream.

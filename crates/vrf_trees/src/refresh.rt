@@ -14,7 +14,7 @@ ghost use Rattle.vrf_trees.specs.Wants.{IsSound, tunnels_in};
 use crate::changes::{TreeChanges, joins_of};
 use crate::exchange::exchange;
 use crate::plan::plan;
-use crate::wants::WantTable;
+use crate::table::WantTable;
 use core_paths::Core;
 use mv_base::{NoMemory, NodeId};
 use selective::LeafTunnels;

@@ -8,7 +8,8 @@ ghost use Rattle.umh_select.specs.declared.route.Choice.{Choice};
 ghost use Rattle.vrf_words.specs.tree_defs.Keys.{flow_cmp, same_flow};
 ghost use Rattle.vrf_trees.specs.Wants.{IsSound, tunnels_in};
 
-use crate::wants::{Cause, WantTable, mark};
+use crate::table::WantTable;
+use crate::wants::Cause;
 use mldp::mldp_fec::Fec;
 use mv_base::{NoMemory, NodeId, Pattern, Rd};
 use selective::LeafTunnels;
@@ -32,7 +33,7 @@ pub(crate) fn learn(
 {
     let cause = Cause::Routes(peer, pattern);
     leaf.learn(peer, rd, pattern, fec, now)?;
-    mark(wants, &cause);
+    wants.mark(&cause);
     Ok(())
 }
 
@@ -50,7 +51,7 @@ pub(crate) fn forget(
     ensures tunnels { tunnels_in wants.new.entries ≡ tunnels_in wants.old.entries }
 {
     leaf.forget(peer, rd, pattern);
-    mark(wants, &Cause::Routes(peer, pattern));
+    wants.mark(&Cause::Routes(peer, pattern));
 }
 
 /// Forgets all routes of the peer.
@@ -61,7 +62,7 @@ pub(crate) fn forget_peer(leaf: &mut LeafTunnels, wants: &mut WantTable, peer: N
     ensures tunnels { tunnels_in wants.new.entries ≡ tunnels_in wants.old.entries }
 {
     leaf.forget_peer(peer);
-    mark(wants, &Cause::Peer(peer));
+    wants.mark(&Cause::Peer(peer));
 }
 
 /// Runs the delay of each route that is due. Where none is, no flow is looked at.
@@ -75,6 +76,6 @@ pub(crate) fn run_routes(leaf: &mut LeafTunnels, wants: &mut WantTable, now: u64
         leaf.timers(now);
     } else {
         leaf.timers(now);
-        mark(wants, &Cause::All);
+        wants.mark(&Cause::All);
     }
 }

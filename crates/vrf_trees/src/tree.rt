@@ -24,9 +24,9 @@ use crate::changes::TreeChanges;
 use crate::joins::TakenJoins;
 use crate::refresh::refresh;
 use crate::routes::{forget, forget_peer, learn, run_routes};
-use crate::wants::{WantTable, is_wanted};
+use crate::table::WantTable;
+use crate::wants::is_wanted;
 use core_paths::Core;
-use indexmap::IndexMap;
 use mldp::mldp_fec::Fec;
 use mv_base::{Addr, IfaceId, NoMemory, NodeId, Pattern, Prefix, Rd, Rule, SiteId};
 use pim_joinprune::JoinPrune;
@@ -95,7 +95,7 @@ impl VrfTree {
             root: RootTunnels::of(alloc, number, delay),
             leaf: LeafTunnels::of(alloc, delay),
             joined: TakenJoins::of(alloc),
-            wants: IndexMap::new(alloc),
+            wants: WantTable::of(alloc),
         }
     }
 
@@ -474,7 +474,7 @@ impl VrfTree {
             Ok(changes) => Ok(changes),
             Err(fault) => {
                 self.flows.forget_flows();
-                self.wants = IndexMap::new(self.alloc);
+                self.wants = WantTable::of(self.alloc);
                 Err(fault)
             }
         }

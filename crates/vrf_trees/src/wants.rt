@@ -7,6 +7,7 @@ ghost use Rattle.vrf_words.specs.declared.tree_defs.flow.Flow.{Flow};
 ghost use Rattle.vrf_words.specs.tree_defs.Keys.{same_flow};
 ghost use Rattle.vrf_trees.specs.Wants.{has_fec, is_fec, is_in, mark, marked, touches, tunnels_in, wants_of};
 
+use crate::table::WantTable;
 use indexmap::IndexMap;
 use mldp::mldp_fec::Fec;
 use mv_base::{Addr, NoMemory, NodeId, Pattern};
@@ -24,8 +25,8 @@ pub(crate) struct Wants {
     pub fecs: Fecs,
 }
 
-/// Each flow whose upstream is another edge.
-pub(crate) type WantTable = IndexMap<Flow, Wants>;
+/// Flows whose upstream is another edge, each with what it wants.
+pub(crate) type FlowWants = IndexMap<Flow, Wants>;
 
 /// What touches what flows want.
 #[derive(Clone, Copy)]
@@ -60,7 +61,7 @@ impl Cause {
 }
 
 /// Marks the flows that the cause touches. It looks at each flow, and takes no memory.
-pub(crate) fn mark(wants: &mut WantTable, cause: &Cause)
+pub(crate) fn mark_where(wants: &mut FlowWants, cause: &Cause)
     requires unique { IsUnique same_flow wants.old }
     ensures each { (q : Flow) → get same_flow wants.new q ≡ marked cause.now q (get same_flow wants.old q) }
     ensures unique { IsUnique same_flow wants.new }
@@ -111,5 +112,5 @@ fn is_wanted_of(wants: &[Wants], fec: &Fec) -> bool
 pub(crate) fn is_wanted(wants: &WantTable, fec: &Fec) -> bool
     ensures { result ≡ is_in fec.now (tunnels_in wants.now.entries) }
 {
-    is_wanted_of(wants.values().as_slice(), fec)
+    is_wanted_of(wants.held().values().as_slice(), fec)
 }

@@ -9,6 +9,7 @@ use Rattle.vrf_flows.proofs.CostLemmas.{least_costs}
 use Rattle.vrf_trees.specs.declared.changes.TreeJoin.{TreeJoin}
 use Rattle.vrf_trees.specs.Changes.{AreJoins}
 use Rattle.vrf_trees.specs.Wants.{ups_in}
+use Rattle.vrf_trees.proofs.PlanLemmas.{carried-fresh}
 use Rattle.vrf_trees.proofs.RefreshLemmas.{all-renewed, joins-are, renewed-holds, wants-are}
 use Rattle.vrf_trees.proofs.refresh.refresh.Goals as goal
 
@@ -44,3 +45,7 @@ returns-clause-leaves c = λ cost costs.
     let given : Flow → Option Upstream = λ q. lost (upstream_of (maps.get c.args.flows.now.flows q)) (upstream_of (flow_of c.args.flows.now cost c.args.now q)) in
     subst (λ (l : List TreeJoin). AreJoins l given) (sym c.in_ok-leaves.ensures)
     (joins-are c.in_ok-changes.changes.leaves.entries given c.in_ok-changes.ensures.once.1 (λ q. c.in_ok-changes.ensures.leaves cost costs q))
+
+pub exchange-requires-clause-fresh : goal.exchange-requires-clause-fresh
+exchange-requires-clause-fresh c = λ q.
+    carried-fresh c.args.leaf.now q (get same_flow c.in_ok-changes.changes.joins q) (get same_flow c.in_ok-changes.changes.leaves q) (get same_flow c.args.wants.now q) (get same_flow c.in_ok-plan.plan q) (c.in_ok-plan.ensures.each q)

@@ -13,6 +13,7 @@ use Rattle.vrf_flows.specs.State.{compares_costs, given_at, needed_in}
 use Rattle.vrf_flows.proofs.TreeLemmas.{gain-all, loss-all, settled-fresh, settled-keeps}
 use Rattle.vrf_flows.proofs.StateLemmas.{before-flow, flows-got, given-flow, mid-held, mid-keeps, mid-kept}
 use Rattle.vrf_flows.proofs.CostLemmas.{least_costs}
+use Rattle.vrf_flows.proofs.StaleLemmas.{stale-planned}
 use Rattle.vrf_flows.proofs.state.State.refreshed.Goals as goal
 
 pub returns-clause-sound : goal.returns-clause-sound
@@ -97,3 +98,8 @@ returns-clause-held c = λ q need.
     λ q. c.mark_between.ensures.each q ∙ ap (marked (list_any (lapsed c.args.self.now.clock c.args.now q) c.expiries.result.now.entries)) (c.mark_costs.ensures.each q) in
     c.settle.ensures.held q ((λ i. is_needed (c.as_slice.ensures i) old.entries old.sent.keys q) ∙ need)
     (mid-held old (get same_flow c.mark_between.new.flows) c.expiries.result.now.entries c.args.now c.requires.sound each q need)
+
+pub settle-requires-clause-planned : goal.settle-requires-clause-planned
+settle-requires-clause-planned c = λ q h.
+    let least = least_costs c.args.core.now.nodes c.args.core.now.links c.args.me c.nodes.ensures.topology c.nodes.ensures.connected c.requires.me in
+    stale-planned (get same_flow c.mark_between.new.flows q) _ (get same_flow c.in_ok-plan.plan q) (c.in_ok-plan.ensures.each least.0 least.1 q) h

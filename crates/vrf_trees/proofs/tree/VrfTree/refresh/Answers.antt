@@ -11,7 +11,7 @@ pub refresh-told-requires-clause-peers : goal.refresh-told-requires-clause-peers
 refresh-told-requires-clause-peers c = subst (λ (t : TreeData). AreOfCore c.args.core.now.nodes t.vrf.routes.learned) (sym c.self.view_is) c.requires.peers
 
 pub invariant_of-self-in-Err : goal.invariant_of-self-in-Err
-invariant_of-self-in-Err c = none-sound c.self.inside.leaf c.forget_flows.new.self.flows c.new.result c.new.ensures.unique (λ q. search rules) (ap (λ (v : VrfData). v.flows) c.forget_flows.ensures)
+invariant_of-self-in-Err c = none-sound c.self.inside.leaf c.forget_flows.new.self.flows c.of.result c.of.ensures.unique c.of.ensures.none (ap (λ (v : VrfData). v.flows) c.forget_flows.ensures)
 
 pub returns-in-Ok-clause-joins : goal.returns-in-Ok-clause-joins
 returns-in-Ok-clause-joins c = λ cost costs.

@@ -1,0 +1,5 @@
+pub mod Readers
+pub mod FieldReaders
+pub mod PartReaders
+pub mod Files
+pub mod Appends

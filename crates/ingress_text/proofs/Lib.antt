@@ -1,0 +1,4 @@
+mod RootLemmas
+mod PeerLemmas
+mod RoleLemmas
+mod TellLemmas

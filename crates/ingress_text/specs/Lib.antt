@@ -1,0 +1,5 @@
+pub mod Rooted
+pub mod Root
+pub mod Drafted
+pub mod Grammar
+pub mod Telling

@@ -1,0 +1,5 @@
+pub mod LabelLemmas
+pub mod TableLemmas
+pub mod StreamLemmas
+pub mod StepLemmas
+pub mod LineLemmas

@@ -1,0 +1,4 @@
+pub use Rattle.edge_defs.specs as edge_defs
+pub mod Lines
+pub mod Probed
+pub mod Given

@@ -1,0 +1,13 @@
+use Rattle.std.proofs.Common.{◌≡◌, None}
+use Rattle.indexmap.specs.IndexMap.{get, IsUnique}
+use Rattle.vrf_words.specs.declared.tree_defs.flow.Flow.{Flow}
+use Rattle.vrf_words.specs.tree_defs.Keys.{same_flow}
+use Rattle.vrf_flows.specs.Plan.{puts}
+use Rattle.vrf_trees.specs.Plan.{renewal}
+use Rattle.vrf_trees.proofs.plan.plan_all.Given as goal
+
+abbrev pub invariant-loop-flow : goal.invariant-loop-flow
+invariant-loop-flow l = record {
+  each : (q : Flow) → puts (renewal l.leaf) l.flow-iterator (get same_flow l.plan q) q ≡ puts (renewal l.leaf) l.wants.entries None q;
+  unique : IsUnique same_flow l.plan;
+}

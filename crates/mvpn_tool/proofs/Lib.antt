@@ -8,3 +8,4 @@ pub mod DecodeLemmas
 pub mod RunsLemmas
 pub mod CountLemmas
 pub mod SweepLemmas
+pub mod HopsLemmas

@@ -27,6 +27,12 @@ made_number_of word = number_of word >>? λ number. only_if (nat_le 1 number && 
 abbrev pub detail_of : List ℕ → Option Detail
 detail_of word = if pointwise nat_eq word (codes "--wire") then Some details.Wire else None
 
+-- the command of a word that stands alone
+abbrev pub command_alone : List ℕ → Option Command
+command_alone word =
+    if pointwise nat_eq word (codes "replay") then Some (commands.Replay details.Plain) else
+    if pointwise nat_eq word (codes "hops") then Some commands.Hops else None
+
 -- the command of two words: `replay` and its detail, `decode` and a format, or `make` or `sweep` and a number
 abbrev pub command_with : List ℕ → List ℕ → Option Command
 command_with a b =
@@ -35,13 +41,14 @@ command_with a b =
     if pointwise nat_eq a (codes "make") then option_map (λ number. commands.Make number) (made_number_of b) else
     if pointwise nat_eq a (codes "sweep") then option_map (λ number. commands.Sweep number) (made_number_of b) else None
 
--- the command that the words name: `replay` with or without `--wire`, `decode` and a format, or `make` or `sweep` and a number
+-- the command that the words name: `replay` with or without `--wire`, `decode` and a format, `make` or `sweep` and a number, or a word
+-- alone
 abbrev pub command_of : List (List ℕ) → Option Command
 command_of [] = None
-command_of (a ∷ []) = if pointwise nat_eq a (codes "replay") then Some (commands.Replay details.Plain) else None
+command_of (a ∷ []) = command_alone a
 command_of (a ∷ b ∷ []) = command_with a b
 command_of (a ∷ b ∷ c ∷ more) = None
 
 -- the line that tells the forms of a command
 abbrev pub usage_line : List ℕ
-usage_line = codes "usage: mvpn replay [--wire] | decode nlri|pmsi|fec|bgp|ldp|pim | make NUMBER | sweep NUMBER\n"
+usage_line = codes "usage: mvpn replay [--wire] | decode nlri|pmsi|fec|bgp|ldp|pim | make NUMBER | sweep NUMBER | hops\n"

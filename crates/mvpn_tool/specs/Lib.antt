@@ -7,3 +7,5 @@ pub mod Sweep
 pub mod DecodeOutcome
 pub mod Commands
 pub mod Runs
+pub mod HopLines
+pub mod HopsOutcome

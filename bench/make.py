@@ -19,8 +19,10 @@
     decode-nlri SIZE octets of hexadecimal text, which writes MCAST-VPN routes of AFI 1 end to end, one on each line
     decode-bgp  SIZE octets of hexadecimal text, which writes BGP messages end to end, one on each line
     decode-ldp  SIZE octets of hexadecimal text, which writes LDP PDUs end to end, one on each line
+    hops        a file of SIZE hops, each of a datagram of 22 octets
 
-The first ten are inputs of `replay`, `decode` is one of `decode fec`, and `decode-NAME` one of `decode NAME`. The input
+The first ten are inputs of `replay`, `decode` is one of `decode fec`, `decode-NAME` one of `decode NAME`, and `hops` one
+of `hops`. The input
 is within the limits: 16,777,216 octets, 200,000 events, 1,024 interfaces and entries, 4,096 octets a line.
 """
 
@@ -328,6 +330,16 @@ def wide(kind, value):
     return kind.to_bytes(2, 'big') + len(value).to_bytes(2, 'big') + value
 
 
+def hops(size):
+    """The octets of a pcap file: a header, and a record for each hop."""
+    yield bytes.fromhex('a1b2c3d4' '00020004' '00000000' '00000000' '0000ffff' '00000001')
+    packet = bytes.fromhex('4500001600000000401187cb0a010009e8010101aabb')
+    for number in range(size):
+        front = b''.join(field.to_bytes(4, 'big') for field in [number // 1000, number % 1000 * 1000, 40, 40])
+        ends = bytes([2, 0, 0, 0]) + (number % 64).to_bytes(2, 'big') + bytes([2, 0, 0, 0]) + (number % 63).to_bytes(2, 'big')
+        yield front + ends + b'\x88\x47' + ((16 + number % 4096 << 12) + 256 + 255).to_bytes(4, 'big') + packet
+
+
 def hexadecimal(value_of, size):
     """The values in hexadecimal text, one on each line, and then spaces, so that the text has exactly that many
     octets."""
@@ -356,6 +368,7 @@ KINDS = {
     'decode-nlri': lambda size: hexadecimal(route, size),
     'decode-bgp': lambda size: hexadecimal(message, size),
     'decode-ldp': lambda size: hexadecimal(pdu, size),
+    'hops': hops,
 }
 
 
@@ -363,7 +376,7 @@ def main():
     if len(sys.argv) != 3 or sys.argv[1] not in KINDS:
         sys.exit(__doc__)
     for piece in KINDS[sys.argv[1]](int(sys.argv[2])):
-        sys.stdout.write(piece)
+        sys.stdout.buffer.write(piece if isinstance(piece, bytes) else piece.encode())
 
 
 if __name__ == '__main__':

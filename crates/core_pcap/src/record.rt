@@ -1,7 +1,8 @@
 //! The record of a hop.
-ghost use Rattle.std.specs.Prelude.{◌≡◌, ◌<◌, length, IfOk};
+ghost use Rattle.std.specs.Prelude.{◌≡◌};
 ghost use Rattle.core_pcap.specs.Answers.{Gives};
-ghost use Rattle.core_pcap.specs.Reading.{millis_of, length_of, node_of, shim_of, millis_at, length_at, node_at, shim_at, time_at, lengths_at, ends_at, label_at, hop_at};
+ghost use Rattle.core_pcap.specs.Reading.{millis_of, length_of, node_of, shim_of, millis_at, length_at, node_at, shim_at};
+ghost use Rattle.core_pcap.specs.Reading.{time_at, lengths_at, ends_at, label_at, hop_at};
 
 use crate::fault::{PcapFault, ReadFault};
 use crate::field::{known, read_array, read_bytes, read_known_half, read_known_word, read_word};

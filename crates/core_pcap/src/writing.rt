@@ -1,6 +1,5 @@
 //! Writing a file, the most significant octet of each number first.
 ghost use Rattle.std.specs.Prelude.{◌≡◌, ◌++◌, ◌/◌, ◌<◌, ◌^◌, All, IfOk, None, OnErr, OnOk};
-ghost use Rattle.std.specs.List.{flat_map};
 ghost use Rattle.core_pcap.specs.Answers.{IsOnly};
 ghost use Rattle.core_pcap.specs.Spelling.{IsHop, frame_text, hop_text, labelled_text, time_text, written_file, written_header};
 ghost use Rattle.core_pcap.specs.Words.{node_octets, word};

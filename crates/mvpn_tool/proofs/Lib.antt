@@ -10,3 +10,4 @@ pub mod AuditLemmas
 pub mod RunsLemmas
 pub mod CountLemmas
 pub mod SweepLemmas
+pub mod HopsLemmas

@@ -8,3 +8,5 @@ pub mod DecodeOutcome
 pub mod AuditOutcome
 pub mod Commands
 pub mod Runs
+pub mod HopLines
+pub mod HopsOutcome

@@ -25,6 +25,8 @@ use Rattle.mvpn_tool.specs.AuditOutcome.{AuditsEarly, AuditsFaulty, Judged}
 use Rattle.mvpn_tool.specs.declared.command.Command.{Command}
 use Rattle.mvpn_tool.specs.declared.command.Command.TheVariants as commands
 use Rattle.mvpn_tool.specs.declared.command.Detail.{Detail}
+use Rattle.mvpn_tool.specs.HopLines.{HasFault as HasHopsFault, IsFile}
+use Rattle.mvpn_tool.specs.HopsOutcome.{HopsEarly, HopsFaulty, HopsTold, within_limit}
 
 -- A call and its end: the status and the world that it answers; what the source had left before it and has left behind it, and what
 -- the sink had written, where they tell that; and how often each of them has failed, before and behind.
@@ -186,6 +188,31 @@ pub record AuditRun (e : Ending) : Type 0 where
   pub only : (e.status ≡ 0) ⊎ (e.status ≡ 3) ⊎ (e.status ≡ 8) ⊎ IsStopped e.status
   pub worldless : e.world ≡ None
 
+-- `hops`
+pub record HopsRun (e : Ending) : Type 0 where
+  -- the octets spell a file, and the lines of its hops were written
+  pub zero : e.status ≡ 0 → HopsTold false e.left e.old e.new
+  -- they have a first fault, and the lines of the hops before it were written, and then its own
+  pub one : e.status ≡ 1 → HopsTold true e.left e.old e.new
+  pub one_always :
+      (input octets : List ℕ) → e.left ≡ Some input → within_limit input ≡ Ok octets → HasHopsFault octets →
+      (e.status ≡ 1) ⊎ IsStopped e.status
+  -- the input is too long, and the line that tells it is written alone
+  pub three : e.status ≡ 3 → HopsFaulty e.left e.old e.new
+  pub three_always :
+      (input : List ℕ) (fault : TextFault) → e.left ≡ Some input → within_limit input ≡ Err fault → (e.status ≡ 3) ⊎ IsStopped e.status
+  pub four : e.status ≡ 4 → Wrote e []
+  pub four_cause : e.status ≡ 4 → SourceFailed e
+  pub five : e.status ≡ 5 → HopsEarly e.left e.old e.new
+  pub five_cause : e.status ≡ 5 → SinkFailed e
+  pub six : e.status ≡ 6 → Wrote e [] ⊎ HopsEarly e.left e.old e.new
+  pub taken : e.status ≢ 4 → e.status ≢ 6 → Taken e.left e.rest
+  pub complete :
+      (input octets : List ℕ) → (SourceFailed e → ⊥) → (SinkFailed e → ⊥) → e.left ≡ Some input → within_limit input ≡ Ok octets →
+      IsFile octets → (e.status ≡ 0) ⊎ (e.status ≡ 6)
+  pub only : (e.status ≡ 0) ⊎ (e.status ≡ 1) ⊎ (e.status ≡ 3) ⊎ IsStopped e.status
+  pub worldless : e.world ≡ None
+
 -- how a call ends whose words name that command, or none
 abbrev pub Runs : Option Command → Ending → Type 0
 Runs None e = UsageRun e
@@ -194,3 +221,4 @@ Runs (Some (commands.Decode format)) e = DecodeRun format e
 Runs (Some (commands.Make number)) e = MakeRun number e
 Runs (Some (commands.Sweep number)) e = SweepRun number e
 Runs (Some commands.Audit) e = AuditRun e
+Runs (Some commands.Hops) e = HopsRun e

@@ -27,6 +27,8 @@ pub enum Command {
     Sweep(u32),
     /// `audit`
     Audit,
+    /// `hops`
+    Hops,
 }
 
 /// The detail that a word behind `replay` asks for.
@@ -87,6 +89,7 @@ fn command_alone(word: &str) -> Option<Command>
     match word {
         "replay" => Some(Command::Replay(Detail::Plain)),
         "audit" => Some(Command::Audit),
+        "hops" => Some(Command::Hops),
         _ => None,
     }
 }

@@ -3,7 +3,7 @@
 
 A row is the words of a command, its input, the whole output and the status. Rows stand in checks/rows/*.txt, and each
 examples/NAME.txt with its NAME.report is one more; its status is 7 where the last line of the report begins with `halt `, and else
-0. The command is `./mvpn` of this repository, unless another one is named. Rows of `replay` are run by the reference program of the
+0. So is each examples/NAME.ingress, a text of `ingress`, whose status is 1 where a line of the report begins with `refused `. The command is `./mvpn` of this repository, unless another one is named. Rows of `replay` and `ingress` are run by the reference program of the
 definitions too. With files, only rows of these are run.
 
 A file of rows is made of blocks, and the first word of a block says what it is. Blank lines, and those that begin with
@@ -43,8 +43,8 @@ REFERENCE = [sys.executable, str(TOP / 'checks' / 'reference.py')]
 ESCAPES = {'n': '\n', 'r': '\r', 't': '\t', '\\': '\\', '\n': ''}
 # the first words of blocks
 KINDS = ['short', 'scenario', 'table', 'row']
-# the statuses of a replay that came to its end, to a fault of the text, or to a halt
-REPLAYED = (0, 3, 7)
+# the statuses of a replay, or of ingress replication, that came to its end, to a fault of a peer or of the text, or to a halt
+REPLAYED = (0, 1, 3, 7)
 # seconds that a run may take: a program that is built without its proofs is not optimized, and slow at the limits
 LONGEST = 300
 
@@ -62,10 +62,11 @@ class Row:
     by: str = ''
 
     def runners(self):
-        """Who runs the row. The reference program has no command but `replay` and `audit`; rows of `audit` name it as the one that runs them."""
+        """Who runs the row. The reference program has no command but `replay`, `ingress` and `audit`; rows of `audit` name it as the one that
+        runs them."""
         if self.by:
             return [self.by]
-        is_replayed = self.words[:1] == ['replay'] and self.status in REPLAYED
+        is_replayed = self.words[:1] in (['replay'], ['ingress']) and self.status in REPLAYED
         return ['program', 'reference'] if is_replayed else ['program']
 
 
@@ -192,6 +193,10 @@ def examples():
         report = path.with_suffix('.report').read_text()
         status = 7 if re.search(r'^halt .*\n\Z', report, re.MULTILINE) else 0
         yield Row(f'examples/{path.name}', ['replay'], path.read_bytes(), report, status)
+    for path in sorted((TOP / 'examples').glob('*.ingress')):
+        report = path.with_suffix('.report').read_text()
+        status = 1 if re.search('^refused ', report, re.MULTILINE) else 0
+        yield Row(f'examples/{path.name}', ['ingress'], path.read_bytes(), report, status)
 
 
 # ---- the check

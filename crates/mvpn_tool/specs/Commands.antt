@@ -35,13 +35,19 @@ command_with a b =
     if pointwise nat_eq a (codes "make") then option_map (λ number. commands.Make number) (made_number_of b) else
     if pointwise nat_eq a (codes "sweep") then option_map (λ number. commands.Sweep number) (made_number_of b) else None
 
--- the command that the words name: `replay` with or without `--wire`, `decode` and a format, or `make` or `sweep` and a number
+-- the command of one word
+abbrev pub command_alone : List ℕ → Option Command
+command_alone a =
+    if pointwise nat_eq a (codes "replay") then Some (commands.Replay details.Plain) else
+    if pointwise nat_eq a (codes "ingress") then Some commands.Ingress else None
+
+-- the command that the words name: `replay` with or without `--wire`, `decode` and a format, `make` or `sweep` and a number, or `ingress`
 abbrev pub command_of : List (List ℕ) → Option Command
 command_of [] = None
-command_of (a ∷ []) = if pointwise nat_eq a (codes "replay") then Some (commands.Replay details.Plain) else None
+command_of (a ∷ []) = command_alone a
 command_of (a ∷ b ∷ []) = command_with a b
 command_of (a ∷ b ∷ c ∷ more) = None
 
 -- the line that tells the forms of a command
 abbrev pub usage_line : List ℕ
-usage_line = codes "usage: mvpn replay [--wire] | decode nlri|pmsi|fec|bgp|ldp|pim | make NUMBER | sweep NUMBER\n"
+usage_line = codes "usage: mvpn replay [--wire] | decode nlri|pmsi|fec|bgp|ldp|pim | make NUMBER | sweep NUMBER | ingress\n"

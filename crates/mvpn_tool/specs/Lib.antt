@@ -5,5 +5,6 @@ pub mod Outcome
 pub mod Known
 pub mod Sweep
 pub mod DecodeOutcome
+pub mod IngressOutcome
 pub mod Commands
 pub mod Runs

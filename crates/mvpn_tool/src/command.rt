@@ -1,6 +1,6 @@
 //! The words of commands.
 ghost use Rattle.std.specs.Prelude.{◌≡◌, map, string_bytes};
-ghost use Rattle.mvpn_tool.specs.Commands.{command_of, command_with, detail_of, format_of, made_number_of};
+ghost use Rattle.mvpn_tool.specs.Commands.{command_alone, command_of, command_with, detail_of, format_of, made_number_of};
 
 use decode_text::Format;
 use mv_base::read_number;
@@ -25,6 +25,8 @@ pub enum Command {
     Make(u32),
     /// `sweep` and the number of a network, 1 to 1,000,000
     Sweep(u32),
+    /// `ingress`
+    Ingress,
 }
 
 /// The detail that a word behind `replay` asks for.
@@ -78,12 +80,23 @@ fn command_with(word: &str, kind: &str) -> Option<Command>
     }
 }
 
+/// The command of one word.
+fn command_alone(word: &str) -> Option<Command>
+    ensures { result ≡ command_alone word.now }
+{
+    match word {
+        "replay" => Some(Command::Replay(Detail::Plain)),
+        "ingress" => Some(Command::Ingress),
+        _ => None,
+    }
+}
+
 /// The command that the words name.
 pub fn command_of(words: &[String]) -> Option<Command>
     ensures { result ≡ command_of (map string_bytes words.now) }
 {
     match words {
-        [word] if word.as_str() == "replay" => Some(Command::Replay(Detail::Plain)),
+        [word] => command_alone(word.as_str()),
         [word, kind] => command_with(word.as_str(), kind.as_str()),
         _ => None,
     }

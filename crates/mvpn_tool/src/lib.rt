@@ -1,19 +1,21 @@
 //! The top call: `run` (`top.rt`) takes the words of a command, a source and a sink, and answers a status and what was
 //! written. `command.rt` says which words are which command. `replay.rt` replays a source into a sink, event by event,
 //! each with those of its lines that are asked for, up to one that lacks a label; `decode.rt` decodes a source;
+//! `ingress.rt` does what a text of ingress replication says;
 //! `make.rt` writes the text of a made network; `sweep.rt` replays one and writes the line of its numbers
 //! (`counts.rt`). `input.rt` reads a source to its end or past the limit, `report.rt` has the texts of lines and of a
 //! fault, `stop.rt` why a replay or a decoding ended early, and `laws.rt` what is known of a script and its runs from
 //! the laws below. The contract of `run` is a record for each command with a field for each status (`specs/Runs.antt`,
 //! `Commands`); `Report` is a whole run and a halted one with all that is promised of them, `Known` what the laws of
-//! runs say, `Outcome`, `DecodeOutcome` and `Sweep` how each command may end. Below it are the text room
-//! (`scenario_text`, `report_text`, `decode_text`, `generator`), the network (`network_events`), the laws of runs
+//! runs say, `Outcome`, `DecodeOutcome`, `IngressOutcome` and `Sweep` how each command may end. Below it are the text room
+//! (`scenario_text`, `report_text`, `decode_text`, `ingress_text`, `generator`), the network (`network_events`), the laws of runs
 //! (`settle_laws`, `license_laws`, `run_laws`, `made_laws`) and `mv_io`; above it `mvpn` is the program.
 #![tactic(auto)]
 
 mod command;
 mod counts;
 mod decode;
+mod ingress;
 mod input;
 mod laws;
 mod make;

@@ -19,11 +19,11 @@
     decode-nlri SIZE octets of hexadecimal text, which writes MCAST-VPN routes of AFI 1 end to end, one on each line
     decode-bgp  SIZE octets of hexadecimal text, which writes BGP messages end to end, one on each line
     decode-ldp  SIZE octets of hexadecimal text, which writes LDP PDUs end to end, one on each line
+    ingress     a root, and about SIZE octets of lines: leaves that answer, and octets of a hundred peers
     hops        a file of SIZE hops, each of a datagram of 22 octets
 
-The first ten are inputs of `replay`, `decode` is one of `decode fec`, `decode-NAME` one of `decode NAME`, and `hops` one
-of `hops`. The input
-is within the limits: 16,777,216 octets, 200,000 events, 1,024 interfaces and entries, 4,096 octets a line.
+The first ten are inputs of `replay`, `decode` is one of `decode fec`, `decode-NAME` one of `decode NAME`, `hops` one of `hops`,
+and `ingress` one of `ingress`. The input is within the limits: 16,777,216 octets, 200,000 events, 1,024 interfaces and entries, 4,096 octets a line.
 """
 
 import random
@@ -353,6 +353,23 @@ def hexadecimal(value_of, size):
     yield ' ' * size
 
 
+def ingress(size):
+    """A root, and then in turn a leaf of its own address, and a line with octets of messages of one of a hundred peers, up to about
+    so many octets of lines."""
+    nlri = bytes([0, 1, 5, 4, 192, 0, 2, 1, 0]) + route(2)[:-4] + bytes([192, 0, 2, 1])
+    attributes = bytes([0x80, 14, len(nlri)]) + nlri + bytes([0xc0, 22, 9, 1, 6, 0, 0, 0, 192, 0, 2, 1])
+    body = bytes(2) + len(attributes).to_bytes(2, 'big') + attributes
+    yield 'root 192.0.2.1 %s\n' % (b'\xff' * 16 + (19 + len(body)).to_bytes(2, 'big') + b'\2' + body).hex()
+    number = 0
+    while size > 0:
+        leaf = 'leaf 11.%d.%d.%d %d\n' % (number >> 16, number >> 8 & 255, number & 255, 16 + number)
+        octets = b''.join(message(number * 12 + own) for own in range(12)).hex()
+        piece = 'from 12.0.0.%d %s\n' % (number % 100, octets)
+        yield leaf + piece
+        size -= len(leaf + piece)
+        number += 1
+
+
 KINDS = {
     'comments': lambda size: [*comments(size), *small()],
     'joins': joins,
@@ -368,6 +385,7 @@ KINDS = {
     'decode-nlri': lambda size: hexadecimal(route, size),
     'decode-bgp': lambda size: hexadecimal(message, size),
     'decode-ldp': lambda size: hexadecimal(pdu, size),
+    'ingress': ingress,
     'hops': hops,
 }
 

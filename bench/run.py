@@ -30,6 +30,7 @@ INPUTS = [
     ('decode-nlri', ['decode', 'nlri'], 8_000_000, 0),
     ('decode-bgp', ['decode', 'bgp'], 8_000_000, 0),
     ('decode-ldp', ['decode', 'ldp'], 8_000_000, 0),
+    ('ingress', ['ingress'], 8_000_000, 0),
     ('hops', ['hops'], 145_000, 0),
 ]
 

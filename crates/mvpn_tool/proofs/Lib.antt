@@ -11,3 +11,4 @@ pub mod RunsLemmas
 pub mod CountLemmas
 pub mod SweepLemmas
 pub mod HopsLemmas
+mod IngressLemmas

@@ -10,3 +10,4 @@ pub mod Commands
 pub mod Runs
 pub mod HopLines
 pub mod HopsOutcome
+pub mod IngressOutcome

@@ -27,6 +27,10 @@ use Rattle.mvpn_tool.specs.declared.command.Command.TheVariants as commands
 use Rattle.mvpn_tool.specs.declared.command.Detail.{Detail}
 use Rattle.mvpn_tool.specs.HopLines.{HasFault as HasHopsFault, IsFile}
 use Rattle.mvpn_tool.specs.HopsOutcome.{HopsEarly, HopsFaulty, HopsTold, within_limit}
+use Rattle.mvpn_tool.specs.IngressOutcome.{Told, ToldEarly, ToldFaulty}
+use Rattle.ingress_text.specs.declared.input.Input.{Input}
+use Rattle.ingress_text.specs.Grammar.{input_of}
+use Rattle.ingress_text.specs.Telling.{is_refused}
 
 -- A call and its end: the status and the world that it answers; what the source had left before it and has left behind it, and what
 -- the sink had written, where they tell that; and how often each of them has failed, before and behind.
@@ -213,6 +217,36 @@ pub record HopsRun (e : Ending) : Type 0 where
   pub only : (e.status ≡ 0) ⊎ (e.status ≡ 1) ⊎ (e.status ≡ 3) ⊎ IsStopped e.status
   pub worldless : e.world ≡ None
 
+-- `ingress`
+pub record IngressRun (e : Ending) : Type 0 where
+  -- no peer has a fault, and what is told was written
+  pub zero : e.status ≡ 0 → Told false e.left e.old e.new
+  -- a peer has a first fault, and what is told was written
+  pub one : e.status ≡ 1 → Told true e.left e.old e.new
+  pub one_always :
+      (input : List ℕ) (what : Input) → e.left ≡ Some input → input_of input ≡ Ok what → is_refused what ≡ true →
+      (e.status ≡ 1) ⊎ IsStopped e.status
+  -- the text has a fault, and the line that tells it is written alone
+  pub three : e.status ≡ 3 → ToldFaulty e.left e.old e.new
+  pub three_always :
+      (input : List ℕ) (fault : TextFault) → e.left ≡ Some input → input_of input ≡ Err fault → (e.status ≡ 3) ⊎ IsStopped e.status
+  -- the source failed, and nothing is written
+  pub four : e.status ≡ 4 → Wrote e []
+  pub four_cause : e.status ≡ 4 → SourceFailed e
+  -- the sink failed, with a prefix of the output written
+  pub five : e.status ≡ 5 → ToldEarly e.left e.old e.new
+  pub five_cause : e.status ≡ 5 → SinkFailed e
+  -- there was no memory, and nothing or a prefix of the output is written
+  pub six : e.status ≡ 6 → Wrote e [] ⊎ ToldEarly e.left e.old e.new
+  -- the input was taken to its end, or one octet past the limit
+  pub taken : e.status ≢ 4 → e.status ≢ 6 → Taken e.left e.rest
+  -- where neither end failed and no peer has a fault, nothing but memory keeps what is told from being written
+  pub complete :
+      (input : List ℕ) (what : Input) → (SourceFailed e → ⊥) → (SinkFailed e → ⊥) → e.left ≡ Some input → input_of input ≡ Ok what →
+      is_refused what ≡ false → (e.status ≡ 0) ⊎ (e.status ≡ 6)
+  pub only : (e.status ≡ 0) ⊎ (e.status ≡ 1) ⊎ (e.status ≡ 3) ⊎ IsStopped e.status
+  pub worldless : e.world ≡ None
+
 -- how a call ends whose words name that command, or none
 abbrev pub Runs : Option Command → Ending → Type 0
 Runs None e = UsageRun e
@@ -222,3 +256,4 @@ Runs (Some (commands.Make number)) e = MakeRun number e
 Runs (Some (commands.Sweep number)) e = SweepRun number e
 Runs (Some commands.Audit) e = AuditRun e
 Runs (Some commands.Hops) e = HopsRun e
+Runs (Some commands.Ingress) e = IngressRun e

@@ -29,6 +29,8 @@ pub enum Command {
     Audit,
     /// `hops`
     Hops,
+    /// `ingress`
+    Ingress,
 }
 
 /// The detail that a word behind `replay` asks for.
@@ -89,6 +91,7 @@ fn command_alone(word: &str) -> Option<Command>
     match word {
         "replay" => Some(Command::Replay(Detail::Plain)),
         "audit" => Some(Command::Audit),
+        "ingress" => Some(Command::Ingress),
         "hops" => Some(Command::Hops),
         _ => None,
     }

@@ -1,0 +1,5 @@
+pub mod Folds
+pub mod Members
+pub mod Idle
+pub mod Receivers
+pub mod Counterparts

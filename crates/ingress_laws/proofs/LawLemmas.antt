@@ -190,7 +190,7 @@ leaf_key_is (keys.Selective rd source group originator) (keys.Selective others s
 leaf_key_is (keys.Inter rd source_as) (keys.Selective others sources groups originators) e = absurd cc
 leaf_key_is (keys.Selective rd source group originator) (keys.Inter others number) e = absurd cc
 
-answer_is : (request : Request) (leaf : Addr) (key : Key) → is_answer request leaf key ≡ true → key ≡ answer_key request leaf
+pub answer_is : (request : Request) (leaf : Addr) (key : Key) → is_answer request leaf key ≡ true → key ≡ answer_key request leaf
 answer_is request leaf (Mcast afi (Leaf key originator)) e =
     let front = and_parts (same_afi afi request.afi && same_leaf_key key request.key) (same_addr originator leaf) e in
     let both = and_parts (same_afi afi request.afi) (same_leaf_key key request.key) front.0 in

@@ -5,5 +5,7 @@
 #![tactic(auto)]
 
 mod laws;
+mod texts;
 
 pub use laws::{answers_are, copies_are};
+pub use texts::{answers_are_routes, last_answers_are_copied};

@@ -3,3 +3,5 @@ pub mod Members
 pub mod Idle
 pub mod Receivers
 pub mod Counterparts
+pub mod Room
+pub mod Runs

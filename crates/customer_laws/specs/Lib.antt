@@ -1,2 +1,3 @@
 pub mod Concerns
 pub mod Reported
+pub mod Room

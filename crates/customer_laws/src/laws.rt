@@ -11,6 +11,7 @@ ghost use Rattle.mvpn_model.specs.Once.{Once};
 ghost use Rattle.mvpn_model.specs.Past.{Past, receivers};
 ghost use Rattle.mvpn_model.specs.Report.{Datagram, datagrams, outs_at};
 ghost use Rattle.customer_laws.specs.Concerns.{AreAlike};
+ghost use Rattle.customer_laws.specs.Room.{OneRun, past_in, asked_in, HasRoom, reported_in, LeavesAlike};
 ghost use Rattle.customer_laws.specs.Reported.{Reported, history, LiesInWindow, AreCounterparts, HasCounterpart};
 
 /// Histories that are alike for a VPN have the same receivers for each flow from a site of it.
@@ -36,4 +37,20 @@ pub fn same_interfaces()
         LiesInWindow one place datagram → LiesInWindow other number counterpart → is_attached scenario vrf counterpart.site ≡ true →
         AreCounterparts scenario vrf one other datagram counterpart → (iface : IfaceId) →
         outs_at one.report (place + 1) iface ≡ outs_at other.report (number + 1) iface }
+{}
+
+/// In two runs of one scenario whose events that concern a VPN are the same, and none of them is refused `full`, what happened is alike
+/// for the VPN.
+pub fn runs_are_alike()
+    ensures { (vrf : VrfId) (one other : OneRun) → one.script.scenario ≡ other.script.scenario → asked_in vrf one ≡ asked_in vrf other →
+        HasRoom vrf one → HasRoom vrf other → AreAlike vrf (past_in one) (past_in other) }
+{}
+
+/// In two such runs each datagram that was accepted in one from a site of the VPN has its counterpart in the other, and where both lie in
+/// calm windows, they leave at the same interfaces, whatever other customers do.
+pub fn runs_deliver_alike()
+    ensures { (vrf : VrfId) (one other : OneRun) → one.script.scenario ≡ other.script.scenario → asked_in vrf one ≡ asked_in vrf other →
+        HasRoom vrf one → HasRoom vrf other → (place : ℕ) (datagram : Datagram) →
+        slice_get (datagrams (reported_in one).refused 0 one.events) place ≡ Some datagram →
+        is_attached other.script.scenario vrf datagram.site ≡ true → LeavesAlike vrf one other place datagram }
 {}

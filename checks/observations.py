@@ -384,7 +384,8 @@ def other_files():
 
 
 def other_cases(commands):
-    for name, files in other_files():
+    for name, made in other_files():
+        files = list(made)
         for command in commands:
             yield name, difference(judged(files, command, '+1.5..+9').splitlines()[:1], ['no 33 admit'])
 

@@ -21,9 +21,11 @@
     decode-ldp  SIZE octets of hexadecimal text, which writes LDP PDUs end to end, one on each line
     ingress     a root, and about SIZE octets of lines: leaves that answer, and octets of a hundred peers
     hops        a file of SIZE hops, each of a datagram of 22 octets
+    audit       SIZE sends in one calm window, each datagram leaving at ten interfaces, and the report of them
 
-The first ten are inputs of `replay`, `decode` is one of `decode fec`, `decode-NAME` one of `decode NAME`, `hops` one of `hops`,
-and `ingress` one of `ingress`. The input is within the limits: 16,777,216 octets, 200,000 events, 1,024 interfaces and entries, 4,096 octets a line.
+The first ten are inputs of `replay`, `decode` is one of `decode fec`, `decode-NAME` one of `decode NAME`, and `ingress`, `hops`
+and `audit` are each one of the command of that name. The input is within the limits: 16,777,216 octets, 200,000 events, 1,024
+interfaces and entries, 4,096 octets a line.
 """
 
 import random
@@ -340,6 +342,23 @@ def hops(size):
         yield front + ends + b'\x88\x47' + ((16 + number % 4096 << 12) + 256 + 255).to_bytes(4, 'big') + packet
 
 
+def audit(size):
+    """A flow with ten receivers, and its datagrams, each of which leaves at all of them."""
+    yield 'edge E1 192.0.2.1\nvrf V1 E1 1 65000:1 65000:1 highest\nsite X 10.1.0.0/16\nsite Y 10.2.0.0/16\niface X1 V1 X 10.1.0.1\n'
+    for number in range(IFACES_PER_SITE):
+        yield 'iface Y%d V1 Y 10.2.0.%d\n' % (number, number + 1)
+    yield 'events\n'
+    for number in range(IFACES_PER_SITE):
+        yield 'join Y%d 10.1.0.9 232.1.1.1\n' % number
+    yield 'state\n'
+    yield from ['send X 10.1.0.9 232.1.1.1 aabb\n'] * size
+    yield 'drain\nstate\nreport\nstate 0 0 0 0 0\n'
+    for number in range(1, size + 1):
+        for iface in range(IFACES_PER_SITE):
+            yield 'out %d Y%d 4500001600000000401187cb0a010009e8010101aabb\n' % (number, iface)
+    yield 'state 0 0 0 0 0\n'
+
+
 def hexadecimal(value_of, size):
     """The values in hexadecimal text, one on each line, and then spaces, so that the text has exactly that many
     octets."""
@@ -387,6 +406,7 @@ KINDS = {
     'decode-ldp': lambda size: hexadecimal(pdu, size),
     'ingress': ingress,
     'hops': hops,
+    'audit': audit,
 }
 
 

@@ -32,6 +32,7 @@ INPUTS = [
     ('decode-ldp', ['decode', 'ldp'], 8_000_000, 0),
     ('ingress', ['ingress'], 8_000_000, 0),
     ('hops', ['hops'], 145_000, 0),
+    ('audit', ['audit'], 10_000, 0),
 ]
 
 

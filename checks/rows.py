@@ -242,7 +242,7 @@ def fault_row(place, words, texts, answer):
     first = re.sub('(?m)^#.*\n', '', FIRST.read_text()).partition('events\n')[0]
     row.input = ''.join(first if text == 'FIRST' else text + '\n' for text in texts).encode()
     if 'report' in texts:
-        row.words, row.by = ['audit'], 'reference'
+        row.words = ['audit']
     return row
 
 

@@ -110,7 +110,7 @@ module _ (core : Topology) (peer : NodeId) (done : List ProbeLine) (old : EdgeVi
   more : (own : Core) (line : ProbeLine) → behind (at own) peer (done ++ line ∷ []) ≡ given (at own) peer (before own) line
   more own line = fold_snoc (given (at own) peer) (begun (at own) peer) done line
 
-  control_at : (own : Core) → IsCoreOf core.nodes core.links own → (data_of old).control ≡ edge_with (at own) peer (table_of (messages_in (octets_of done))) (joined (home_of old).scenario (joins_of done))
+  pub control_at : (own : Core) → IsCoreOf core.nodes core.links own → (data_of old).control ≡ edge_with (at own) peer (table_of (messages_in (octets_of done))) (joined (home_of old).scenario (joins_of done))
   control_at own is = sym ((g.is own is).parts own).keeps ∙ (comes (at own) peer done g.octets).keeps
 
   pub is_up_still : is_up old kinds.Bgp peer ≡ true

@@ -4,3 +4,6 @@ pub mod GivenLemmas
 pub mod LineLemmas
 pub mod FaultLemmas
 pub mod AnswerLemmas
+pub mod ToldLemmas
+pub mod ProbeLemmas
+pub mod LawLemmas

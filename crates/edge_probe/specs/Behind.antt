@@ -1,5 +1,5 @@
 -- An edge that was given the lines of a probe.
-use Rattle.std.specs.Prelude.{◌≡◌, ◌<◌, ◌≤◌, ⊤, ℕ, ◌⊎◌, List, length, Option, None, Some, IsSome}
+use Rattle.std.specs.Prelude.{◌≡◌, ◌<◌, ◌≤◌, ⊤, ℕ, ◌⊎◌, ◌==◌, List, [], length, map, Option, None, Some, IsSome, if◌then◌else◌}
 use Rattle.std.specs.List.{AllByRecursion}
 use Rattle.mv_base.specs.Octets.{IsOctets}
 use Rattle.mv_base.specs.core_walks.Core.{Core, IsCoreOf}
@@ -9,6 +9,10 @@ use Rattle.mv_base.specs.declared.ids.IfaceId.{IfaceId}
 use Rattle.mv_base.specs.declared.ids.NodeId.{NodeId}
 use Rattle.bgp_messages.specs.declared.bgp_attributes.fault.StreamFault.{StreamFault}
 use Rattle.scenario_defs.specs.Rules.{Rules}
+use Rattle.scenario_defs.specs.declared.scenario.Vrf.{Vrf}
+use Rattle.edge_defs.specs.Keys.{Table}
+use Rattle.probe_defs.specs.Probed.{admitted}
+use Rattle.probe_defs.specs.declared.probe.Import.{Import}
 use Rattle.edge_routes.specs.edge_home.Home.{Home, place_of}
 use Rattle.network_defs.specs.node_defs.EdgeState.{fresh_state}
 use Rattle.probe_defs.specs.Given.{behind, fault_in}
@@ -71,3 +75,8 @@ stream_fault other = None
 -- the edge wants memory, or answers such a fault
 abbrev pub IsPeerFault : EdgeFault → Type 0
 IsPeerFault fault = (fault ≡ faults.NoMemory) ⊎ IsSome (stream_fault fault)
+
+-- what the VRF of that number takes of the table, if it is one of the edge
+abbrev pub taken_by : NodeId → ℕ → Vrf → Table → List Import
+taken_by me number vrf table =
+    if vrf.edge.0 == me.0 then map (λ key. record { vrf = record { 0 = number }; key = key }) (admitted vrf table) else []

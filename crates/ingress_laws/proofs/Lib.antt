@@ -1,0 +1,6 @@
+mod LawLemmas
+mod HeardLemmas
+mod RouteLemmas
+mod SpelledLemmas
+mod LeafLemmas
+mod LastLemmas

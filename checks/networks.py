@@ -13,6 +13,8 @@ their delays, and windows behind lines that are to be calm. Checked of it:
     safe        each `out` line is of a datagram that was sent before, with its octets, to an interface of its site's VPN
     once        each datagram of a window leaves at exactly its receivers, once
     licensed    each hop and each delivery by the octets that were put and taken
+    apart       without some events that do not concern a VPN, those that do are refused alike, and its datagrams have the same
+                receivers, and leave at the same interfaces where they lie in windows of both
 
 A script that halts for want of a label is judged up to its halt. Prints what is wrong, with the number of the network, and last
 'N passed, M failed'. With --show the text of the first network is printed instead.
@@ -27,8 +29,9 @@ from dataclasses import dataclass, field
 
 from reference import events, report
 from reference.base import V4, V6, addr_octets, checksum, to_be_bytes
+from reference.customers import concerns, outs_of, own_events
 from reference.events import Done, Halted
-from reference.history import Sessions, Step, not_once, receivers, unsafe_lines
+from reference.history import Sessions, Step, not_once, receivers, unsafe_lines, vpn_of_iface, windows
 from reference.licence import Judge
 from reference.rules import cost_faults, rule_faults
 from reference.script import read
@@ -297,6 +300,7 @@ class Replay:
         self.faults = []
         self.counts = Counter()
         self.place = 0
+        self.ended = len(self.script.events)
 
     def wrong(self, what, *more):
         self.faults.append((what, self.script.events[self.place].line) + more)
@@ -349,6 +353,7 @@ class Replay:
         self.lines += [(self.place, line) for line in flat]
         if isinstance(new, Halted):
             self.counts['halts'] += 1
+            self.ended = self.place
             return False
         self.world = new.world
         if flat and isinstance(flat[0], report.Refused):
@@ -389,10 +394,72 @@ class Sent:
     octets: tuple
 
 
+# ---- two runs that are alike for a VPN
+
+class Plain(Replay):
+    """A run of which no act is checked."""
+
+    def act(self, world, one):
+        return real_act(world, one)
+
+
+# events that bring calm and tell of it, which stay, and those of customers
+CALMING = ('heal', 'settle', 'drain', 'state')
+CUSTOMER_WORDS = ('join', 'prune', 'pim', 'active', 'idle', 'select', 'unselect', 'send', 'packet')
+
+
+def without_others(rng, text, script, vpn):
+    """The text without some events that do not concern the VPN, most of them of other customers."""
+    lines = text.splitlines(keepends=True)
+    for timed in reversed(script.events):
+        word = timed.event.word
+        share = 0 if word in CALMING or concerns(script.scenario, vpn, timed.event) else 0.7 if word in CUSTOMER_WORDS else 0.3
+        if rng.random() < share:
+            del lines[timed.line - 1]
+    return ''.join(lines)
+
+
+def of_vpn(replay, vpn):
+    """The events of the VPN up to the end of the run; and its datagrams, each with how many of these events came before it."""
+    own = own_events(replay.scenario, vpn, replay.script.events[:replay.ended], replay.refused)
+    before = {place: count for count, (_, _, place) in enumerate(own)}
+    numbers = [number for number, sent in replay.datagrams.items() if sent.event in before]
+    return [(event, accepted) for event, accepted, _ in own], [(number, before[replay.datagrams[number].event]) for number in numbers]
+
+
+def lies_calm(replay, number):
+    place = replay.datagrams[number].event
+    return any(first < place <= last for first, last in windows(replay.script, replay.lines, replay.refused))
+
+
+def apart_faults(seed, text, replay):
+    """Where a run without some events that do not concern a VPN parts from the run for it."""
+    rng = random.Random(seed)
+    vpn = rng.choice(sorted({vpn_of_iface(replay.scenario, iface) for iface in range(len(replay.scenario.ifaces))}, key=sorted))
+    other = Plain(without_others(rng, text, replay.script, vpn)).run()
+    (own, datagrams), (other_own, counterparts) = of_vpn(replay, vpn), of_vpn(other, vpn)
+    alike = min(len(own), len(other_own))
+    if own[:alike] != other_own[:alike]:
+        return [('apart', 'refused')]
+    faults = []
+    for (number, before), (counterpart, other_before) in zip(datagrams, counterparts):
+        if before != other_before or replay.wanted[number] != other.wanted[counterpart]:
+            faults.append(('apart', 'receivers', number, counterpart))
+        replay.counts['counterparts'] += 1
+        if lies_calm(replay, number) and lies_calm(other, counterpart):
+            replay.counts['calm counterparts'] += 1
+            if outs_of(replay.lines, number) != outs_of(other.lines, counterpart):
+                faults.append(('apart', 'interfaces', number, counterpart))
+    replay.counts['dropped'] += len(replay.script.events) - len(other.script.events)
+    return faults
+
+
 def judged(task):
     seed, count = task
     try:
-        replay = Replay(make_text(seed, count)).run()
+        text = make_text(seed, count)
+        replay = Replay(text).run()
+        replay.faults += apart_faults(seed, text, replay)
     except Exception as fault:
         return seed, [('error', repr(fault))], Counter()
     return seed, replay.faults[:3], replay.counts

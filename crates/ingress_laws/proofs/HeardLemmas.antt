@@ -1,6 +1,6 @@
 -- What is kept of a peer, behind all octets that came of it.
-use Rattle.std.proofs.Common.{◌≡◌, ◌∙◌, ap, sym, subst, refl, ℕ, ◌+◌, Bool, true, false, cond, List, [], ◌∷◌, ◌++◌, length, fold, Option, None, Some, unwrap_or, nat_cmp, append_assoc, arith}
-use Rattle.std.specs.Int.{w32, to_be_bytes, from_be_bytes}
+use Rattle.std.proofs.Common.{◌≡◌, ◌∙◌, ap, sym, subst, refl, ℕ, Bool, true, false, cond, List, [], ◌∷◌, ◌++◌, length, fold, Option, None, Some, unwrap_or, nat_cmp, append_assoc}
+use Rattle.std.specs.Int.{w32, to_be_bytes}
 use Rattle.std.specs.List.{AllByRecursion}
 use Rattle.std.specs.BTreeMap.{is_at}
 use Rattle.std.specs.FinMap.{nat_cmp-IsAntisymmetric}
@@ -9,12 +9,11 @@ use Rattle.std.proofs.lemmas.List.Sums.{fold-append}
 use Rattle.std.proofs.lemmas.Nat.{be_bytes_4}
 use Rattle.table_laws.proofs.CompareLemmas.{one_key}
 use Rattle.mv_base.specs.Octets.{IsOctets}
-use Rattle.mv_base.specs.framing.Cut.{Cut, Front, cut, cut_at}
-use Rattle.mv_base.specs.framing.Feed.{Fed, fed, fed_unless, unfed}
+use Rattle.mv_base.specs.framing.Cut.{Front, cut, cut_at}
+use Rattle.mv_base.specs.framing.Feed.{Fed, fed, fed_unless}
 use Rattle.mv_base.proofs.framing.Cuts.{IsOctets-before}
 use Rattle.mv_base.proofs.framing.Feeds.{at_once, fed_is}
 use Rattle.bgp_messages.specs.declared.bgp_attributes.fault.StreamFault.{StreamFault}
-use Rattle.bgp_messages.specs.declared.bgp_attributes.update.Advert.{Advert}
 use Rattle.bgp_messages.specs.declared.bgp_attributes.update.Message.{Message}
 use Rattle.bgp_messages.specs.bgp_update.Reading.{message_front}
 use Rattle.bgp_messages.specs.bgp_update.Spelling.{SpellsMessage}
@@ -75,14 +74,14 @@ module _ (root : Rooted) (n : ℕ) where
     pub known : (peer : Peer) → peers n ≡ Some peer → peer ≡ own octets
     pub unknown : peers n ≡ None → octets ≡ []
 
-  before_is : (peers : Peers) (octets : List ℕ) → IsBehind peers octets → (o : Option Peer) → peers n ≡ o → unwrap_or o fresh ≡ own octets
+  pub before_is : (peers : Peers) (octets : List ℕ) → IsBehind peers octets → (o : Option Peer) → peers n ≡ o → unwrap_or o fresh ≡ own octets
   before_is peers octets is None e = sym (heard_none root.request (to_be_bytes w32 n)) ∙ ap own (sym (is.unknown e))
   before_is peers octets is (Some peer) e = is.known peer e
 
-  address_is : (line : Line) → number_by line ≡ n → IsAddress (peer_of line.said) → peer_of line.said ≡ to_be_bytes w32 n
+  pub address_is : (line : Line) → number_by line ≡ n → IsAddress (peer_of line.said) → peer_of line.said ≡ to_be_bytes w32 n
   address_is line same address = sym (be_bytes_4 (peer_of line.said) n address.0 address.1 (sym same))
 
-  after_is : (peers : Peers) (so : List ℕ) (line : Line) → IsBehind peers so → number_by line ≡ n → IsAddress (peer_of line.said) → IsOctets (so ++ octets_by root line.said)
+  pub after_is : (peers : Peers) (so : List ℕ) (line : Line) → IsBehind peers so → number_by line ≡ n → IsAddress (peer_of line.said) → IsOctets (so ++ octets_by root line.said)
       → after root peers line ≡ own (so ++ octets_by root line.said)
   after_is peers so line is same address fits =
       let old : before peers line ≡ own so = ap (λ (k : ℕ). unwrap_or (peers k) fresh) same ∙ before_is peers so is (peers n) refl in

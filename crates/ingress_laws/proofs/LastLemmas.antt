@@ -1,22 +1,18 @@
--- Where the octets of each peer are its answers, the copies go under the labels of the last ones.
-use Rattle.std.proofs.Common.{◌≡◌, ◌∙◌, ap, sym, subst, refl, ℕ, ◌+◌, ◌<◌, ◌≤◌, Bool, true, false, cond, List, [], ◌∷◌, ◌++◌, length, map, fold, flat_map, filter_map, option_map, Option, None, Some, nat_cmp, append_assoc, length-append, arith}
+-- Octets that are answers of a leaf leave the last one.
+use Rattle.std.proofs.Common.{◌≡◌, ◌∙◌, ap, sym, subst, refl, ℕ, ◌≤◌, Bool, true, false, cond, List, [], ◌∷◌, ◌++◌, length, map, fold, flat_map, option_map, Option, None, Some, nat_cmp, length-append, arith}
 use Rattle.std.specs.Int.{w32, to_be_bytes}
-use Rattle.std.specs.List.{AllByRecursion, cons_option}
-use Rattle.std.specs.List.Sorted.{IsStrictlySortedBy}
-use Rattle.std.specs.Map.{keys_of, lookup}
+use Rattle.std.specs.List.{AllByRecursion}
 use Rattle.std.specs.BTreeMap.{is_at}
-use Rattle.std.specs.Cmp.{tied_itself}
 use Rattle.std.specs.FinMap.{nat_cmp-IsAntisymmetric}
-use Rattle.std.specs.declared.cmp.Ordering.TheVariants.{Less}
-use Rattle.std.proofs.lemmas.Cmp.{nat_cmp_total}
 use Rattle.std.proofs.lemmas.List.{append-nil}
-use Rattle.table_laws.proofs.CompareLemmas.{one_key, own_key}
-use Rattle.mv_base.specs.Octets.{IsOctets}
+use Rattle.std.proofs.lemmas.Grind.{flat_map-append}
+use Rattle.table_laws.proofs.CompareLemmas.{one_key}
 use Rattle.mv_base.specs.declared.addr.Addr.TheVariants.{V4}
 use Rattle.mv_base.specs.framing.Units.{Begins, Spelled, AreUnits}
 use Rattle.mv_base.specs.framing.Units as units
-use Rattle.mv_base.specs.framing.Cut.{Cut, cut, cut_at, with_front}
+use Rattle.mv_base.specs.framing.Cut.{Cut, cut, with_front}
 use Rattle.mv_base.proofs.framing.Cuts.{begun, waits}
+use Rattle.bgp_values.specs.declared.pmsi_attr.pmsi.Pmsi.{Pmsi}
 use Rattle.bgp_values.specs.mvpn_nlri.Spelling.{IsKey}
 use Rattle.bgp_messages.specs.declared.bgp_attributes.fault.StreamFault.{StreamFault}
 use Rattle.bgp_messages.specs.declared.bgp_attributes.update.Advert.{Advert}
@@ -29,19 +25,18 @@ use Rattle.bgp_messages.specs.bgp_update.Written.{update_of, written}
 use Rattle.bgp_messages.proofs.bgp_update.Messages.{messages_framed}
 use Rattle.bgp_messages.proofs.bgp_update.ReadsBack.{written_spells}
 use Rattle.ingress_rep.specs.declared.request.Request.{Request}
-use Rattle.ingress_rep.specs.declared.copying.TakenTable.{TakenTable}
-use Rattle.ingress_rep.specs.declared.copying.LeafCopy.{LeafCopy}
-use Rattle.ingress_rep.specs.Ingress.{answer_key, answer_of, copies_of, copy_of, is_answer, leaf_tunnel, request_of, IsSpelledSelective}
+use Rattle.ingress_rep.specs.Ingress.{answer_of, leaf_tunnel, request_of, IsSpelledSelective}
 use Rattle.ingress_text.specs.Rooted.{Rooted}
 use Rattle.ingress_text.specs.declared.input.Line.{Line}
-use Rattle.ingress_text.specs.declared.peers.Peer.{Peer}
-use Rattle.ingress_text.specs.Telling.{answer_by, answer_octets, nobody, peers_from, rows, table_of, AreThePeers, Peers}
-use Rattle.ingress_laws.specs.Meaning.{Asks}
-use Rattle.ingress_laws.specs.Answered as laws
-use Rattle.ingress_laws.specs.Answered.{last_of, later, octets_of, AreAnswers, AreLastAnswers, IsLabel, IsSaid}
-use Rattle.ingress_laws.proofs.HeardLemmas.{at_end, heard, messages_in, own}
-use Rattle.ingress_laws.proofs.LeafLemmas.{all_found, copies_under, each_found, leaves_of, leaves_rise, IsCopiedUnder}
-use Rattle.ingress_laws.proofs.LawLemmas.{answer_own, asks_from, copy_to}
+use Rattle.ingress_text.specs.declared.input.Said.{Said}
+use Rattle.ingress_text.specs.declared.input.Said.TheVariants.{Leaf, From}
+use Rattle.ingress_text.specs.Drafted.{number_by, peer_of}
+use Rattle.ingress_text.specs.Telling.{answer_by, answer_octets, octets_by}
+use Rattle.ingress_laws.specs.Meaning.{Asks, TellsLabel}
+use Rattle.ingress_laws.specs.Answered.{labels_by, labels_of, last_of, later, leaf_at, octets_of, said_labels, AreAnswers, IsAddress, IsLabel, IsLeaf, IsSaid, LeavesLabel, LetsAnswer}
+use Rattle.ingress_laws.proofs.HeardLemmas.{address_is, heard, messages_in, own}
+use Rattle.ingress_laws.proofs.LawLemmas.{answer_own, asks_from}
+use Rattle.ingress_laws.proofs.RouteLemmas.{route_from, route_to}
 use Rattle.ingress_laws.proofs.SpelledLemmas.{answer_short, answer_writable}
 
 -- ---- answers end to end
@@ -113,26 +108,6 @@ module _ (root : Rooted) (leaf_octets : List ℕ) (is : IsRequest root.request l
       ap (λ (xs : List ℕ). fold (answer_by root.request leaf_octets) None (messages_in xs)) e
       ∙ (ap (fold (answer_by root.request leaf_octets) None) (messages_are labels fit) ∙ last_answer labels None)
 
-  copy_by : (o : Option ℕ) → ((label : ℕ) → o ≡ Some label → 16 ≤ label) → (taken : TakenTable) → taken ≡ record { peer = V4 leaf_octets; table = rows (option_map answer o) }
-      → copy_of root.request taken ≡ option_map (λ label. record { leaf = V4 leaf_octets; label = label }) o
-  unfolding copy_of
-  copy_by None fits taken e = ap (copy_of root.request) e
-  copy_by (Some label) fits taken e =
-      let own_copy : LeafCopy = record { leaf = V4 leaf_octets; label = label } in
-      let own_taken : TakenTable = record { peer = V4 leaf_octets; table = answer label ∷ [] } in
-      ap (copy_of root.request) e ∙ copy_to root.request own_taken own_copy (record {
-        advert = answer label;
-        pmsi = leaf_tunnel (V4 leaf_octets) label;
-        leaf = refl;
-        there = record { before = []; after = []; parts = refl; same = refl; first = tt };
-        next_hop = refl;
-        target = record { before = []; after = []; parts = refl };
-        attribute = refl;
-        tunnel = refl;
-        label = refl;
-        unreserved = fits label refl;
-      })
-
   no_labels : (labels : List ℕ) → flat_map (answer_octets root leaf_octets) labels ≡ [] → last_of labels ≡ None
   unfolding answer_octets
   no_labels [] e = refl
@@ -145,42 +120,85 @@ last_fits : (labels : List ℕ) (o : Option ℕ) → ((label : ℕ) → o ≡ So
 last_fits [] o old fit label e = old label e
 last_fits (first ∷ more) o old fit label e = last_fits more (Some first) (λ n is. subst (λ (m : ℕ). 16 ≤ m) (let same : first ≡ n = cc in same) fit.0.0) fit.1 label e
 
--- ---- the copies
-
-module _ (root : Rooted) (labels : ℕ → List ℕ) (is : (n : ℕ) → IsRequest root.request (to_be_bytes w32 n)) (fit : (n : ℕ) → AllByRecursion IsLabel (labels n)) where
-  abbrev last_at : ℕ → Option ℕ
-  last_at n = last_of (labels n)
-
-  copied_under : (n : ℕ) (peer : Peer) → peer.answer ≡ option_map (λ label. answer_of root.request (V4 (to_be_bytes w32 n)) label) (last_at n) → IsCopiedUnder root.request last_at n peer
-  copied_under n peer has =
-      copy_by root (to_be_bytes w32 n) (is n) (last_at n) (last_fits (labels n) None (λ label e. absurd cc) (fit n)) (table_of (n, peer))
-      (ap (λ (o : Option Advert). record { peer = V4 (to_be_bytes w32 n); table = rows o }) has)
-
 request_is : (root : Rooted) → request_of root.advert ≡ Some root.request → IsSpelledSelective root.advert.key → (n : ℕ) → IsRequest root.request (to_be_bytes w32 n)
 request_is root asks spelled n =
     let a : Asks root.advert root.request = asks_from root.advert root.request asks in
     let route = subst IsSpelledSelective a.key spelled in
     record { root = route.1.1.1; four = omega arith; key = subst (IsKey root.request.afi) (sym a.asked) route }
 
-pub last_answers : (root : Rooted) (lines : List Line) (labels : ℕ → List ℕ) → IsSaid root lines → AreAnswers root lines labels → (peers : List (ℕ × Peer)) → AreThePeers (peers_from root nobody lines) peers
-    → AreLastAnswers labels (copies_of (request_of root.advert) (map table_of peers))
-unfolding copies_of
-last_answers root lines labels said answers peers are =
-    let is : (n : ℕ) → IsRequest root.request (to_be_bytes w32 n) = request_is root said.asks said.spelled in
-    let label_at : ℕ → Option ℕ = λ n. last_of (labels n) in
-    let under : (n : ℕ) (peer : Peer) → lookup (is_at (nat_cmp n)) peers ≡ Some peer → IsCopiedUnder root.request label_at n peer = λ n peer there.
-    copied_under root labels is answers.fit n peer (
-    ap (λ (p : Peer). p.answer) ((at_end root n lines said.addresses (said.octets n)).known peer (sym (are.each n) ∙ there))
-    ∙ answer_heard root (to_be_bytes w32 n) (is n) (labels n) (answers.fit n) (octets_of root n lines) (answers.answers n)
-    ) in
-    let none : (n : ℕ) → lookup (is_at (nat_cmp n)) peers ≡ None → label_at n ≡ None = λ n gone.
-    no_labels root (to_be_bytes w32 n) (is n) (labels n)
-    (sym (answers.answers n) ∙ (at_end root n lines said.addresses (said.octets n)).unknown (sym (are.each n) ∙ gone)) in
-    record {
-      leaves = leaves_of label_at peers;
-      rising = leaves_rise label_at peers are.rising;
-      each = λ n. each_found label_at n peers (none n);
-      are =
-          ap (λ (o : Option Request). copies_of o (map table_of peers)) said.asks
-          ∙ copies_under root.request label_at peers (all_found (IsCopiedUnder root.request label_at) peers are.rising under);
-    }
+module _ (root : Rooted) (lines : List Line) (said : IsSaid root lines) (n : ℕ) (labels : List ℕ) (are : AreAnswers root n (octets_of root n lines) labels) where
+  abbrev octets : List ℕ
+  octets = octets_of root n lines
+
+  is : IsRequest root.request (to_be_bytes w32 n)
+  is = request_is root said.asks said.spelled n
+
+  abbrev last_advert : ℕ → Advert
+  last_advert label = answer_of root.request (leaf_at n) label
+
+  kept : (own root n octets).answer ≡ option_map last_advert (last_of labels)
+  kept = answer_heard root (to_be_bytes w32 n) is labels are.fit octets are.answers
+
+  own_label : (label other : ℕ) → TellsLabel root.request (leaf_at n) (last_advert label) other → label ≡ other
+  own_label label other tells =
+      let tunnel : Some (leaf_tunnel (leaf_at n) label) ≡ Some tells.pmsi = tells.attribute in
+      let same : leaf_tunnel (leaf_at n) label ≡ tells.pmsi = cc in
+      let both : Some label ≡ Some other = ap (λ (p : Pmsi). p.label) same ∙ tells.has in
+      cc
+
+  last_is : (o : Option ℕ) (advert : Advert) (label : ℕ) → option_map last_advert o ≡ Some advert → TellsLabel root.request (leaf_at n) advert label → o ≡ Some label
+  last_is None advert label e tells = absurd cc
+  last_is (Some own_one) advert label e tells =
+      let same : last_advert own_one ≡ advert = cc in
+      let t : TellsLabel root.request (leaf_at n) (last_advert own_one) label = subst (λ (a : Advert). TellsLabel root.request (leaf_at n) a label) (sym same) tells in
+      ap (λ (l : ℕ). Some l) (own_label own_one label t)
+
+  pub last_from : (label : ℕ) → LeavesLabel root lines n label → last_of labels ≡ Some label
+  last_from label leaves =
+      last_is (last_of labels) leaves.advert label (sym kept ∙ route_to root.request (to_be_bytes w32 n) octets (said.octets n) leaves.advert leaves.route) leaves.tells
+
+  pub last_to : (label : ℕ) → last_of labels ≡ Some label → LeavesLabel root lines n label
+  last_to label e = record {
+    advert = last_advert label;
+    route = route_from root.request (to_be_bytes w32 n) octets (said.octets n) (last_advert label) (kept ∙ ap (option_map last_advert) e);
+    tells = record {
+      pmsi = leaf_tunnel (leaf_at n) label;
+      next_hop = refl;
+      target = record { before = []; after = []; parts = refl };
+      attribute = refl;
+      tunnel = refl;
+      has = refl;
+      unreserved = last_fits labels None (λ l none. absurd cc) are.fit label e;
+    };
+  }
+
+-- ---- lines of leaves
+
+all_fit : (labels more : List ℕ) → AllByRecursion IsLabel labels → AllByRecursion IsLabel more → AllByRecursion IsLabel (labels ++ more)
+all_fit [] more fit rest = rest
+all_fit (label ∷ labels) more fit rest = (fit.0, all_fit labels more fit.1 rest)
+
+module _ (root : Rooted) (n : ℕ) where
+  abbrev answers_by : List ℕ → List ℕ
+  answers_by labels = flat_map (answer_octets root (to_be_bytes w32 n)) labels
+
+  said_by : (said : Said) → LetsAnswer said → peer_of said ≡ to_be_bytes w32 n → (octets_by root said ≡ answers_by (said_labels said)) × AllByRecursion IsLabel (said_labels said)
+  said_by (Leaf leaf label) fits same = (ap (λ (xs : List ℕ). answer_octets root xs label) same ∙ sym (append-nil (answer_octets root (to_be_bytes w32 n) label)), (fits, tt))
+  said_by (From peer piece) fits same = absurd fits
+
+  line_by : (line : Line) → IsAddress (peer_of line.said) → (number_by line ≡ n → LetsAnswer line.said) → (b : Bool) → is_at (nat_cmp (number_by line)) n ≡ b
+      → (cond b (octets_by root line.said) [] ≡ answers_by (cond b (said_labels line.said) [])) × AllByRecursion IsLabel (cond b (said_labels line.said) [])
+  line_by line address lets false e = (refl, tt)
+  line_by line address lets true e =
+      let same : number_by line ≡ n = one_key nat_cmp-IsAntisymmetric (number_by line) n e in
+      said_by line.said (lets same) (address_is root n line same address)
+
+  pub lines_by : (lines : List Line) → AllByRecursion (λ (line : Line). IsAddress (peer_of line.said)) lines → IsLeaf n lines
+      → (octets_of root n lines ≡ answers_by (labels_of n lines)) × AllByRecursion IsLabel (labels_of n lines)
+  lines_by [] addresses lets = (refl, tt)
+  lines_by (line ∷ more) addresses lets =
+      let one = line_by line addresses.0 lets.0 (is_at (nat_cmp (number_by line)) n) refl in
+      let rest = lines_by more addresses.1 lets.1 in (
+        (λ i. one.0 i ++ rest.0 i) ∙ sym (flat_map-append (answer_octets root (to_be_bytes w32 n)) (labels_by n line) (labels_of n more)),
+        all_fit (labels_by n line) (labels_of n more) one.1 rest.1,
+      )

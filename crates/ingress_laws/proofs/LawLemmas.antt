@@ -1,5 +1,5 @@
 -- What the definitions of ingress replication mean.
-use Rattle.std.proofs.Common.{◌≡◌, ◌≢◌, ℕ, ◌≤◌, Bool, true, false, ◌&&◌, ◌==◌, List, [], ◌∷◌, ◌++◌, Option, Some, None, refl, sym, ap, subst, ◌∙◌, cond, ◌||◌, nat_eq, nat_le, find, rules, filter_map, option_map}
+use Rattle.std.proofs.Common.{◌≡◌, ◌≢◌, ℕ, Bool, true, false, ◌&&◌, ◌==◌, List, [], ◌∷◌, ◌++◌, Option, Some, None, refl, sym, ap, subst, ◌∙◌, cond, ◌||◌, nat_eq, nat_le, find, rules, filter_map, option_map}
 use Rattle.std.specs.List.{AllByRecursion, cons_option, list_any}
 use Rattle.std.specs.Cmp.Lexicographic.{pointwise, same_text, nat_list_eq_equiv}
 use Rattle.std.proofs.lemmas.Bool.{and_parts, and_from}
@@ -27,7 +27,7 @@ use Rattle.ingress_rep.specs.declared.copying.TakenTable.{TakenTable}
 use Rattle.ingress_rep.specs.declared.copying.LeafCopy.{LeafCopy}
 use Rattle.ingress_rep.specs.Answers.{answer_to}
 use Rattle.ingress_rep.specs.Ingress.{answer_in, answer_key, answer_of, copies_of, asks_leaves, copy_of, is_answer, is_ingress, label_to, label_told, request_of, root_target, same_afi, same_any, same_comm, same_leaf_key, selective_of, tunnel_label}
-use Rattle.ingress_laws.specs.Meaning.{Adds, Asks, AreCopies, IsAmong, IsAnswer, IsCopy, IsFirst}
+use Rattle.ingress_laws.specs.Meaning.{Adds, Asks, AreCopies, IsAmong, IsAnswer, IsCopy, IsFirst, TellsLabel}
 use Rattle.ingress_laws.specs.Meaning.Adds.{sent, passed}
 
 -- ---- options
@@ -325,13 +325,7 @@ module _ (request : Request) (leaf : Addr) (advert : Advert) where
   abbrev passes : ℕ → Bool
   passes label = same_addr advert.next_hop leaf && (list_any (same_comm (root_target request)) advert.comms && nat_le 16 label)
 
-  record IsTold (label : ℕ) : Type 0 where
-    to : IsLabelTo leaf advert.pmsi label
-    next_hop : advert.next_hop ≡ leaf
-    target : IsAmong advert.comms (root_target request)
-    unreserved : 16 ≤ label
-
-  told_from : (label : ℕ) → label_told request leaf advert ≡ Some label → IsTold label
+  told_from : (label : ℕ) → label_told request leaf advert ≡ Some label → TellsLabel request leaf advert label
   unfolding label_told
   told_from label e =
       let b = bind_some (label_to leaf advert.pmsi) (λ (l : ℕ). only_if (passes l) l) label e in
@@ -339,17 +333,21 @@ module _ (request : Request) (leaf : Addr) (advert : Advert) where
       let p : passes label ≡ true = ap passes (sym o.1) ∙ o.0 in
       let front = and_parts (same_addr advert.next_hop leaf) (list_any (same_comm (root_target request)) advert.comms && nat_le 16 label) p in
       let both = and_parts (list_any (same_comm (root_target request)) advert.comms) (nat_le 16 label) front.1 in
+      let to = label_to_is leaf advert.pmsi label (b.1 ∙ ap (λ (l : ℕ). Some l) o.1) in
       record {
-        to = label_to_is leaf advert.pmsi label (b.1 ∙ ap (λ (l : ℕ). Some l) o.1);
+        pmsi = to.pmsi;
+        attribute = to.attribute;
+        tunnel = to.tunnel;
+        has = to.has;
         next_hop = same_addr_equal advert.next_hop leaf front.0;
         target = among_from (root_target request) advert.comms both.0;
         unreserved = search (rules, both.1);
       }
 
-  told_to : (label : ℕ) → IsTold label → label_told request leaf advert ≡ Some label
+  told_to : (label : ℕ) → TellsLabel request leaf advert label → label_told request leaf advert ≡ Some label
   unfolding label_told
   told_to label t =
-      let to : label_to leaf advert.pmsi ≡ Some label = ap (label_to leaf) t.to.attribute ∙ label_to_own leaf t.to.pmsi label t.to.tunnel t.to.has in
+      let to : label_to leaf advert.pmsi ≡ Some label = ap (label_to leaf) t.attribute ∙ label_to_own leaf t.pmsi label t.tunnel t.has in
       let near : same_addr advert.next_hop leaf ≡ true = ap (λ (addr : Addr). same_addr addr leaf) t.next_hop ∙ same_addr_equiv.refl leaf in
       let high : nat_le 16 label ≡ true = search (rules, t.unreserved) in
       let p : passes label ≡ true =
@@ -366,18 +364,11 @@ copy_from request taken copy e =
     let a = bind_some (answer_in request taken.peer taken.table) (λ (advert : Advert). label_told request taken.peer advert >>? λ (label : ℕ). Some (own label)) copy e in
     let b = bind_some (label_told request taken.peer a.0) (λ (label : ℕ). Some (own label)) copy a.2 in
     let is : own b.0 ≡ copy = (let h = b.2 in cc) in
-    let t = told_from request taken.peer a.0 copy.label (b.1 ∙ ap (λ (c : LeafCopy). Some c.label) is) in
     record {
       advert = a.0;
-      pmsi = t.to.pmsi;
       leaf = sym (ap (λ (c : LeafCopy). c.leaf) is);
       there = first_from request taken.peer taken.table a.0 a.1;
-      next_hop = t.next_hop;
-      target = t.target;
-      attribute = t.to.attribute;
-      tunnel = t.to.tunnel;
-      label = t.to.has;
-      unreserved = t.unreserved;
+      tells = told_from request taken.peer a.0 copy.label (b.1 ∙ ap (λ (c : LeafCopy). Some c.label) is);
     }
 
 pub copy_to : (request : Request) (taken : TakenTable) (copy : LeafCopy) → IsCopy request taken copy → copy_of request taken ≡ Some copy
@@ -385,9 +376,7 @@ unfolding copy_of
 copy_to request taken copy c =
     let own : ℕ → LeafCopy = λ label. record { leaf = taken.peer; label = label } in
     let found : answer_in request taken.peer taken.table ≡ Some c.advert = first_to request taken.peer taken.table c.advert c.there in
-    let told : label_told request taken.peer c.advert ≡ Some copy.label =
-    told_to request taken.peer c.advert copy.label
-    (record { to = record { pmsi = c.pmsi; attribute = c.attribute; tunnel = c.tunnel; has = c.label }; next_hop = c.next_hop; target = c.target; unreserved = c.unreserved }) in
+    let told : label_told request taken.peer c.advert ≡ Some copy.label = told_to request taken.peer c.advert copy.label c.tells in
     ap (λ (o : Option Advert). o >>? λ (advert : Advert). label_told request taken.peer advert >>? λ (label : ℕ). Some (own label)) found
     ∙ (ap (λ (o : Option ℕ). o >>? λ (label : ℕ). Some (own label)) told ∙ ap (λ (leaf : Addr). Some (record { leaf = leaf; label = copy.label })) (sym c.leaf))
 

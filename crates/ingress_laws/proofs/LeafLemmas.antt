@@ -10,7 +10,6 @@ use Rattle.std.specs.declared.cmp.Ordering.TheVariants.{Less}
 use Rattle.std.proofs.lemmas.Cmp.{nat_cmp_total}
 use Rattle.table_laws.proofs.CompareLemmas.{one_key, own_key}
 use Rattle.ingress_rep.specs.declared.request.Request.{Request}
-use Rattle.ingress_rep.specs.declared.copying.LeafCopy.{LeafCopy}
 use Rattle.ingress_rep.specs.Ingress.{copy_of}
 use Rattle.ingress_text.specs.declared.peers.Peer.{Peer}
 use Rattle.ingress_text.specs.Telling.{table_of}

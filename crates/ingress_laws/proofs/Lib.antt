@@ -4,3 +4,5 @@ mod RouteLemmas
 mod SpelledLemmas
 mod LeafLemmas
 mod LastLemmas
+mod CopyLemmas
+mod RefusedLemmas

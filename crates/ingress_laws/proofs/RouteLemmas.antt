@@ -1,5 +1,5 @@
 -- The answer that is kept of a peer is the route that its octets leave under the key of the answer.
-use Rattle.std.proofs.Common.{◌≡◌, ◌≢◌, ◌⊎◌, inl, inr, ◌∙◌, ap, sym, subst, refl, ℕ, Bool, true, false, cond, List, [], ◌∷◌, ◌++◌, fold, flat_map, Option, None, Some}
+use Rattle.std.proofs.Common.{◌≡◌, ◌≢◌, ◌⊎◌, inl, inr, ◌∙◌, ap, sym, subst, refl, ℕ, Bool, true, false, cond, List, [], ◌∷◌, fold, flat_map, Option, None, Some}
 use Rattle.std.specs.List.{AllByRecursion}
 use Rattle.std.proofs.lemmas.List.Sums.{fold-append}
 use Rattle.mv_base.specs.Octets.{IsOctets}
@@ -36,15 +36,11 @@ module _ (octets : List ℕ) (fits : IsOctets octets) where
   behind_units : (ms : List Message) (left : List ℕ) → units.Begins SpellsMessage octets ms left → IsOctets left
   behind_units ms left begins = IsOctets-behind (units.octets_of begins.units) left (subst IsOctets begins.parts fits)
 
-  yield_by : (o : Option (ℕ × StreamFault)) → (cut message_front octets).fault ≡ o → Yields SpellsMessage UnitFault octets (messages_in octets)
-  yield_by None e =
-      let splits = cut_splits message_front SpellsMessage message_format.stream.framing octets fits e in
-      let left : IsOctets rest = behind_units (messages_in octets) rest splits.0.begins in
-      sound rest splits.0 (λ last offset fault is. let bad_is = message_format.faulty rest last offset fault left is in let more_is = splits.1 in absurd cc)
-  yield_by (Some f) e =
+  pub fails_in : (f : ℕ × StreamFault) → (cut message_front octets).fault ≡ Some f → Fails SpellsMessage UnitFault octets (messages_in octets) f.0 f.1
+  fails_in f e =
       let h = cut_fails message_front SpellsMessage message_format.stream.framing octets f fits e in
       let left : IsOctets h.rest = behind_units h.first h.rest h.begins in
-      faulty f.0 f.1 (record {
+      record {
         first = h.first;
         last = h.last;
         rest = h.rest;
@@ -53,7 +49,14 @@ module _ (octets : List ℕ) (fits : IsOctets octets) where
         faulty = message_format.fails h.rest h.last h.offset f.1 left h.faulty;
         messages = h.messages;
         at = h.at;
-      })
+      }
+
+  yield_by : (o : Option (ℕ × StreamFault)) → (cut message_front octets).fault ≡ o → Yields SpellsMessage UnitFault octets (messages_in octets)
+  yield_by None e =
+      let splits = cut_splits message_front SpellsMessage message_format.stream.framing octets fits e in
+      let left : IsOctets rest = behind_units (messages_in octets) rest splits.0.begins in
+      sound rest splits.0 (λ last offset fault is. let bad_is = message_format.faulty rest last offset fault left is in let more_is = splits.1 in absurd cc)
+  yield_by (Some f) e = faulty f.0 f.1 (fails_in f e)
 
   yielded : Yields SpellsMessage UnitFault octets (messages_in octets)
   yielded = yield_by (cut message_front octets).fault refl

@@ -1,5 +1,5 @@
 -- An answer has a spelling, within the octets of a message, and so it is a message of its own.
-use Rattle.std.proofs.Common.{◌≡◌, ℕ, ◌+◌, ◌<◌, ◌≤◌, ◌^◌, Bool, true, false, List, [], ◌∷◌, ◌++◌, length, nat_lt, bit_or, if◌then◌else◌, refl, arith, length-append}
+use Rattle.std.proofs.Common.{◌≡◌, ℕ, ◌+◌, ◌≤◌, Bool, true, false, List, [], ◌∷◌, ◌++◌, length, nat_lt, bit_or, if◌then◌else◌, refl, arith, length-append}
 use Rattle.std.specs.Int.{w16, to_be_bytes}
 use Rattle.mv_base.specs.declared.addr.Addr.TheVariants.{V4}
 use Rattle.bgp_values.specs.mvpn_nlri.Spelling.{IsKey, written as route_text}

@@ -1,2 +1,3 @@
 pub mod Meaning
 pub mod Answered
+pub mod Refused

@@ -53,18 +53,23 @@ pub record IsAmong (comms : List ExtComm) (comm : ExtComm) : Type 0 where
   pub after : List ExtComm
   pub parts : comms ≡ before ++ (comm ∷ after)
 
--- The peer's table has its answer to the request, with the label of the copy.
-pub record IsCopy (request : Request) (taken : TakenTable) (copy : LeafCopy) : Type 0 where
-  pub advert : Advert
+-- A route tells this label of the leaf: the leaf is its next hop, it has the root's target, and its tunnel is ingress replication that
+-- ends at the leaf, under that label, which is not reserved (RFC 3032 section 2.1).
+pub record TellsLabel (request : Request) (leaf : Addr) (advert : Advert) (label : ℕ) : Type 0 where
   pub pmsi : Pmsi
-  pub leaf : copy.leaf ≡ taken.peer
-  pub there : IsFirst taken.table (answer_key request taken.peer) advert
-  pub next_hop : advert.next_hop ≡ taken.peer
+  pub next_hop : advert.next_hop ≡ leaf
   pub target : IsAmong advert.comms (root_target request)
   pub attribute : advert.pmsi ≡ Some pmsi
-  pub tunnel : pmsi.tunnel ≡ Ingress taken.peer
-  pub label : pmsi.label ≡ Some copy.label
-  pub unreserved : 16 ≤ copy.label
+  pub tunnel : pmsi.tunnel ≡ Ingress leaf
+  pub has : pmsi.label ≡ Some label
+  pub unreserved : 16 ≤ label
+
+-- The peer's table has its answer to the request, which tells the label of the copy.
+pub record IsCopy (request : Request) (taken : TakenTable) (copy : LeafCopy) : Type 0 where
+  pub advert : Advert
+  pub leaf : copy.leaf ≡ taken.peer
+  pub there : IsFirst taken.table (answer_key request taken.peer) advert
+  pub tells : TellsLabel request taken.peer advert copy.label
 
 -- What a peer adds in front of the copies to the peers behind it: its copy, or nothing where there is none.
 pub data Adds (request : Request) (taken : TakenTable) (rest copies : List LeafCopy) : Type 0 where

@@ -1,27 +1,53 @@
 //! What a whole text of peers comes to.
-ghost use Rattle.std.specs.Prelude.{◌≡◌, ◌↔◌, ℕ, List, map, Some};
-ghost use Rattle.std.specs.Int.{w32, to_be_bytes};
-ghost use Rattle.mv_base.specs.declared.addr.Addr.TheVariants.{V4};
+ghost use Rattle.std.specs.Prelude.{◌≡◌, ◌↔◌, ℕ, List, ◌∷◌, ◌++◌, map, Some};
+ghost use Rattle.bgp_messages.specs.declared.bgp_attributes.fault.StreamFault.{StreamFault};
 ghost use Rattle.bgp_messages.specs.declared.bgp_attributes.update.Advert.{Advert};
 ghost use Rattle.ingress_rep.specs.Ingress.{answer_key, copies_of, request_of};
 ghost use Rattle.ingress_text.specs.Rooted.{Rooted};
 ghost use Rattle.ingress_text.specs.declared.input.Line.{Line};
+ghost use Rattle.ingress_text.specs.declared.input.Said.TheVariants as said;
 ghost use Rattle.ingress_text.specs.declared.peers.Peer.{Peer};
-ghost use Rattle.ingress_text.specs.Telling.{nobody, peers_from, table_of, AreThePeers};
-ghost use Rattle.ingress_laws.specs.Answered.{octets_of, AreAnswers, AreLastAnswers, IsSaid, LeavesRoute};
+ghost use Rattle.ingress_text.specs.Telling.{nobody, peers_from, shown, table_of, AreThePeers};
+ghost use Rattle.ingress_laws.specs.Refused.{BringsFault};
+ghost use Rattle.ingress_laws.specs.Answered.{labels_of, last_of, leaf_at, octets_of, AreAnswers, AreUnder, HasLast, IsLeaf, IsSaid, LeavesLabel, LeavesRoute};
 
 /// What is kept of a peer behind all lines is the route that its octets leave under the key of its answer, however its
 /// lines cut them into pieces.
 pub fn answers_are_routes()
     ensures { (root : Rooted) (lines : List Line) → IsSaid root lines →
         (n : ℕ) (peer : Peer) → peers_from root nobody lines n ≡ Some peer → (advert : Advert) →
-        (peer.answer ≡ Some advert) ↔ LeavesRoute (octets_of root n lines) (answer_key root.request (V4 (to_be_bytes w32 n))) advert }
+        (peer.answer ≡ Some advert) ↔ LeavesRoute (octets_of root n lines) (answer_key root.request (leaf_at n)) advert }
 {}
 
-/// Where the octets of each peer are its answers to the root, the copies go to exactly these leaves, each once, under the
-/// label of its last answer.
-pub fn last_answers_are_copied()
-    ensures { (root : Rooted) (lines : List Line) (labels : ℕ → List ℕ) → IsSaid root lines → AreAnswers root lines labels →
+/// The copies go to exactly those peers whose octets leave their answer to the root, each once, by rising addresses, under
+/// the label of this answer.
+pub fn copies_are_of_routes()
+    ensures { (root : Rooted) (lines : List Line) → IsSaid root lines →
         (peers : List (ℕ × Peer)) → AreThePeers (peers_from root nobody lines) peers →
-        AreLastAnswers labels (copies_of (request_of root.advert) (map table_of peers)) }
+        AreUnder (LeavesLabel root lines) (copies_of (request_of root.advert) (map table_of peers)) }
+{}
+
+/// Octets that are answers of a leaf leave the last one. So where the octets of each peer are its answers to the root, the
+/// copies go to exactly these leaves, each once, under the label of its last answer.
+pub fn last_answers_are_copied()
+    ensures one { (root : Rooted) (lines : List Line) → IsSaid root lines → (n : ℕ) (labels : List ℕ) →
+        AreAnswers root n (octets_of root n lines) labels → (label : ℕ) →
+        LeavesLabel root lines n label ↔ (last_of labels ≡ Some label) }
+    ensures all { (root : Rooted) (lines : List Line) (labels : ℕ → List ℕ) → IsSaid root lines →
+        ((n : ℕ) → AreAnswers root n (octets_of root n lines) (labels n)) →
+        (peers : List (ℕ × Peer)) → AreThePeers (peers_from root nobody lines) peers →
+        AreUnder (HasLast labels) (copies_of (request_of root.advert) (map table_of peers)) }
+{}
+
+/// What comes of a leaf that lines let answer are its answers, under the labels of these lines.
+pub fn leaf_lines_are_answers()
+    ensures { (root : Rooted) (lines : List Line) → IsSaid root lines → (n : ℕ) → IsLeaf n lines →
+        AreAnswers root n (octets_of root n lines) (labels_of n lines) }
+{}
+
+/// A line that brings octets of a peer is told with a fault exactly where it brings the first one of the peer's octets.
+pub fn refused_lines_bring_faults()
+    ensures { (root : Rooted) (lines before more : List Line) (line : Line) → IsSaid root lines → lines ≡ before ++ (line ∷ more) →
+        (peer octets : List ℕ) → line.said ≡ said.From peer octets → (place : ℕ) (fault : StreamFault) →
+        (shown root (peers_from root nobody before) line line.said ≡ Some (place, fault)) ↔ BringsFault root before line place fault }
 {}

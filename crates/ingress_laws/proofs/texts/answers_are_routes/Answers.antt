@@ -1,4 +1,4 @@
-use Rattle.std.proofs.Common.{ap, sym, subst, ◌∙◌}
+use Rattle.std.proofs.Common.{ap, sym, ◌∙◌}
 use Rattle.std.specs.Int.{w32, to_be_bytes}
 use Rattle.ingress_text.specs.declared.peers.Peer.{Peer}
 use Rattle.ingress_laws.specs.Answered.{octets_of}

@@ -5,8 +5,8 @@
 The networks and their scripts are those of `networks.py` with these numbers, and the reports those of the reference program, every
 other one with the lines of the wire. Behind its script and the line `report` each report that does not end with a halt is to be
 answered `yes`. Then, as often as `--changes` says, one line of it is dropped, doubled, moved or changed, and the program has to
-answer what the reference program does. The reports of the examples, and that of the made network 7, which the program itself makes
-and replays, are to be answered `yes`, too. The command is `./mvpn` of this repository, unless another one is named. Prints what
+answer what the reference program does. The reports of the examples, and those that the program itself makes of the rows of `replay`
+and of the made network 7, are to be answered `yes`, too. The command is `./mvpn` of this repository, unless another one is named. Prints what
 differs, then how often each answer came for random networks, and last 'N passed, M failed'.
 """
 
@@ -22,6 +22,7 @@ from concurrent.futures import ProcessPoolExecutor
 from networks import make_text
 from reference.audit import audit
 from reference.replaying import replay
+from rows import Book, ROWS
 
 TOP = pathlib.Path(__file__).resolve().parent.parent
 # seconds that a run may take
@@ -122,6 +123,16 @@ def own_report(command, name, script, told):
     return None if (answer, status) == ('yes\n', 0) else f'{name}: {answer.strip()!r}, status {status}, and not yes'
 
 
+def row_reports(command):
+    """The same of each row of `replay` that comes to its end, by what the program writes."""
+    for row in Book(sorted(ROWS.glob('*.txt'))).rows:
+        if row.words[:1] == ['replay'] and row.status == 0:
+            text = row.input.decode('latin-1').replace('\r\n', '\n')
+            if text.isascii():
+                script = text if text.endswith('\n') else text + '\n'
+                yield own_report(command, row.place, script, ran(command, row.words, script)[0])
+
+
 def own_reports(command):
     """The same of each example that does not end with a halt, and of a made network, plain and whole."""
     for path in sorted((TOP / 'examples').glob('*.txt')):
@@ -146,7 +157,7 @@ def main():
     command = shlex.split(given.command)
     tasks = [(command, seed, given.events, given.changes) for seed in range(given.seed, given.seed + given.count)]
     passed, failed, answers = 0, 0, Counter()
-    for fault in own_reports(command):
+    for fault in [*own_reports(command), *row_reports(command)]:
         passed, failed = passed + (not fault), failed + bool(fault)
         if fault:
             print(fault)

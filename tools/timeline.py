@@ -5,11 +5,12 @@ lines name their datagram, and a `land` line is of the next `hop` or `drain`. A 
 on while octets are in transit. A `put` line is of an event at the node that puts:
 
 - of a `raise` or a `heal`, where its UPDATEs are the table of an edge towards a peer whose session comes up then;
-- of a customer's event or a selection, where one of its UPDATEs names the flow or the pattern of that event (RFC 6514 section 4);
+- of a customer's event or a selection, where one of its UPDATEs names the flow or the pattern of that event in its VPN (RFC 6514
+  section 4);
 - of a label session only behind the hold of its end, and of the node's timers only where one of them may be due.
 
-Where this leaves several events, as several joins of one flow at one edge, the line counts for the first of them. A script with a
-`state` behind each event leaves none open.
+Where this leaves several events, as several joins of one flow at one edge, the line counts for the first of them, and one that
+withdraws routes for the last, as behind the prune of the last receiver. A script with a `state` behind each event leaves none open.
 """
 
 import functools
@@ -72,10 +73,11 @@ class Told:
 
 @dataclass(frozen=True)
 class Route:
-    """A route that an UPDATE announces or withdraws: its type, 0 for a unicast route, and its source and group in octets."""
+    """A route that an UPDATE announces or withdraws: its type, 0 for a unicast route, and its RD, source and group in octets."""
 
     is_announced: bool
     kind: int
+    rd: bytes = b''
     source: bytes = b''
     group: bytes = b''
 
@@ -97,7 +99,7 @@ def mcast_routes(octets, is_announced):
         kind, end = octets[at], at + 2 + octets[at + 1]
         if kind in (3, 5, 7):
             source, behind = sized(octets, at + (14 if kind == 7 else 10))
-            yield Route(is_announced, kind, source, sized(octets, behind)[0])
+            yield Route(is_announced, kind, octets[at + 2:at + 10], source, sized(octets, behind)[0])
         else:
             yield Route(is_announced, kind)
         at = end
@@ -147,8 +149,16 @@ def is_in_message(message, route):
     return False
 
 
+def is_of_vpn(scenario, event, route):
+    """Whether the route's RD is one of the VPN of the event: its own VRF's, or another one's with a Route Target of that."""
+    own = scenario.vrfs[event.vrf if event.word in SELECTIONS else scenario.ifaces[event.iface].vrf]
+    return any(bytes(vrf.rd) == route.rd and set(vrf.targets) & set(own.targets) for vrf in scenario.vrfs)
+
+
 def names(scenario, event, route):
     """Whether a route of the event's kind is the one for which it asks."""
+    if not is_of_vpn(scenario, event, route):
+        return False
     if event.word in JOINS:
         return is_in_message(message_of(scenario, event).message, route)
     asked = event.entry if event.word in SELECTIONS else event
@@ -227,6 +237,10 @@ class Walk:
         routes = routes_of(words[4])
         is_of_kind = all(route.kind in ASKING[event.word] for route in routes)
         return is_of_kind and any(names(self.scenario, event, route) for route in routes)
+
+    def is_withdrawal(self):
+        """Whether the next line withdraws routes and announces none."""
+        return not any(route.is_announced for route in routes_of(self.next()[4]))
 
     def is_asked_later(self):
         """Whether it is of one of the events that come next."""
@@ -362,7 +376,7 @@ class Walk:
         edge = self.edge(event)
         if event.word in JOINS:
             self.due[edge].append((self.clock + message_of(self.scenario, event).message.holdtime, None))
-        if self.is_asked(event):
+        if self.is_asked(event) and not (self.is_withdrawal() and self.is_asked_later()):
             self.puts(edge, lambda words: words[1] == 'ldp' or self.is_asked(event))
 
     def happen(self, event):

@@ -1,5 +1,6 @@
 -- Which line of a peer shows the first fault of its octets.
-use Rattle.std.specs.Prelude.{◌≡◌, ℕ, List, ◌++◌}
+use Rattle.std.specs.Prelude.{◌≡◌, ℕ, List, ◌∷◌, ◌++◌, Some, ⊤}
+use Rattle.std.specs.List.{AllByRecursion}
 use Rattle.mv_base.specs.framing.Cut.{Fails}
 use Rattle.mv_base.specs.framing.Feed.{further}
 use Rattle.bgp_messages.specs.declared.bgp_attributes.fault.StreamFault.{StreamFault}
@@ -8,8 +9,10 @@ use Rattle.bgp_messages.specs.bgp_update.FirstFault.{UnitFault}
 use Rattle.bgp_messages.specs.bgp_update.Spelling.{SpellsMessage}
 use Rattle.ingress_text.specs.Rooted.{Rooted}
 use Rattle.ingress_text.specs.declared.input.Line.{Line}
+use Rattle.ingress_text.specs.declared.input.Said.{Said}
+use Rattle.ingress_text.specs.declared.input.Said.TheVariants.{Leaf, From}
 use Rattle.ingress_text.specs.Drafted.{number_by}
-use Rattle.ingress_text.specs.Telling.{octets_by}
+use Rattle.ingress_text.specs.Telling.{nobody, octets_by, peers_from, shown}
 use Rattle.ingress_laws.specs.Answered.{octets_of}
 
 -- the first fault of octets stands at the place
@@ -24,3 +27,20 @@ pub record BringsFault (root : Rooted) (before : List Line) (line : Line) (place
   pub there : ℕ
   pub now : HasFault (octets_of root (number_by line) before ++ octets_by root line.said) there fault
   pub at : place ≡ further 0 there
+
+-- A line of the peer of that number is told with the fault.
+pub record IsRefused (root : Rooted) (lines : List Line) (n place : ℕ) (fault : StreamFault) : Type 0 where
+  pub before : List Line
+  pub line : Line
+  pub more : List Line
+  pub parts : lines ≡ before ++ (line ∷ more)
+  pub number : number_by line ≡ n
+  pub told : shown root (peers_from root nobody before) line line.said ≡ Some (place, fault)
+
+abbrev pub BringsOctets : Said → Type 0
+BringsOctets (From peer octets) = ⊤
+BringsOctets (Leaf leaf label) = ⊥
+
+-- whichever line names the peer of that number brings octets of it
+abbrev pub IsHeard : ℕ → List Line → Type 0
+IsHeard n lines = AllByRecursion (λ (line : Line). number_by line ≡ n → BringsOctets line.said) lines

@@ -1,5 +1,6 @@
 //! What a whole text of peers comes to.
 ghost use Rattle.std.specs.Prelude.{◌≡◌, ◌↔◌, ℕ, List, ◌∷◌, ◌++◌, map, Some};
+ghost use Rattle.mv_base.specs.framing.Feed.{further};
 ghost use Rattle.bgp_messages.specs.declared.bgp_attributes.fault.StreamFault.{StreamFault};
 ghost use Rattle.bgp_messages.specs.declared.bgp_attributes.update.Advert.{Advert};
 ghost use Rattle.ingress_rep.specs.Ingress.{answer_key, copies_of, request_of};
@@ -8,7 +9,7 @@ ghost use Rattle.ingress_text.specs.declared.input.Line.{Line};
 ghost use Rattle.ingress_text.specs.declared.input.Said.TheVariants as said;
 ghost use Rattle.ingress_text.specs.declared.peers.Peer.{Peer};
 ghost use Rattle.ingress_text.specs.Telling.{nobody, peers_from, shown, table_of, AreThePeers};
-ghost use Rattle.ingress_laws.specs.Refused.{BringsFault};
+ghost use Rattle.ingress_laws.specs.Refused.{BringsFault, HasFault, IsHeard, IsRefused};
 ghost use Rattle.ingress_laws.specs.Answered.{labels_of, last_of, leaf_at, octets_of, AreAnswers, AreUnder, HasLast, IsLeaf, IsSaid, LeavesLabel, LeavesRoute};
 
 /// What is kept of a peer behind all lines is the route that its octets leave under the key of its answer, however its
@@ -50,4 +51,13 @@ pub fn refused_lines_bring_faults()
     ensures { (root : Rooted) (lines before more : List Line) (line : Line) → IsSaid root lines → lines ≡ before ++ (line ∷ more) →
         (peer octets : List ℕ) → line.said ≡ said.From peer octets → (place : ℕ) (fault : StreamFault) →
         (shown root (peers_from root nobody before) line line.said ≡ Some (place, fault)) ↔ BringsFault root before line place fault }
+{}
+
+/// A peer of which lines bring octets is told with a fault exactly where its octets have a first fault, and with that one.
+pub fn refused_peers_have_faults()
+    ensures told { (root : Rooted) (lines : List Line) → IsSaid root lines → (n : ℕ) → IsHeard n lines →
+        (there : ℕ) (fault : StreamFault) →
+        HasFault (octets_of root n lines) there fault → IsRefused root lines n (further 0 there) fault }
+    ensures only { (root : Rooted) (lines : List Line) → IsSaid root lines → (n place : ℕ) (fault : StreamFault) →
+        IsRefused root lines n place fault → (there : ℕ) × HasFault (octets_of root n lines) there fault × (place ≡ further 0 there) }
 {}

@@ -1,0 +1,10 @@
+use Rattle.std.proofs.Common.{◌≡◌, ◌∙◌, length, map, sym, ap, arith}
+use Rattle.line_words.specs.Words.{placed_word}
+use Rattle.probe_text.proofs.WordLemmas.{blank_by, nil_by}
+use Rattle.probe_text.proofs.lines.declared_by.Goals as goal
+
+pub returns-in-empty : goal.returns-in-empty
+returns-in-empty c =
+    let none : length c.as_slice.result.now ≡ 0 = omega (arith, c.in-empty.len_below) in
+    blank_by c.args.draft.now c.args.number c.args.octets.now (map placed_word c.in_ok-words.words.items) c.in_ok-words.ensures.words
+    (ap (map placed_word) (sym c.as_slice.ensures.value ∙ nil_by c.as_slice.result.now none))

@@ -1,0 +1,292 @@
+//! The lines of a text, by their words.
+ghost use Rattle.std.specs.Prelude.{◌≡◌, ◌==◌, ◌<◌, ◌≤◌, length, map, position, IfErr, IfOk, Ok};
+ghost use Rattle.std.specs.List.{list_all};
+ghost use Rattle.mv_base.specs.core_walks.Topology.{IsTopology};
+ghost use Rattle.mv_base.specs.core_walks.Reached.{is_connected};
+ghost use Rattle.line_words.specs.Answers.{Fails, Gives};
+ghost use Rattle.line_words.specs.Words.{placed_word};
+ghost use Rattle.scenario_text.specs.Grammar.{is_outside, is_blank, row_of};
+ghost use Rattle.probe_text.specs.Grammar.{declared_by, declaring, ends_line, given_by, given_words, is_iface_at, join_line, join_words, own_iface_at};
+ghost use Rattle.probe_text.specs.Grammar.{piece_line, probe_line, two_ends, words_in};
+
+use crate::input::Ends;
+use line_words::{
+    ReadFault, Reason, Row, TextFault, Word, fault_at, group_at, payload_at, same_family,
+    source_at, words_of,
+};
+use mv_base::core_walks::is_connected;
+use mv_base::{IfaceId, NodeId};
+use probe_defs::ProbeLine;
+use scenario_defs::Scenario;
+use scenario_lines::scenario_draft::{Draft, Line, edge_at, iface_at, is_of_iface};
+use scenario_lines::scenario_line;
+use std::alloc::Global;
+
+const LINE_LIMIT: usize = 4096;
+
+/// The most joins of a text.
+const JOIN_LIMIT: usize = 1024;
+
+fn is_outside(b: u8) -> bool
+    ensures { result ≡ is_outside b }
+{
+    b < 0x20 || b > 0x7e
+}
+
+fn first_outside(octets: &[u8]) -> Option<usize>
+    ensures { result ≡ position is_outside octets.now }
+{
+    octets.iter().position(|b| is_outside(*b))
+}
+
+fn are_spaces(octets: &[u8]) -> bool
+    ensures { result ≡ list_all (λ octet. octet == 32) octets.now }
+{
+    octets.iter().all(|octet| *octet == b' ')
+}
+
+#[tactic(auto, unfolding(scenario_text::specs::Grammar::is_blank))]
+fn is_blank(octets: &[u8]) -> bool
+    ensures { result ≡ is_blank octets.now }
+{
+    let spaces = are_spaces(octets);
+    match octets {
+        [] => true,
+        [first, ..] => *first == b'#' || spaces,
+    }
+}
+
+fn row_of(number: u32, octets: &[u8]) -> Row
+    requires { length octets.now ≤ LINE_LIMIT }
+    ensures { result ≡ row_of number octets.now }
+{
+    Row {
+        number,
+        after: octets.len() as u32 + 1,
+    }
+}
+
+/// The words of a line, none where it is blank or a comment.
+#[tactic(auto, unfolding(crate::specs::Grammar::words_in))]
+fn words_in<'a>(alloc: Global, number: u32, octets: &'a [u8]) -> Result<Vec<Word<'a>>, ReadFault>
+    ensures words { IfOk result (λ words. words_in number octets.now ≡ Ok (map placed_word words.items)) }
+    ensures short { IfOk result (λ words. 0 < length words.items → length octets.now ≤ LINE_LIMIT) }
+    ensures fault { IfErr result (λ stop. Fails stop (words_in number octets.now)) }
+{
+    if is_blank(octets) {
+        return Ok(Vec::new(alloc));
+    }
+    if octets.len() > LINE_LIMIT {
+        return Err(ReadFault::Text(fault_at(number, LINE_LIMIT as u32 + 1, Reason::Line)));
+    }
+    if let Some(place) = first_outside(octets) {
+        return Err(ReadFault::Text(fault_at(number, place as u32 + 1, Reason::Byte)));
+    }
+    Ok(words_of(alloc, octets)?)
+}
+
+/// A line of the scenario by its words.
+#[tactic(auto, unfolding(crate::specs::Grammar::declaring))]
+fn declaring(alloc: Global, draft: &Draft, row: Row, words: &[Word]) -> Result<Line, ReadFault>
+    requires topology { IsTopology (length draft.now.scenario.nodes) draft.now.scenario.links }
+    ensures { Gives result (declaring draft.now row (map placed_word words.now)) }
+{
+    match words {
+        [] => Ok(Line::Blank),
+        [first, rest @ ..] => {
+            if first.text == b"events".as_slice() {
+                return Err(ReadFault::Text(fault_at(row.number, first.column, Reason::Word)));
+            }
+            scenario_line(alloc, draft, row, first, rest)
+        }
+    }
+}
+
+#[tactic(auto, unfolding(crate::specs::Grammar::two_ends))]
+fn two_ends(draft: &Draft, row: Row, edge: &Word, peer: &Word) -> Result<Ends, TextFault>
+    ensures { result ≡ two_ends draft.now row (placed_word edge.now) (placed_word peer.now) }
+{
+    let own = edge_at(draft, row, edge)?;
+    let other = edge_at(draft, row, peer)?;
+    if own.0 == other.0 {
+        return Err(fault_at(row.number, peer.column, Reason::Same));
+    }
+    Ok(Ends {
+        edge: own,
+        peer: other,
+    })
+}
+
+/// The line `probe` by its words.
+#[tactic(auto, unfolding(crate::specs::Grammar::ends_line))]
+fn ends_line(draft: &Draft, row: Row, words: &[Word]) -> Result<Ends, TextFault>
+    ensures { result ≡ ends_line draft.now row (map placed_word words.now) }
+{
+    match words {
+        [] => Err(fault_at(row.number, 1, Reason::Count)),
+        [_, edge, peer] => two_ends(draft, row, edge, peer),
+        [_, _, _, extra, ..] => Err(fault_at(row.number, extra.column, Reason::Count)),
+        _ => Err(fault_at(row.number, row.after, Reason::Count)),
+    }
+}
+
+/// Whether the interface is of a VRF of the edge.
+fn is_iface_at(scenario: &Scenario, edge: NodeId, iface: IfaceId) -> bool
+    ensures { result ≡ is_iface_at scenario.now edge iface }
+{
+    let Some(own) = scenario.ifaces.as_slice().get(usize::from(iface.0)) else {
+        return false;
+    };
+    match scenario.vrfs.as_slice().get(usize::from(own.vrf.0)) {
+        Some(vrf) => vrf.edge.0 == edge.0,
+        None => false,
+    }
+}
+
+#[tactic(auto, unfolding(crate::specs::Grammar::own_iface_at))]
+fn own_iface_at(draft: &Draft, edge: NodeId, row: Row, word: &Word) -> Result<IfaceId, TextFault>
+    ensures { result ≡ own_iface_at draft.now edge row (placed_word word.now) }
+{
+    let iface = iface_at(draft, row, word)?;
+    if !is_iface_at(draft.scenario(), edge, iface) {
+        return Err(fault_at(row.number, word.column, Reason::Unknown));
+    }
+    Ok(iface)
+}
+
+#[tactic(auto, unfolding(crate::specs::Grammar::join_words))]
+fn join_words(
+    draft: &Draft,
+    edge: NodeId,
+    row: Row,
+    iface: &Word,
+    source: &Word,
+    group: &Word,
+) -> Result<ProbeLine, TextFault>
+    ensures { result ≡ join_words draft.now edge row (placed_word iface.now) (placed_word source.now) (placed_word group.now) }
+{
+    let iface = own_iface_at(draft, edge, row, iface)?;
+    let from = source_at(row, source)?;
+    let to = group_at(row, group)?;
+    if !(same_family(from, to) && is_of_iface(draft, iface, to)) {
+        return Err(fault_at(row.number, group.column, Reason::Family));
+    }
+    Ok(ProbeLine::Join {
+        iface,
+        source: from,
+        group: to,
+    })
+}
+
+/// A line `join` by the words behind the first one.
+#[tactic(auto, unfolding(crate::specs::Grammar::join_line))]
+fn join_line(draft: &Draft, edge: NodeId, row: Row, words: &[Word]) -> Result<ProbeLine, TextFault>
+    ensures { result ≡ join_line draft.now edge row (map placed_word words.now) }
+{
+    match words {
+        [iface, source, group] => join_words(draft, edge, row, iface, source, group),
+        [_, _, _, extra, ..] => Err(fault_at(row.number, extra.column, Reason::Count)),
+        _ => Err(fault_at(row.number, row.after, Reason::Count)),
+    }
+}
+
+/// A line `piece` by the words behind the first one.
+#[tactic(auto, unfolding(crate::specs::Grammar::piece_line))]
+fn piece_line(alloc: Global, row: Row, words: &[Word]) -> Result<ProbeLine, ReadFault>
+    ensures { Gives result (piece_line row (map placed_word words.now)) }
+{
+    match words {
+        [octets] => {
+            let bytes = payload_at(alloc, row, octets)?;
+            Ok(ProbeLine::Piece(bytes))
+        }
+        [_, extra, ..] => Err(ReadFault::Text(fault_at(row.number, extra.column, Reason::Count))),
+        _ => Err(ReadFault::Text(fault_at(row.number, row.after, Reason::Count))),
+    }
+}
+
+/// What a line of the scenario says, given what the lines before it declared.
+#[tactic(auto, unfolding(crate::specs::Grammar::declared_by))]
+pub(crate) fn declared_by(
+    alloc: Global,
+    draft: &Draft,
+    number: u32,
+    octets: &[u8],
+) -> Result<Line, ReadFault>
+    requires topology { IsTopology (length draft.now.scenario.nodes) draft.now.scenario.links }
+    ensures { Gives result (declared_by draft.now number octets.now) }
+{
+    let words = words_in(alloc, number, octets)?;
+    match words.as_slice() {
+        [] => Ok(Line::Blank),
+        all => declaring(alloc, draft, row_of(number, octets), all),
+    }
+}
+
+/// What the line `probe` says.
+#[tactic(auto, unfolding(crate::specs::Grammar::probe_line))]
+pub(crate) fn probe_line(
+    alloc: Global,
+    draft: &Draft,
+    number: u32,
+    octets: &[u8],
+) -> Result<Ends, ReadFault>
+    requires topology { IsTopology (length draft.now.scenario.nodes) draft.now.scenario.links }
+    ensures { Gives result (probe_line draft.now number octets.now) }
+{
+    let scenario = draft.scenario();
+    if !is_connected(scenario.nodes.len(), scenario.links.as_slice()) {
+        return Err(ReadFault::Text(fault_at(number, 1, Reason::Apart)));
+    }
+    let words = words_in(alloc, number, octets)?;
+    match words.as_slice() {
+        [] => Err(ReadFault::Text(fault_at(number, 1, Reason::Count))),
+        all => Ok(ends_line(draft, row_of(number, octets), all)?),
+    }
+}
+
+/// A line of the probe by its words, behind so many joins.
+#[tactic(auto, unfolding(crate::specs::Grammar::given_words))]
+fn given_words(
+    alloc: Global,
+    draft: &Draft,
+    edge: NodeId,
+    joins: usize,
+    row: Row,
+    words: &[Word],
+) -> Result<Option<ProbeLine>, ReadFault>
+    ensures { Gives result (given_words draft.now edge joins row (map placed_word words.now)) }
+{
+    let [first, rest @ ..] = words else {
+        return Ok(None);
+    };
+    if first.text == b"join".as_slice() {
+        if joins >= JOIN_LIMIT {
+            return Err(ReadFault::Text(fault_at(row.number, first.column, Reason::Limit)));
+        }
+        return Ok(Some(join_line(draft, edge, row, rest)?));
+    }
+    if first.text == b"piece".as_slice() {
+        return Ok(Some(piece_line(alloc, row, rest)?));
+    }
+    Err(ReadFault::Text(fault_at(row.number, first.column, Reason::Word)))
+}
+
+/// What a line of the probe says, behind so many joins.
+#[tactic(auto, unfolding(crate::specs::Grammar::given_by))]
+pub(crate) fn given_by(
+    alloc: Global,
+    draft: &Draft,
+    edge: NodeId,
+    joins: usize,
+    number: u32,
+    octets: &[u8],
+) -> Result<Option<ProbeLine>, ReadFault>
+    ensures { Gives result (given_by draft.now edge joins number octets.now) }
+{
+    let words = words_in(alloc, number, octets)?;
+    match words.as_slice() {
+        [] => Ok(None),
+        all => given_words(alloc, draft, edge, joins, row_of(number, octets), all),
+    }
+}

@@ -16,7 +16,7 @@ use Rattle.ingress_text.specs.Telling.{nobody, peers_from, rows, table_of, AreTh
 use Rattle.ingress_laws.specs.Meaning.{IsCopy, IsFirst, TellsLabel}
 use Rattle.ingress_laws.specs.Answered as laws
 use Rattle.ingress_laws.specs.Answered.{last_of, leaf_at, octets_of, AreAnswers, AreUnder, HasLast, IsSaid, LeavesAnswer, LeavesLabel}
-use Rattle.ingress_laws.proofs.HeardLemmas.{at_end, heard_none, own}
+use Rattle.ingress_laws.proofs.HeardLemmas.{at_end, heard_none, own, octets_fit}
 use Rattle.ingress_laws.proofs.LastLemmas.{last_from, last_to}
 use Rattle.ingress_laws.proofs.LawLemmas.{copy_from, copy_to}
 use Rattle.ingress_laws.proofs.LeafLemmas.{all_found, copies_under, each_found, leaves_of, leaves_rise, IsCopiedUnder}
@@ -63,7 +63,7 @@ module _ (root : Rooted) (lines : List Line) (said : IsSaid root lines) where
       let kept : (own root n (octets n)).answer ≡ Some c.advert = sole_row (own root n (octets n)).answer (answer_key root.request (leaf_at n)) c.advert c.there in
       record {
         advert = c.advert;
-        route = route_from root.request (to_be_bytes w32 n) (octets n) (said.octets n) c.advert kept;
+        route = route_from root.request (to_be_bytes w32 n) (octets n) (octets_fit root lines said n) c.advert kept;
         tells = subst (TellsLabel root.request (leaf_at n) c.advert) same c.tells;
       }
 
@@ -73,7 +73,7 @@ module _ (root : Rooted) (lines : List Line) (said : IsSaid root lines) where
   label_to : (n label : ℕ) → LeavesLabel root lines n label → label_at n ≡ Some label
   label_to n label leaves =
       let copy : LeafCopy = laws.copy_to (n, label) in
-      let kept : (own root n (octets n)).answer ≡ Some leaves.advert = route_to root.request (to_be_bytes w32 n) (octets n) (said.octets n) leaves.advert leaves.route in
+      let kept : (own root n (octets n)).answer ≡ Some leaves.advert = route_to root.request (to_be_bytes w32 n) (octets n) (octets_fit root lines said n) leaves.advert leaves.route in
       let there : IsFirst (rows (own root n (octets n)).answer) (answer_key root.request (leaf_at n)) leaves.advert =
       subst (λ (o : Option Advert). IsFirst (rows o) (answer_key root.request (leaf_at n)) leaves.advert) (sym kept) (row_first (answer_key root.request (leaf_at n)) leaves.advert leaves.route.last.same) in
       ap copy_label (copy_to root.request (table_at n) copy (record { advert = leaves.advert; leaf = refl; there = there; tells = leaves.tells }))
@@ -100,9 +100,9 @@ module _ (root : Rooted) (lines : List Line) (said : IsSaid root lines) where
   unfolding copies_of
   copies_are_under peers are =
       let under : (n : ℕ) (peer : Peer) → lookup (is_at (nat_cmp n)) peers ≡ Some peer → IsCopiedUnder root.request label_at n peer = λ n peer there.
-      copied_under n peer ((at_end root n lines said.addresses (said.octets n)).known peer (sym (are.each n) ∙ there)) in
+      copied_under n peer ((at_end root n lines said.addresses (octets_fit root lines said n)).known peer (sym (are.each n) ∙ there)) in
       let none : (n : ℕ) → lookup (is_at (nat_cmp n)) peers ≡ None → label_at n ≡ None = λ n gone.
-      unheard n ((at_end root n lines said.addresses (said.octets n)).unknown (sym (are.each n) ∙ gone)) in
+      unheard n ((at_end root n lines said.addresses (octets_fit root lines said n)).unknown (sym (are.each n) ∙ gone)) in
       record {
         leaves = leaves_of label_at peers;
         rising = leaves_rise label_at peers are.rising;

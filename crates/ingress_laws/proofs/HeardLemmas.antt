@@ -1,5 +1,5 @@
 -- What is kept of a peer, behind all octets that came of it.
-use Rattle.std.proofs.Common.{◌≡◌, ◌∙◌, ap, sym, subst, refl, ℕ, Bool, true, false, cond, List, [], ◌∷◌, ◌++◌, length, fold, Option, None, Some, unwrap_or, nat_cmp, append_assoc}
+use Rattle.std.proofs.Common.{arith, slice_index, ◌<◌, ◌≡◌, ◌∙◌, ap, sym, subst, refl, ℕ, zero, suc, Bool, true, false, cond, List, [], ◌∷◌, ◌++◌, length, fold, Option, None, Some, unwrap_or, nat_cmp, append_assoc}
 use Rattle.std.specs.Int.{w32, to_be_bytes}
 use Rattle.std.specs.List.{AllByRecursion}
 use Rattle.std.specs.BTreeMap.{is_at}
@@ -24,7 +24,7 @@ use Rattle.ingress_text.specs.declared.input.Line.{Line}
 use Rattle.ingress_text.specs.declared.peers.Peer.{Peer}
 use Rattle.ingress_text.specs.Drafted.{number_by, peer_of}
 use Rattle.ingress_text.specs.Telling.{after, answer_by, before, behind, fresh, nobody, octets_by, peers_from, taken, Peers}
-use Rattle.ingress_laws.specs.Answered.{brought, octets_of, IsAddress}
+use Rattle.ingress_laws.specs.Answered.{brought, octets_of, IsAddress, IsSaid}
 
 abbrev emptied : {M E : Type 0} → Fed M E → Fed M E
 emptied d = record d { waiting = [] }
@@ -64,6 +64,29 @@ module _ (request : Request) (leaf : List ℕ) where
       ∙ ap (λ (d : Fed Message StreamFault). fold (answer_by request leaf) None d.waiting) (sym is) in
       let back : record now { waiting = messages_in so ++ now.waiting } ≡ stream_of (so ++ piece) = sym is in
       λ i. record { stream = emptied (back i); answer = told i }
+
+-- ---- what lines bring
+
+none_fits : IsOctets []
+none_fits i = omega arith
+
+-- two lists of octets, end to end
+both_octets : (octets more : List ℕ) → IsOctets octets → IsOctets more → (i : ℕ) → slice_index (octets ++ more) i < 256
+both_octets [] more fits rest i = rest i
+both_octets (octet ∷ octets) more fits rest zero = fits 0
+both_octets (octet ∷ octets) more fits rest (suc i) = both_octets octets more (λ j. fits (suc j)) rest i
+
+brought_fits : (root : Rooted) (line : Line) (b : Bool) → IsOctets (octets_by root line.said) → IsOctets (cond b (octets_by root line.said) [])
+brought_fits root line true fits = fits
+brought_fits root line false fits = none_fits
+
+all_fit : (root : Rooted) (lines : List Line) → AllByRecursion (λ (line : Line). IsOctets (octets_by root line.said)) lines → (n : ℕ) → IsOctets (octets_of root n lines)
+all_fit root [] fit n = none_fits
+all_fit root (line ∷ more) fit n =
+    both_octets (brought root n line) (octets_of root n more) (brought_fits root line (is_at (nat_cmp (number_by line)) n) fit.0) (all_fit root more fit.1 n)
+
+pub octets_fit : (root : Rooted) (lines : List Line) → IsSaid root lines → (n : ℕ) → IsOctets (octets_of root n lines)
+octets_fit root lines said n = all_fit root lines said.octets n
 
 module _ (root : Rooted) (n : ℕ) where
   abbrev pub own : List ℕ → Peer

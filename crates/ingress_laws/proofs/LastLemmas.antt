@@ -34,7 +34,7 @@ use Rattle.ingress_text.specs.Drafted.{number_by, peer_of}
 use Rattle.ingress_text.specs.Telling.{answer_by, answer_octets, octets_by}
 use Rattle.ingress_laws.specs.Meaning.{Asks, TellsLabel}
 use Rattle.ingress_laws.specs.Answered.{labels_by, labels_of, last_of, later, leaf_at, octets_of, said_labels, AreAnswers, IsAddress, IsLabel, IsLeaf, IsSaid, LeavesLabel, LetsAnswer}
-use Rattle.ingress_laws.proofs.HeardLemmas.{address_is, heard, messages_in, own}
+use Rattle.ingress_laws.proofs.HeardLemmas.{address_is, heard, messages_in, own, octets_fit}
 use Rattle.ingress_laws.proofs.LawLemmas.{answer_own, asks_from}
 use Rattle.ingress_laws.proofs.RouteLemmas.{route_from, route_to}
 use Rattle.ingress_laws.proofs.SpelledLemmas.{answer_short, answer_writable}
@@ -155,12 +155,12 @@ module _ (root : Rooted) (lines : List Line) (said : IsSaid root lines) (n : ℕ
 
   pub last_from : (label : ℕ) → LeavesLabel root lines n label → last_of labels ≡ Some label
   last_from label leaves =
-      last_is (last_of labels) leaves.advert label (sym kept ∙ route_to root.request (to_be_bytes w32 n) octets (said.octets n) leaves.advert leaves.route) leaves.tells
+      last_is (last_of labels) leaves.advert label (sym kept ∙ route_to root.request (to_be_bytes w32 n) octets (octets_fit root lines said n) leaves.advert leaves.route) leaves.tells
 
   pub last_to : (label : ℕ) → last_of labels ≡ Some label → LeavesLabel root lines n label
   last_to label e = record {
     advert = last_advert label;
-    route = route_from root.request (to_be_bytes w32 n) octets (said.octets n) (last_advert label) (kept ∙ ap (option_map last_advert) e);
+    route = route_from root.request (to_be_bytes w32 n) octets (octets_fit root lines said n) (last_advert label) (kept ∙ ap (option_map last_advert) e);
     tells = record {
       pmsi = leaf_tunnel (leaf_at n) label;
       next_hop = refl;

@@ -26,7 +26,7 @@ use Rattle.ingress_text.specs.Drafted.{number_by, peer_of}
 use Rattle.ingress_text.specs.Telling.{after, before, first_fault, new_fault, nobody, octets_by, peers_from, shown, Peers}
 use Rattle.ingress_laws.specs.Answered.{brought, octets_of, IsAddress, IsSaid}
 use Rattle.ingress_laws.specs.Refused.{BringsFault, BringsOctets, HasFault, IsHeard, IsRefused}
-use Rattle.ingress_laws.proofs.HeardLemmas.{after_is, at_end, before_is, messages_in, own}
+use Rattle.ingress_laws.proofs.HeardLemmas.{after_is, at_end, before_is, messages_in, own, octets_fit}
 use Rattle.ingress_laws.proofs.RouteLemmas.{fails_in}
 
 -- ---- faults of octets
@@ -107,7 +107,7 @@ module _ (root : Rooted) (lines others more : List Line) (line : Line) (said : I
       ∙ (ap (λ (xs : List ℕ). said_before ++ (xs ++ octets_of root n more)) own_brought ∙ sym (append_assoc said_before (octets_by root line.said) (octets_of root n more))))
 
   line_fits : IsOctets (said_before ++ octets_by root line.said)
-  line_fits = IsOctets-before (said_before ++ octets_by root line.said) (octets_of root n more) (subst IsOctets up_to (said.octets n))
+  line_fits = IsOctets-before (said_before ++ octets_by root line.said) (octets_of root n more) (subst IsOctets up_to (octets_fit root lines said n))
 
   addresses : AllByRecursion (λ (l : Line). IsAddress (peer_of l.said)) (others ++ (line ∷ more))
   addresses = subst (AllByRecursion (λ (l : Line). IsAddress (peer_of l.said))) parts said.addresses
@@ -141,10 +141,10 @@ module _ (root : Rooted) (lines others more : List Line) (line : Line) (said : I
 
   pub fault_behind : (place : ℕ) (fault : StreamFault) → BringsFault root others line place fault → (there : ℕ) × HasFault (octets_of root n lines) there fault × (place ≡ further 0 there)
   fault_behind place fault b =
-      let all : IsOctets ((said_before ++ octets_by root line.said) ++ octets_of root n more) = subst IsOctets up_to (said.octets n) in
+      let all : IsOctets ((said_before ++ octets_by root line.said) ++ octets_of root n more) = subst IsOctets up_to (octets_fit root lines said n) in
       let here : fault_in (said_before ++ octets_by root line.said) ≡ Some (b.there, fault) = fault_to (said_before ++ octets_by root line.said) line_fits b.there fault b.now in
       let whole : fault_in (octets_of root n lines) ≡ Some (b.there, fault) = ap fault_in up_to ∙ stays (said_before ++ octets_by root line.said) (octets_of root n more) all (b.there, fault) here in
-      (b.there, fault_from (octets_of root n lines) (said.octets n) (b.there, fault) whole, b.at)
+      (b.there, fault_from (octets_of root n lines) (octets_fit root lines said n) (b.there, fault) whole, b.at)
 
 -- ---- all lines of a peer
 
@@ -168,7 +168,7 @@ module _ (root : Rooted) (lines : List Line) (said : IsSaid root lines) (n : ℕ
       (h.0, subst (λ (k : ℕ). HasFault (octets_of root k lines) h.0 fault) r.number h.1, h.2)
 
   parts_fit : (before more : List Line) → lines ≡ before ++ more → IsOctets (octets_of root n before ++ octets_of root n more)
-  parts_fit before more parts = subst IsOctets (ap (octets_of root n) parts ∙ flat_map-append (brought root n) before more) (said.octets n)
+  parts_fit before more parts = subst IsOctets (ap (octets_of root n) parts ∙ flat_map-append (brought root n) before more) (octets_fit root lines said n)
 
   -- the fault of the first lines is that of all
   fault_stays : (before more : List Line) → lines ≡ before ++ more → (g : ℕ × StreamFault) → fault_of before ≡ Some g → fault_of lines ≡ Some g
@@ -212,4 +212,4 @@ module _ (root : Rooted) (lines : List Line) (said : IsSaid root lines) (n : ℕ
   none_at_first = refl
 
   pub refused_told : IsHeard n lines → (there : ℕ) (fault : StreamFault) → HasFault (octets_of root n lines) there fault → IsRefused root lines n (further 0 there) fault
-  refused_told heard there fault h = find [] lines refl heard none_at_first (there, fault) (fault_to (octets_of root n lines) (said.octets n) there fault h)
+  refused_told heard there fault h = find [] lines refl heard none_at_first (there, fault) (fault_to (octets_of root n lines) (octets_fit root lines said n) there fault h)

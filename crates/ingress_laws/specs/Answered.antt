@@ -41,12 +41,12 @@ octets_of root n lines = flat_map (brought root n) lines
 abbrev pub IsAddress : List ℕ → Type 0
 IsAddress octets = (length octets ≡ 4) × IsOctets octets
 
--- A text says so: the root asks by a route that has a spelling, the peers have addresses of IPv4, and octets come of each.
+-- A text says so: the root asks by a route that has a spelling, the peers have addresses of IPv4, and the lines bring octets.
 pub record IsSaid (root : Rooted) (lines : List Line) : Type 0 where
   pub asks : request_of root.advert ≡ Some root.request
   pub spelled : IsSpelledSelective root.advert.key
   pub addresses : AllByRecursion (λ (line : Line). IsAddress (peer_of line.said)) lines
-  pub octets : (n : ℕ) → IsOctets (octets_of root n lines)
+  pub octets : AllByRecursion (λ (line : Line). IsOctets (octets_by root line.said)) lines
 
 -- Octets leave a route under a key: the whole messages before their first fault announce it last.
 pub record LeavesRoute (octets : List ℕ) (key : Key) (advert : Advert) : Type 0 where

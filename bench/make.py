@@ -14,6 +14,9 @@
                 events: joins and sends in turn, each datagram entering at two edges
     drains      a scenario with 1,000 interfaces, then SIZE events: joins, sends and drains in turn
     network     the scenario of 32 edges, 16 core nodes and 8 VPNs that `make` writes, then SIZE events of every kind, at random
+    settles     the scenario that `make` writes, all its sessions up, then SIZE times `settle`, with nothing to do
+    restarts    the same scenario, then SIZE times `heal`, `settle` and a core node that restarts
+    costs       the same scenario, then SIZE times another cost of a link, and `settle`
     late-fault  SIZE octets of comments, of which the last line is faulty
     decode      SIZE octets of hexadecimal text, which writes multipoint FEC elements end to end, one on each line
     decode-nlri SIZE octets of hexadecimal text, which writes MCAST-VPN routes of AFI 1 end to end, one on each line
@@ -23,7 +26,7 @@
     hops        a file of SIZE hops, each of a datagram of 22 octets
     audit       SIZE sends in one calm window, each datagram leaving at ten interfaces, and the report of them
 
-The first ten are inputs of `replay`, `decode` is one of `decode fec`, `decode-NAME` one of `decode NAME`, and `ingress`, `hops`
+Those before `decode` are inputs of `replay`, `decode` is one of `decode fec`, `decode-NAME` one of `decode NAME`, and `ingress`, `hops`
 and `audit` are each one of the command of that name. The input is within the limits: 16,777,216 octets, 200,000 events, 1,024
 interfaces and entries, 4,096 octets a line.
 """
@@ -175,6 +178,21 @@ def network(size):
     yield from made_scenario()
     events = Events()
     yield from (events.line() + '\n' for _ in range(min(EVENT_LIMIT, size)))
+
+
+def settles(size):
+    yield from made_scenario()
+    yield from ['settle\n'] * size
+
+
+def restarts(size):
+    yield from made_scenario()
+    yield from ['heal\nsettle\nrestart C1\n'] * size
+
+
+def costs(size):
+    yield from made_scenario()
+    yield from ('cost C1 C2 %d\nsettle\n' % (2 - number % 2) for number in range(size))
 
 
 def two_sites():
@@ -395,6 +413,9 @@ KINDS = {
     'events': events,
     'drains': drains,
     'network': network,
+    'settles': settles,
+    'restarts': restarts,
+    'costs': costs,
     'messages': messages,
     'shared': shared,
     'groups': groups,

@@ -51,7 +51,7 @@ ESCAPES = {'n': '\n', 'r': '\r', 't': '\t', '\\': '\\', '\n': ''}
 KINDS = ['short', 'scenario', 'table', 'row']
 # the commands that the reference program has as well, and those that it has alone
 REFERRED = ('replay', 'audit', 'probe', 'ingress', 'pcap', 'hops')
-ALONE = ('probe', 'pcap')
+ALONE = ('pcap',)
 # the statuses of a replay that came to its end, to a fault of the text, or to a halt
 REPLAYED = (0, 3, 7)
 # seconds that a run may take: a program that is built without its proofs is not optimized, and slow at the limits

@@ -12,3 +12,4 @@ pub mod CountLemmas
 pub mod SweepLemmas
 pub mod HopsLemmas
 mod IngressLemmas
+mod ProbeLemmas

@@ -2,6 +2,7 @@ pub mod Input
 pub mod FirstEvents
 pub mod Report
 pub mod Outcome
+pub mod ProbeOutcome
 pub mod Known
 pub mod Sweep
 pub mod DecodeOutcome

@@ -31,6 +31,9 @@ use Rattle.mvpn_tool.specs.IngressOutcome.{Told, ToldEarly, ToldFaulty}
 use Rattle.ingress_text.specs.declared.input.Input.{Input}
 use Rattle.ingress_text.specs.Grammar.{input_of}
 use Rattle.ingress_text.specs.Telling.{is_refused}
+use Rattle.mvpn_tool.specs.ProbeOutcome.{HasPeerFault, IsSound, ProbeEarly, ProbeFaulty, ProbeTold}
+use Rattle.probe_text.specs.declared.input.ProbeText.{ProbeText}
+use Rattle.probe_text.specs.Grammar.{probe_of}
 
 -- A call and its end: the status and the world that it answers; what the source had left before it and has left behind it, and what
 -- the sink had written, where they tell that; and how often each of them has failed, before and behind.
@@ -247,6 +250,36 @@ pub record IngressRun (e : Ending) : Type 0 where
   pub only : (e.status ≡ 0) ⊎ (e.status ≡ 1) ⊎ (e.status ≡ 3) ⊎ IsStopped e.status
   pub worldless : e.world ≡ None
 
+-- `probe`
+pub record ProbeRun (e : Ending) : Type 0 where
+  -- what is told of the edge was written, and the peer's octets have no fault
+  pub zero : e.status ≡ 0 → ProbeTold false e.left e.old e.new
+  -- what is told of the edge was written, and its last line tells the first fault of the peer's octets
+  pub one : e.status ≡ 1 → ProbeTold true e.left e.old e.new
+  pub one_always :
+      (input : List ℕ) (what : ProbeText) → e.left ≡ Some input → probe_of input ≡ Ok what → HasPeerFault what →
+      (e.status ≡ 1) ⊎ IsStopped e.status
+  -- the text has a fault, and the line that tells it is written alone
+  pub three : e.status ≡ 3 → ProbeFaulty e.left e.old e.new
+  pub three_always :
+      (input : List ℕ) (fault : TextFault) → e.left ≡ Some input → probe_of input ≡ Err fault → (e.status ≡ 3) ⊎ IsStopped e.status
+  -- the source failed, and nothing is written
+  pub four : e.status ≡ 4 → Wrote e []
+  pub four_cause : e.status ≡ 4 → SourceFailed e
+  -- the sink failed, with a prefix of the output written
+  pub five : e.status ≡ 5 → ProbeEarly e.left e.old e.new
+  pub five_cause : e.status ≡ 5 → SinkFailed e
+  -- there was no memory, and nothing or a prefix of the output is written
+  pub six : e.status ≡ 6 → Wrote e [] ⊎ ProbeEarly e.left e.old e.new
+  -- the input was taken to its end, or one octet past the limit
+  pub taken : e.status ≢ 4 → e.status ≢ 6 → Taken e.left e.rest
+  -- where neither end failed and the peer's octets have no fault, nothing but memory keeps what is told from being written
+  pub complete :
+      (input : List ℕ) (what : ProbeText) → (SourceFailed e → ⊥) → (SinkFailed e → ⊥) → e.left ≡ Some input → probe_of input ≡ Ok what →
+      IsSound what → (e.status ≡ 0) ⊎ (e.status ≡ 6)
+  pub only : (e.status ≡ 0) ⊎ (e.status ≡ 1) ⊎ (e.status ≡ 3) ⊎ IsStopped e.status
+  pub worldless : e.world ≡ None
+
 -- how a call ends whose words name that command, or none
 abbrev pub Runs : Option Command → Ending → Type 0
 Runs None e = UsageRun e
@@ -257,3 +290,4 @@ Runs (Some (commands.Sweep number)) e = SweepRun number e
 Runs (Some commands.Audit) e = AuditRun e
 Runs (Some commands.Hops) e = HopsRun e
 Runs (Some commands.Ingress) e = IngressRun e
+Runs (Some commands.Probe) e = ProbeRun e

@@ -31,6 +31,8 @@ pub enum Command {
     Hops,
     /// `ingress`
     Ingress,
+    /// `probe`
+    Probe,
 }
 
 /// The detail that a word behind `replay` asks for.
@@ -93,6 +95,7 @@ fn command_alone(word: &str) -> Option<Command>
         "audit" => Some(Command::Audit),
         "ingress" => Some(Command::Ingress),
         "hops" => Some(Command::Hops),
+        "probe" => Some(Command::Probe),
         _ => None,
     }
 }

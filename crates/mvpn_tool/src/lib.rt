@@ -2,13 +2,13 @@
 //! written. `command.rt` says which words are which command. `replay.rt` replays a source into a sink, event by event,
 //! each with those of its lines that are asked for, up to one that lacks a label; `decode.rt` decodes a source;
 //! `audit.rt` judges the report that a source has behind its script; `ingress.rt` does what a text of ingress
-//! replication says; `hops.rt` reads a file of hops, whose lines are in `hop_lines.rt`; `make.rt` writes the text of a
+//! replication says; `probe.rt` tells what one edge makes of a peer's octets (`probe_lines.rt`); `hops.rt` reads a file of hops, whose lines are in `hop_lines.rt`; `make.rt` writes the text of a
 //! made network; `sweep.rt` replays one and writes the line of its numbers (`counts.rt`). `input.rt` reads a source to
 //! its end or past the limit, `report.rt` has the texts of lines and of a fault, `stop.rt` why a replay or a decoding
 //! ended early, and `laws.rt` what is known of a script and its runs from the laws below. The contract of `run` is a
 //! record for each command with a field for each status (`specs/Runs.antt`, `Commands`); `Report` is a whole run and a
 //! halted one with all that is promised of them, `Known` what the laws of runs say, `Outcome`, `DecodeOutcome`,
-//! `AuditOutcome`, `IngressOutcome`, `HopsOutcome` and `Sweep` how each command may end, `HopLines` the lines of hops.
+//! `AuditOutcome`, `IngressOutcome`, `ProbeOutcome`, `HopsOutcome` and `Sweep` how each command may end, `HopLines` the lines of hops.
 //! Below it are the text room (`scenario_text`, `report_text`, `decode_text`, `ingress_text`, `generator`, `value_text`,
 //! `audit_text`), the files of hops (`core_pcap`), the judgement (`mvpn_audit`), the network (`network_events`), the
 //! laws of runs (`settle_laws`, `license_laws`, `run_laws`, `audit_laws`, `made_laws`) and `mv_io`; above it `mvpn` is
@@ -25,6 +25,8 @@ mod ingress;
 mod input;
 mod laws;
 mod make;
+mod probe;
+mod probe_lines;
 mod replay;
 mod report;
 mod stop;

@@ -1,7 +1,7 @@
 //! The top call: a command, from octets to octets.
 ghost use Rattle.std.specs.Prelude.{◌≡◌, ℕ, Option, List, None, map, string_bytes};
 ghost use Rattle.mvpn_tool.specs.Commands.{command_of};
-ghost use Rattle.mvpn_tool.specs.Runs.{Runs, UsageRun, ReplayRun, DecodeRun, MakeRun, SweepRun, AuditRun, HopsRun, IngressRun};
+ghost use Rattle.mvpn_tool.specs.Runs.{Runs, UsageRun, ReplayRun, DecodeRun, MakeRun, SweepRun, AuditRun, HopsRun, IngressRun, ProbeRun};
 
 use crate::audit::judge;
 use crate::command::{Command, Detail, command_of};
@@ -9,6 +9,7 @@ use crate::decode::decode;
 use crate::hops::hops;
 use crate::ingress::ingress;
 use crate::make::make;
+use crate::probe::probe;
 use crate::replay::replay;
 use crate::stop::Stop;
 use crate::sweep::sweep;
@@ -21,7 +22,7 @@ use std::alloc::Global;
 
 /// The line that tells the forms of a command.
 const USAGE: &[u8] =
-    b"usage: mvpn replay [--wire] | decode nlri|pmsi|fec|bgp|ldp|pim | make NUMBER | sweep NUMBER | audit | ingress | hops\n";
+    b"usage: mvpn replay [--wire] | decode nlri|pmsi|fec|bgp|ldp|pim | make NUMBER | sweep NUMBER | audit | probe | ingress | hops\n";
 
 /// How a call ended, and the world where all events of a script were replayed.
 pub struct End {
@@ -242,6 +243,31 @@ fn run_ingress<S: Source, K: Sink>(alloc: Global, source: &mut S, sink: &mut K) 
     }
 }
 
+fn run_probe<S: Source, K: Sink>(alloc: Global, source: &mut S, sink: &mut K) -> End
+    ensures { ProbeRun (record {
+      status = result.status;
+      world = result.world;
+      left = S.left source.old;
+      rest = S.left source.new;
+      old = K.written sink.old;
+      new = K.written sink.new;
+      source_before = S.faults source.old;
+      source_now = S.faults source.new;
+      sink_before = K.faults sink.old;
+      sink_now = K.faults sink.new;
+    }) }
+{
+    match probe(alloc, source, sink) {
+        Ok(false) => ended(0),
+        Ok(true) => ended(1),
+        Err(Stop::Text) => ended(3),
+        Err(Stop::Source) => ended(4),
+        Err(Stop::Sink) => ended(5),
+        Err(Stop::Memory) => ended(6),
+        Err(Stop::Label) => unreachable!(),
+    }
+}
+
 /// Runs the command that the words name. What is true of each status then, command by command, is `Runs`.
 pub fn run<S: Source, K: Sink>(alloc: Global, words: &[String], source: &mut S, sink: &mut K) -> End
     ensures { Runs (command_of (map string_bytes words.now)) (record {
@@ -266,5 +292,6 @@ pub fn run<S: Source, K: Sink>(alloc: Global, words: &[String], source: &mut S, 
         Some(Command::Audit) => run_audit(alloc, source, sink),
         Some(Command::Hops) => run_hops(alloc, source, sink),
         Some(Command::Ingress) => run_ingress(alloc, source, sink),
+        Some(Command::Probe) => run_probe(alloc, source, sink),
     }
 }

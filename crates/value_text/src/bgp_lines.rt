@@ -42,7 +42,8 @@ fn put_unicast(out: &mut Bytes, rd: &Rd, prefix: &Prefix) -> Result<(), NoMemory
     put_prefix(out, prefix)
 }
 
-fn put_key(out: &mut Bytes, key: &Key) -> Result<(), NoMemory>
+/// Appends what a route is announced and withdrawn by.
+pub fn put_key(out: &mut Bytes, key: &Key) -> Result<(), NoMemory>
     ensures { OnOk result (out.new ≡ out.old ++ nlri_text key.now) }
 {
     match key {

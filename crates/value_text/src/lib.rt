@@ -18,6 +18,7 @@ mod pmsi_lines;
 mod refused;
 mod route_lines;
 
+pub use bgp_lines::put_key;
 pub use fec_lines::{put_fec_fault, put_fec_line};
 pub use lined::{Lined, Worded};
 pub use pim_lines::{put_joinprune_fault, put_joinprune_lines};

@@ -1,0 +1,88 @@
+//! The lines of what one edge makes of the octets of a peer.
+ghost use Rattle.std.specs.Prelude.{◌≡◌, ◌++◌, OnOk};
+ghost use Rattle.std.specs.List.{flat_map};
+ghost use Rattle.mvpn_tool.specs.ProbeOutcome.{import_line, refused_text, report_text, vrf_name, want_line};
+
+use bgp_messages::bgp_attributes::StreamFault;
+use mldp::mldp_fec::Fec;
+use mv_base::{Bytes, NoMemory, VrfId};
+use probe_defs::{Import, ProbeReport};
+use report_text::put_number;
+use scenario_defs::Scenario;
+use value_text::{Worded, put_fec_line, put_key};
+
+/// Appends the name of a VRF.
+fn put_vrf(out: &mut Bytes, scenario: &Scenario, vrf: VrfId) -> Result<(), NoMemory>
+    ensures { OnOk result (out.new ≡ out.old ++ vrf_name scenario.now vrf) }
+{
+    match scenario.vrfs.as_slice().get(usize::from(vrf.0)) {
+        Some(found) => out.extend(found.name.octets()),
+        None => Ok(()),
+    }
+}
+
+/// Appends the line of a route that a VRF takes.
+fn put_import(out: &mut Bytes, scenario: &Scenario, import: &Import) -> Result<(), NoMemory>
+    ensures { OnOk result (out.new ≡ out.old ++ import_line scenario.now import.now) }
+{
+    out.extend(b"import ")?;
+    put_vrf(out, scenario, import.vrf)?;
+    out.extend(b" ")?;
+    put_key(out, &import.key)?;
+    out.extend(b"\n")
+}
+
+fn put_imports(out: &mut Bytes, scenario: &Scenario, imports: &[Import]) -> Result<(), NoMemory>
+    ensures { OnOk result (out.new ≡ out.old ++ flat_map (import_line scenario.now) imports.now) }
+{
+    for import in imports {
+        put_import(out, scenario, import)?;
+    }
+    Ok(())
+}
+
+/// Appends the line of a tunnel that the edge wants.
+fn put_want(out: &mut Bytes, fec: &Fec) -> Result<(), NoMemory>
+    ensures { OnOk result (out.new ≡ out.old ++ want_line fec.now) }
+{
+    out.extend(b"want ")?;
+    put_fec_line(out, fec)
+}
+
+fn put_wants(out: &mut Bytes, fecs: &[Fec]) -> Result<(), NoMemory>
+    ensures { OnOk result (out.new ≡ out.old ++ flat_map want_line fecs.now) }
+{
+    for fec in fecs {
+        put_want(out, fec)?;
+    }
+    Ok(())
+}
+
+/// Appends the line of the first fault of the peer's octets, if they have one.
+fn put_first_fault(out: &mut Bytes, fault: &Option<(u64, StreamFault)>) -> Result<(), NoMemory>
+    ensures { OnOk result (out.new ≡ out.old ++ refused_text fault.now) }
+{
+    match fault {
+        None => Ok(()),
+        Some((place, first)) => {
+            out.extend(b"refused ")?;
+            put_number(out, *place)?;
+            out.extend(b" ")?;
+            first.put_word(out)?;
+            out.extend(b"\n")
+        }
+    }
+}
+
+/// Appends the lines of a report.
+pub(crate) fn put_report(
+    out: &mut Bytes,
+    scenario: &Scenario,
+    report: &ProbeReport,
+) -> Result<(), NoMemory>
+    ensures { OnOk result (out.new ≡ out.old ++ report_text scenario.now report.now) }
+{
+    put_imports(out, scenario, report.imports.as_slice())?;
+    put_wants(out, report.wants.as_slice())?;
+    put_first_fault(out, &report.fault)
+}

@@ -10,7 +10,7 @@ use Rattle.scenario_defs.specs.declared.report.ReportLine.{ReportLine}
 use Rattle.scenario_defs.specs.declared.report.ReportLine.TheVariants as lines
 use Rattle.mvpn_model.specs.Once.{Once}
 use Rattle.mvpn_model.specs.Report.{Datagram, datagrams, lines_of, is_out_at, outs_at}
-use Rattle.delivery_laws.proofs.Sendings.{datagrams_both, datagrams_within}
+use Rattle.once_laws.proofs.delivery_laws.Sendings.{datagrams_both, datagrams_within}
 use Rattle.audit_defs.specs.Cut.{Given, Audited, entry_of, cut}
 use Rattle.audit_defs.specs.Offences.{named_before, InWindow, is_receiver, OutLine, OutOf, HasNoDatagram, IsAgain, IsNotAsked, IsMissing}
 use Rattle.audit_defs.proofs.Lists.{and_both, front_of, got_still, each_got, step_count, counted, one_found, two_found, found_one, found_two}

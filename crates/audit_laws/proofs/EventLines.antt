@@ -24,8 +24,8 @@ use Rattle.network_defs.specs.Nodes.{NodeState, Edge, CoreNode, Nodes, place_of}
 use Rattle.network_defs.specs.Refusals.{edge_of_vrf}
 use Rattle.network_defs.specs.System.{NodeCall, Own, Elapse, Reset, Price, Follow, system}
 use Rattle.network_defs.specs.World.{World, Datagram, LinkCopy, scenario_of, clock_of}
-use Rattle.delivery_laws.specs.Flood.{lines_in}
-use Rattle.delivery_laws.proofs.Outcomes.{IsOfLines, Leads, Gives, then_leads, row_leads, each_leads, times_leads}
+use Rattle.once_laws.specs.delivery_laws.Flood.{lines_in}
+use Rattle.once_laws.proofs.delivery_laws.Outcomes.{IsOfLines, Leads, Gives, then_leads, row_leads, each_leads, times_leads}
 use Rattle.mv_base.specs.declared.addr.Addr.{Addr}
 use Rattle.mv_base.specs.declared.ids.SiteId.{SiteId}
 use Rattle.scenario_defs.specs.Vpn.{edge_of, entered}

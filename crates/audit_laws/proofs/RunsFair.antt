@@ -19,7 +19,7 @@ use Rattle.network_defs.specs.World.{World, start}
 use Rattle.network_laws.specs.SoundRun.{SoundRun}
 use Rattle.network_laws.proofs.Lists.{each_map, each_weaker}
 use Rattle.network_laws.proofs.LabelTaken.{contained}
-use Rattle.delivery_laws.proofs.Accepted.{tells_accepted}
+use Rattle.once_laws.proofs.delivery_laws.Accepted.{tells_accepted}
 use Rattle.once_laws.proofs.Once.{deliver_once}
 use Rattle.once_laws.proofs.SafeRuns.{safe}
 use Rattle.run_laws.specs.Plain.{plain}
@@ -29,7 +29,7 @@ use Rattle.audit_defs.specs.declared.verdict.ReportLines.{ReportLines}
 use Rattle.audit_defs.specs.Markers.{values, is_marker, markers, named, is_marked, mark_each, fit, marked_places}
 use Rattle.audit_defs.specs.Cut.{unnamed, refused_by, Given, places_after, give, entry_of}
 use Rattle.audit_defs.specs.Verdicts.{is_halt, HasNoOffence, IsFair}
-use Rattle.delivery_laws.proofs.Sendings.{datagrams_both}
+use Rattle.once_laws.proofs.delivery_laws.Sendings.{datagrams_both}
 use Rattle.audit_defs.proofs.Lists.{got_still}
 use Rattle.audit_laws.proofs.Shapes.{Shaped, marks_all, no_halts, none_unnamed, plain_shaped, run_shaped}
 use Rattle.audit_laws.proofs.Origins.{Origin, given_of}

@@ -28,8 +28,8 @@ use Rattle.network_defs.specs.Run.{Traced, outcome, traced, report_of, Runs}
 use Rattle.network_defs.specs.World.{World, scenario_of}
 use Rattle.mvpn_model.specs.Messages.{message_of}
 use Rattle.network_laws.proofs.Lists.{each_map, each_filter}
-use Rattle.delivery_laws.specs.Flood.{lines_in}
-use Rattle.delivery_laws.proofs.Accepted.{accepts, TellsAccepted}
+use Rattle.once_laws.specs.delivery_laws.Flood.{lines_in}
+use Rattle.once_laws.proofs.delivery_laws.Accepted.{accepts, TellsAccepted}
 use Rattle.run_laws.specs.Plain.{is_plain, plain_entry, plain}
 use Rattle.run_laws.proofs.Plain.{plain_lines}
 use Rattle.audit_defs.specs.Markers.{is_marker, is_state, is_refusable, is_named, is_marked, marks, mark_each}

@@ -29,8 +29,8 @@ use Rattle.network_laws.specs.Honest.{IsSoundEvent}
 use Rattle.network_laws.proofs.RunActs.{WorldStays}
 use Rattle.network_laws.proofs.RunEvents.{turned_stays, start_stays}
 use Rattle.network_laws.proofs.ready_laws.RunsTell.{first_lines}
-use Rattle.delivery_laws.specs.Flood.{lines_in}
-use Rattle.delivery_laws.proofs.Accepted.{accepts, TellsAccepted, tells_accepted}
+use Rattle.once_laws.specs.delivery_laws.Flood.{lines_in}
+use Rattle.once_laws.proofs.delivery_laws.Accepted.{accepts, TellsAccepted, tells_accepted}
 use Rattle.customer_laws.specs.Concerns.{concerns, Answered, answered, AreAlike}
 use Rattle.customer_laws.specs.Room.{OneRun, past_in, asked_in, says_full, HasRoom}
 

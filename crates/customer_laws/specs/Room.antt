@@ -17,7 +17,7 @@ use Rattle.network_defs.specs.Costs.{Cores}
 use Rattle.network_defs.specs.Run.{Traced, report_of}
 use Rattle.network_defs.specs.World.{World}
 use Rattle.network_laws.specs.SoundRun.{SoundRun}
-use Rattle.delivery_laws.specs.Once.{past_of}
+use Rattle.once_laws.specs.delivery_laws.Once.{past_of}
 use Rattle.customer_laws.specs.Concerns.{concerns}
 use Rattle.customer_laws.specs.Reported.{Reported, LiesInWindow, HasCounterpart}
 

@@ -1,19 +1,5 @@
-pub mod PlacedLemmas
-pub mod MarkingLemmas
-pub mod ExpiryLemmas
-pub mod FollowLemmas
-pub mod SetLemmas
-pub mod FateLemmas
-pub mod MarkedLemmas
-pub mod WayLemmas
-pub mod WindowLemmas
-pub mod StateLemmas
-pub mod InWindows
-pub mod AskLemmas
-pub mod DatagramLemmas
-pub mod ReceiverLemmas
-pub mod WalkLemmas
-pub mod NamedLemmas
-pub mod ReadLemmas
-pub mod VerdictLemmas
-pub mod MissingLemmas
+mod ExitLemmas
+mod FindingLemmas
+mod NamedLemmas
+mod ReadLemmas
+mod VerdictLemmas

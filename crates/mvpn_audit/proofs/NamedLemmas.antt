@@ -1,29 +1,33 @@
 -- Which offence an `out` line has, by the datagram that it names.
-use Rattle.std.specs.Prelude.{◌&&◌, nat_eq, nat_lt, option_map}
+use Rattle.std.specs.Prelude.{◌&&◌, nat_eq, nat_lt, is_some, option_map}
 use Rattle.std.proofs.Common.{◌≡◌, ℕ, zero, suc, ◌+◌, ◌<◌, ◌≤◌, Bool, true, false, not, cond, map, take, length, List, [], ◌∷◌, slice_get, Option, None, Some, refl, sym, ap, subst, ◌∙◌, arith}
 use Rattle.std.specs.Cmp.Lexicographic.{pointwise, bytes_decides}
 use Rattle.std.proofs.lemmas.Bool.{true≢false}
 use Rattle.std.proofs.lemmas.Option.{none-some, slice_get_within}
-use Rattle.scenario_defs.specs.Rules.{IsEventOf}
-use Rattle.mv_base.specs.declared.ids.IfaceId.{IfaceId}
-use Rattle.scenario_defs.specs.declared.event.Event.{Event}
-use Rattle.scenario_defs.specs.declared.event.Event.TheVariants as events
-use Rattle.scenario_defs.specs.declared.event.Timed.{Timed}
-use Rattle.mvpn_model.specs.Past.{receivers}
-use Rattle.mvpn_model.specs.Report.{Datagram, sent_by, datagrams}
-use Rattle.audit_defs.specs.declared.verdict.Offence.{Offence}
-use Rattle.audit_defs.specs.declared.verdict.Offence.TheVariants as offences
-use Rattle.audit_defs.specs.Offences.{named_before, site_admitted, InWindow, is_receiver}
-use Rattle.audit_defs.specs.Verdicts.{rank}
-use Rattle.audit_defs.proofs.Lists.{and_both, some_same, both_no, each_got}
-use Rattle.mvpn_audit.specs.declared.case.Case.{Case}
+use Rattle.audit_events.specs.scenario_defs.Rules.{IsEventOf}
+use Rattle.audit_events.specs.mv_base.declared.ids.IfaceId.{IfaceId}
+use Rattle.audit_events.specs.scenario_defs.declared.event.Event.{Event}
+use Rattle.audit_events.specs.scenario_defs.declared.event.Event.TheVariants as events
+use Rattle.audit_events.specs.scenario_defs.declared.event.Timed.{Timed}
+use Rattle.audit_events.specs.mvpn_model.Past.{receivers}
+use Rattle.audit_events.specs.mvpn_model.Report.{Datagram, sent_by, datagrams}
+use Rattle.audit_events.specs.audit_defs.declared.verdict.Offence.{Offence}
+use Rattle.audit_events.specs.audit_defs.declared.verdict.Offence.TheVariants as offences
+use Rattle.audit_events.specs.audit_defs.Offences.{named_before, site_admitted, InWindow, is_receiver}
+use Rattle.audit_events.specs.audit_defs.Verdicts.{rank}
+use Rattle.audit_events.proofs.audit_defs.Lists.{and_both, some_same, both_no, each_got}
+use Rattle.audit_events.specs.declared.case.Case.{Case}
+use Rattle.mvpn_audit.specs.declared.findings.Findings.{Findings}
+use Rattle.mvpn_audit.specs.declared.findings.Noted.{Noted}
 use Rattle.mvpn_audit.specs.declared.judging.Out.{Out}
-use Rattle.mvpn_audit.specs.declared.sents.Sent.{Sent}
-use Rattle.mvpn_audit.specs.Case.{scenario_of, events_of, audited_of, past_of, is_windowed, IsCase}
-use Rattle.mvpn_audit.specs.Judging.{IsShort, octets_sent, octets_at, sent_named, is_asked, fault_in, fault_by, fault_of, has_left, IsFaultOf}
-use Rattle.mvpn_audit.specs.Sents.{sent_of, sents_of}
-use Rattle.mvpn_audit.proofs.DatagramLemmas.{before, named_front, sent_there}
-use Rattle.mvpn_audit.proofs.InWindows.{window_bits, bits_window}
+use Rattle.audit_events.specs.declared.sents.Sent.{Sent}
+use Rattle.audit_events.specs.Case.{scenario_of, events_of, audited_of, past_of, is_windowed, IsCase}
+use Rattle.mvpn_audit.specs.Exits.{exit, has_out}
+use Rattle.mvpn_audit.specs.Findings.{noted_of, is_asked, is_asked_by, was_asked, AreFound}
+use Rattle.mvpn_audit.specs.Judging.{IsShort, octets_sent, octets_at, sent_named, noted_named, fault_in, fault_by, fault_of, is_asked_in, has_left, IsFaultOf}
+use Rattle.audit_events.specs.Sents.{sent_of, sents_of}
+use Rattle.audit_events.proofs.DatagramLemmas.{before, named_front, sent_there}
+use Rattle.audit_events.proofs.InWindows.{window_bits, bits_window}
 
 -- ---- datagrams and what is noted of them
 
@@ -110,14 +114,80 @@ module _ (case : Case) (is : IsCase case) where
       by (events.Send site source group payload) h = h.2
       by other h = tt
 
+  -- ---- what is found of the datagram that is named
+
+  noted_same : (sents : List Sent) (event number : ℕ) → noted_named (map noted_of sents) event number ≡ option_map noted_of (sent_named sents event number)
+  noted_same sents event zero = refl
+  noted_same sents event (suc place) =
+      ap (λ (o : Option Noted). elim o [ None ↦ None | Some noted ↦ cond (nat_lt noted.event event) (Some noted) None ]) (got_mapped noted_of sents place) ∙ by (slice_get sents place)
+    where
+      lifted : (b : Bool) (sent : Sent) → cond b (Some (noted_of sent)) None ≡ option_map noted_of (cond b (Some sent) None)
+      lifted true sent = refl
+      lifted false sent = refl
+
+      by : (o : Option Sent) → ◌≡◌ {A = Option Noted} (elim (option_map noted_of o) [ None ↦ None | Some noted ↦ cond (nat_lt noted.event event) (Some noted) None ])
+          (option_map noted_of (elim o [ None ↦ None | Some sent ↦ cond (nat_lt sent.event event) (Some sent) None ]))
+      by None = refl
+      by (Some sent) = lifted (nat_lt sent.event event) sent
+
+  named_asked : (sents : List Sent) (event number : ℕ) (iface : IfaceId) (sent : Sent) → sent_named sents event number ≡ Some sent → was_asked sents number iface ≡ is_asked_by sent iface
+  named_asked sents event zero iface sent e = absurd (none-some sent e)
+  named_asked sents event (suc place) iface sent e = by (slice_get sents place) e
+    where
+      by : (o : Option Sent) → ◌≡◌ {A = Option Sent} (elim o [ None ↦ None | Some own ↦ cond (nat_lt own.event event) (Some own) None ]) (Some sent) →
+          ◌≡◌ {A = Bool} (elim o [ None ↦ false | Some own ↦ is_asked_by own iface ]) (is_asked_by sent iface)
+      by None same = absurd (none-some sent same)
+      by (Some own) same = under (nat_lt own.event event) same
+        where
+          under : (b : Bool) → cond b (Some own) None ≡ Some sent → is_asked_by own iface ≡ is_asked_by sent iface
+          under true one = ap (λ (s : Sent). is_asked_by s iface) (some_same own sent one)
+          under false one = absurd (none-some sent one)
+
+  module _ (findings : Findings) (found : AreFound case.report.now.lines (sents_of case) findings) (out : Out) (said : has_out case.report.now.lines (exit out.number out.iface) ≡ true) where
+    noted_so : noted_named findings.noted out.event out.number ≡ option_map noted_of (sent_named (sents_of case) out.event out.number)
+    noted_so = ap (λ (l : List Noted). noted_named l out.event out.number) found.noted ∙ noted_same (sents_of case) out.event out.number
+
+    of_noted : (noted : Noted) → noted_named findings.noted out.event out.number ≡ Some noted →
+        (sent : Sent) × (sent_named (sents_of case) out.event out.number ≡ Some sent) × (noted_of sent ≡ noted)
+    of_noted noted e = mapped_some noted_of (sent_named (sents_of case) out.event out.number) noted (sym noted_so ∙ e)
+
+    pub noted_within : (noted : Noted) → noted_named findings.noted out.event out.number ≡ Some noted → noted.event < length (events_of case)
+    noted_within noted e =
+        let m = of_noted noted e in
+        let less = named_within out.event out.number m.0 m.1 in
+        let same = ap (λ (n : Noted). n.event) m.2 in
+        omega (arith, less, same)
+
+    asked_so : (sent : Sent) → sent_named (sents_of case) out.event out.number ≡ Some sent → is_asked_in findings.outs.exits (exit out.number out.iface) ≡ is_asked_by sent out.iface
+    asked_so sent e =
+        ap (λ (o : Option Bool). elim o [ None ↦ false | Some asked ↦ asked ])
+        (found.asked (exit out.number out.iface) ∙ ap (λ b. cond b (Some (was_asked (sents_of case) out.number out.iface)) None) said)
+        ∙ named_asked (sents_of case) out.event out.number out.iface sent e
+
+    -- The offence of an `out` line that names a datagram is that by what is noted of it.
+    pub fault_noted : (noted : Noted) → noted_named findings.noted out.event out.number ≡ Some noted → (asked earlier : Bool) → asked ≡ is_asked_in findings.outs.exits (exit out.number out.iface) →
+        fault_by case noted out asked earlier ≡ fault_of case out earlier
+    fault_noted noted e asked earlier same =
+        let m = of_noted noted e in
+        (λ i. fault_by case (sym m.2 i) out ((same ∙ asked_so m.0 m.1) i) earlier)
+        ∙ ap (λ (o : Option Sent). elim o [ None ↦ Some offences.Number | Some sent ↦ fault_by case (noted_of sent) out (is_asked_by sent out.iface) earlier ]) (sym m.1)
+
+    pub fault_unnamed : noted_named findings.noted out.event out.number ≡ None → (earlier : Bool) → Some offences.Number ≡ fault_of case out earlier
+    fault_unnamed e earlier = by (sent_named (sents_of case) out.event out.number) (sym noted_so ∙ e)
+      where
+        by : (o : Option Sent) → option_map noted_of o ≡ None →
+            ◌≡◌ {A = Option Offence} (Some offences.Number) (elim o [ None ↦ Some offences.Number | Some sent ↦ fault_by case (noted_of sent) out (is_asked_by sent out.iface) earlier ])
+        by None same = refl
+        by (Some sent) same = absurd (none-some (noted_of sent) (sym same))
+
   pub in_window : (datagram : Datagram) → is_windowed case datagram.event ≡ true → InWindow (audited_of case) datagram
   in_window datagram e =
       let both = and_both _ _ e in
-      bits_window case.script.now case.report.now case.marked.now is.rules.lines is.marked datagram both.0 both.1
+      bits_window case.script.now case.report.now case.marked is.rules.lines is.marked datagram both.0 both.1
 
   pub windowed : (datagram : Datagram) → InWindow (audited_of case) datagram → is_windowed case datagram.event ≡ true
   windowed datagram h =
-      let both = window_bits case.script.now case.report.now case.marked.now is.rules.lines is.marked datagram h in
+      let both = window_bits case.script.now case.report.now case.marked is.rules.lines is.marked datagram h in
       (λ i. both.0 i && both.1 i)
 
   -- ---- one `out` line
@@ -229,7 +299,7 @@ module _ (case : Case) (is : IsCase case) where
         asked_here = receivers (past_of case datagram.event) datagram.site datagram.source datagram.group
 
         says_in : (w e a : Bool) → is_windowed case datagram.event ≡ w → earlier ≡ e → is_receiver (audited_of case) datagram out.iface ≡ a →
-            Says (fault_in (cond w (Some asked_here) None) out.iface e)
+            Says (fault_in (is_some (cond w (Some asked_here) None)) (elim (cond w (Some asked_here) None) [ None ↦ false | Some asked ↦ is_asked asked out.iface ]) e)
         says_in false e a w d r = says_none (no_again w) (no_asked w)
         says_in true true a w d r = says_again w d
         says_in true false a w d r = by a r
@@ -239,26 +309,26 @@ module _ (case : Case) (is : IsCase case) where
             by false f = subst (λ b. Says (cond b None (Some offences.Asked))) (sym f) (says_asked w d f)
 
       says_by : (bytes admitted : Bool) → pointwise nat_eq out.bytes.now datagram.octets ≡ bytes → site_admitted (scenario_of case) out.iface datagram.site ≡ admitted →
-          Says (cond (not bytes) (Some offences.Bytes) (cond (not admitted) (Some offences.Admit) (fault_in (sent_of case datagram).asked out.iface earlier)))
+          Says (cond (not bytes) (Some offences.Bytes) (cond (not admitted) (Some offences.Admit) (fault_in (is_some (sent_of case datagram).asked) (is_asked_by (sent_of case datagram) out.iface) earlier)))
       says_by false admitted b a = says_bytes (λ same. true≢false (sym ((bytes_decides out.bytes.now datagram.octets).1 same) ∙ b))
       says_by true false b a = says_admit ((bytes_decides out.bytes.now datagram.octets).0 b) a
       says_by true true b a =
           says_in ((bytes_decides out.bytes.now datagram.octets).0 b) a (is_windowed case datagram.event) earlier (is_receiver (audited_of case) datagram out.iface) refl refl refl
 
-      says_named : (at : ℕ) → slice_get sent_list at ≡ Some datagram → Says (fault_by case (sent_of case datagram) out earlier)
+      says_named : (at : ℕ) → slice_get sent_list at ≡ Some datagram → Says (fault_by case (noted_of (sent_of case datagram)) out (is_asked_by (sent_of case datagram) out.iface) earlier)
       says_named at e =
           subst (λ (l : List ℕ). Says (cond (not (pointwise nat_eq out.bytes.now l)) (Some offences.Bytes)
-          (cond (not (site_admitted (scenario_of case) out.iface datagram.site)) (Some offences.Admit) (fault_in (sent_of case datagram).asked out.iface earlier)))) (sym (octets_are at datagram e))
+          (cond (not (site_admitted (scenario_of case) out.iface datagram.site)) (Some offences.Admit) (fault_in (is_some (sent_of case datagram).asked) (is_asked_by (sent_of case datagram) out.iface) earlier)))) (sym (octets_are at datagram e))
           (says_by (pointwise nat_eq out.bytes.now datagram.octets) (site_admitted (scenario_of case) out.iface datagram.site) refl refl)
 
     -- The offence of an `out` line is the first one of its offences.
     pub fault_says : Says (fault_of case out earlier)
     fault_says =
-        subst (λ (o : Option Sent). Says (elim o [ None ↦ Some offences.Number | Some sent ↦ fault_by case sent out earlier ])) (sym (named_sent out.event out.number))
+        subst (λ (o : Option Sent). Says (elim o [ None ↦ Some offences.Number | Some sent ↦ fault_by case (noted_of sent) out (is_asked_by sent out.iface) earlier ])) (sym (named_sent out.event out.number))
         (by (named_before (audited_of case) out.event out.number) refl)
       where
         by : (o : Option Datagram) → named_before (audited_of case) out.event out.number ≡ o →
-            Says (elim (option_map (sent_of case) o) [ None ↦ Some offences.Number | Some sent ↦ fault_by case sent out earlier ])
+            Says (elim (option_map (sent_of case) o) [ None ↦ Some offences.Number | Some sent ↦ fault_by case (noted_of sent) out (is_asked_by sent out.iface) earlier ])
         by None e = unnamed_least e
           where
             unnamed_least : named_before (audited_of case) out.event out.number ≡ None → Says (Some offences.Number)

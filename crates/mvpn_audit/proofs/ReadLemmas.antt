@@ -1,31 +1,30 @@
 -- The pass over the lines of a report, line by line.
-use Rattle.std.specs.Prelude.{◌||◌}
+use Rattle.std.specs.Prelude.{◌||◌, ◌&&◌}
+use Rattle.std.specs.List.{list_any}
 use Rattle.std.proofs.Common.{◌≡◌, ℕ, zero, suc, ◌+◌, ◌≤◌, Bool, true, false, cond, inl, inr, take, drop, length, List, [], ◌∷◌, slice_get, Option, None, Some, refl, sym, ap, subst, ◌∙◌, arith}
-use Rattle.std.proofs.lemmas.List.Folds.{list_any-append}
-use Rattle.std.proofs.lemmas.Option.{none-some}
-use Rattle.indexmap.specs.IndexSet.{contains}
-use Rattle.mv_base.specs.declared.ids.IfaceId.{IfaceId}
-use Rattle.scenario_defs.specs.declared.report.ReportLine.{ReportLine}
-use Rattle.scenario_defs.specs.declared.report.ReportLine.TheVariants as lines
-use Rattle.mvpn_model.specs.Report.{is_out_at}
-use Rattle.audit_defs.specs.declared.verdict.Numbered.{Numbered}
-use Rattle.audit_defs.specs.declared.verdict.Offence.{Offence}
-use Rattle.audit_defs.specs.Cut.{Given, Audited, give, next_of, places_after}
-use Rattle.audit_defs.specs.Markers.{is_marker}
-use Rattle.audit_defs.proofs.Lists.{some_same}
-use Rattle.mvpn_audit.specs.declared.case.Case.{Case}
-use Rattle.mvpn_audit.specs.declared.fate.Marked.{Marked}
-use Rattle.mvpn_audit.specs.declared.judging.Exit.{Exit}
+use Rattle.std.proofs.lemmas.Bool.{eq-eqb}
+use Rattle.std.proofs.lemmas.Option.{none-some, slice_get_within}
+use Rattle.audit_events.specs.mv_base.declared.ids.IfaceId.{IfaceId}
+use Rattle.audit_events.specs.scenario_defs.declared.report.ReportLine.{ReportLine}
+use Rattle.audit_events.specs.scenario_defs.declared.report.ReportLine.TheVariants as lines
+use Rattle.audit_events.specs.mvpn_model.Report.{is_out_at}
+use Rattle.audit_events.specs.audit_defs.declared.verdict.Numbered.{Numbered}
+use Rattle.audit_events.specs.audit_defs.declared.verdict.Offence.{Offence}
+use Rattle.audit_events.specs.audit_defs.Cut.{Given, Audited, give, next_of, places_after}
+use Rattle.audit_events.specs.audit_defs.Markers.{is_marker}
+use Rattle.audit_events.proofs.audit_defs.Lists.{some_same, got_any}
+use Rattle.audit_events.specs.declared.case.Case.{Case}
+use Rattle.audit_events.specs.declared.fate.Marked.{Marked}
 use Rattle.mvpn_audit.specs.declared.judging.Found.{Found}
 use Rattle.mvpn_audit.specs.declared.judging.Out.{Out}
 use Rattle.mvpn_audit.specs.declared.judging.Reading.{Reading}
-use Rattle.mvpn_audit.specs.Case.{events_of, audited_of, IsCase}
-use Rattle.mvpn_audit.specs.Judging.{is_exit, exit, has_left, IsFault, AreFaultless, IsFirstFault, IsFirst, first_after, fault_of, next_event, Leaves, Passes, IsRead}
-use Rattle.mvpn_audit.specs.Placed.{places_of}
-use Rattle.mvpn_audit.proofs.InWindows.{split}
+use Rattle.audit_events.specs.Case.{events_of, audited_of, IsCase}
+use Rattle.mvpn_audit.specs.Exits.{exit, says, has_out, is_repeat, AreRepeats}
+use Rattle.mvpn_audit.specs.Judging.{repeat_in, has_left, IsFault, AreFaultless, IsFirstFault, IsFirst, first_after, fault_of, next_event, Leaves, Passes, IsRead}
+use Rattle.audit_events.specs.Placed.{places_of}
+use Rattle.audit_events.proofs.InWindows.{split}
 use Rattle.mvpn_audit.proofs.NamedLemmas.{Says, fault_says}
-use Rattle.mvpn_audit.proofs.StateLemmas.{lines_are}
-use Rattle.mvpn_audit.proofs.WalkLemmas.{take_next}
+use Rattle.audit_events.proofs.StateLemmas.{lines_are}
 
 -- ---- lists
 
@@ -58,24 +57,28 @@ next_there end [] (suc n) = refl
 next_there end (mark ∷ marked) zero = refl
 next_there end (mark ∷ marked) (suc n) = next_there end marked n
 
-either : (b c : Bool) → cond b true c ≡ (c || b)
-either true true = refl
-either true false = refl
-either false true = refl
-either false false = refl
+-- ---- what lines say
 
-no_more : (b : Bool) → (b || false) ≡ b
-no_more true = refl
-no_more false = refl
+-- What lines say, once they are given to events.
+pub given_says : (test : ReportLine → Bool) (end : ℕ) (places : List ℕ) (all : List Numbered) (n : ℕ) →
+    list_any (λ (g : Given). test g.value) (take n (give end places all)) ≡ list_any (λ (line : Numbered). test line.value) (take n all)
+given_says test end places all zero = refl
+given_says test end places [] (suc n) = refl
+given_says test end places (line ∷ all) (suc n) = ap (λ b. test line.value || b) (given_says test end (places_after (is_marker line.value) places) all n)
 
--- ---- what has left
+-- A line that says an exit is among the lines.
+pub said_by : (all : List Numbered) (place : ℕ) (numbered : Numbered) → slice_get all place ≡ Some numbered → (number : ℕ) (iface : IfaceId) (octets : List ℕ) →
+    numbered.value ≡ lines.Out number iface octets → has_out all (exit number iface) ≡ true
+said_by all place numbered at number iface octets value =
+    got_any (λ (line : Numbered). says line.value (exit number iface)) all place numbered at
+    (ap (λ (v : ReportLine). says v (exit number iface)) value ∙ (λ i. eq-eqb number number refl i && eq-eqb iface.0 iface.0 refl i))
 
-left_next : (all : List Given) (n : ℕ) (given : Given) → slice_get all n ≡ Some given → (number : ℕ) (iface : IfaceId) →
-    has_left (take (suc n) all) number iface ≡ (has_left (take n all) number iface || is_out_at number iface given.value)
-left_next all n given e number iface =
-    ap (λ (l : List Given). has_left l number iface) (take_next all n given e)
-    ∙ (list_any-append (λ (g : Given). is_out_at number iface g.value) (take n all) (given ∷ [])
-    ∙ ap (λ b. has_left (take n all) number iface || b) (no_more (is_out_at number iface given.value)))
+-- Whether an `out` line repeats an earlier one.
+pub earlier_by : (all : List Numbered) (repeats : List Bool) → AreRepeats all (length all) repeats → (place : ℕ) (numbered : Numbered) → slice_get all place ≡ Some numbered →
+    (number : ℕ) (iface : IfaceId) (octets : List ℕ) → numbered.value ≡ lines.Out number iface octets → repeat_in repeats place ≡ has_out (take place all) (exit number iface)
+earlier_by all repeats are place numbered at number iface octets value =
+    ap (λ (o : Option Bool). elim o [ None ↦ false | Some repeat ↦ repeat ])
+    (are.each place numbered (slice_get_within all place numbered at) at ∙ ap (λ (v : ReportLine). Some (is_repeat (take place all) v)) value)
 
 -- ---- the first offence
 
@@ -110,15 +113,15 @@ module _ (case : Case) (is : IsCase case) (place : ℕ) (numbered : Numbered) (a
   all = (audited_of case).lines
 
   abbrev given_at : ℕ → Given
-  given_at passed = record { line = numbered.line; event = next_of (length (events_of case)) (drop passed (places_of case.marked.now)); value = numbered.value }
+  given_at passed = record { line = numbered.line; event = next_of (length (events_of case)) (drop passed (places_of case.marked)); value = numbered.value }
 
   rest_here : (reading : Reading) → IsRead case place reading →
       (slice_get all place ≡ Some (given_at reading.passed))
-      × (drop (suc place) all ≡ give (length (events_of case)) (places_after (is_marker numbered.value) (drop reading.passed (places_of case.marked.now))) (drop (suc place) case.report.now.lines))
+      × (drop (suc place) all ≡ give (length (events_of case)) (places_after (is_marker numbered.value) (drop reading.passed (places_of case.marked))) (drop (suc place) case.report.now.lines))
   rest_here reading read =
       here_dropped all place (given_at reading.passed)
-      (give (length (events_of case)) (places_after (is_marker numbered.value) (drop reading.passed (places_of case.marked.now))) (drop (suc place) case.report.now.lines))
-      (read.rest ∙ ap (give (length (events_of case)) (drop reading.passed (places_of case.marked.now))) (drop_here case.report.now.lines place numbered at))
+      (give (length (events_of case)) (places_after (is_marker numbered.value) (drop reading.passed (places_of case.marked))) (drop (suc place) case.report.now.lines))
+      (read.rest ∙ ap (give (length (events_of case)) (drop reading.passed (places_of case.marked))) (drop_here case.report.now.lines place numbered at))
 
   one_on : place + 1 ≡ suc place
   one_on = omega arith
@@ -126,8 +129,9 @@ module _ (case : Case) (is : IsCase case) (place : ℕ) (numbered : Numbered) (a
   -- ---- an `out` line
 
   module _ (number : ℕ) (iface : IfaceId) (octets : List ℕ) (value : numbered.value ≡ lines.Out number iface octets) (old new : Reading) (out : Out)
+      (earlier : Bool)
       (event_is : out.event ≡ next_event case old.passed) (number_is : out.number ≡ number) (iface_is : out.iface ≡ iface) (octets_is : out.bytes.now ≡ octets)
-      (leaves : Leaves case numbered.line out old new) (read : IsRead case place old) where
+      (earlier_is : earlier ≡ has_out (take place case.report.now.lines) (exit number iface)) (leaves : Leaves case numbered.line out earlier old new) (read : IsRead case place old) where
     abbrev given : Given
     given = given_at old.passed
 
@@ -135,7 +139,7 @@ module _ (case : Case) (is : IsCase case) (place : ℕ) (numbered : Numbered) (a
     given_there = (rest_here old read).0
 
     own_event : given.event ≡ out.event
-    own_event = next_there (length (events_of case)) case.marked.now old.passed ∙ sym event_is
+    own_event = next_there (length (events_of case)) case.marked old.passed ∙ sym event_is
 
     own_value : given.value ≡ lines.Out out.number out.iface out.bytes.now
     own_value = value ∙ (λ i. lines.Out (sym number_is i) (sym iface_is i) (sym octets_is i))
@@ -149,22 +153,18 @@ module _ (case : Case) (is : IsCase case) (place : ℕ) (numbered : Numbered) (a
     unmarked : is_marker numbered.value ≡ false
     unmarked = ap is_marker value
 
-    out_rest : drop (place + 1) all ≡ give (length (events_of case)) (drop new.passed (places_of case.marked.now)) (drop (place + 1) case.report.now.lines)
+    out_rest : drop (place + 1) all ≡ give (length (events_of case)) (drop new.passed (places_of case.marked)) (drop (place + 1) case.report.now.lines)
     out_rest =
         ap (λ n. drop n all) one_on
         ∙ ((rest_here old read).1
-        ∙ ((λ i. give (length (events_of case)) (places_after (unmarked i) (drop old.passed (places_of case.marked.now))) (drop (suc place) case.report.now.lines))
-        ∙ (λ i. give (length (events_of case)) (drop (sym leaves.passed i) (places_of case.marked.now)) (drop (sym one_on i) case.report.now.lines))))
+        ∙ ((λ i. give (length (events_of case)) (places_after (unmarked i) (drop old.passed (places_of case.marked))) (drop (suc place) case.report.now.lines))
+        ∙ (λ i. give (length (events_of case)) (drop (sym leaves.passed i) (places_of case.marked)) (drop (sym one_on i) case.report.now.lines))))
 
-    out_seen : (n : ℕ) (i : IfaceId) → contains is_exit new.exits (exit n i) ≡ has_left (take (place + 1) all) n i
-    out_seen n i =
-        leaves.exits (exit n i)
-        ∙ (either (is_exit (exit out.number out.iface) (exit n i)) (contains is_exit old.exits (exit n i))
-        ∙ (ap (λ b. b || is_out_at n i (lines.Out out.number out.iface out.bytes.now)) (read.seen n i)
-        ∙ (sym (left_next all place _ there n i) ∙ ap (λ k. has_left (take k all) n i) (sym one_on))))
-
-    earlier_is : contains is_exit old.exits (exit out.number out.iface) ≡ has_left (take place all) out.number out.iface
-    earlier_is = read.seen out.number out.iface
+    earlier_left : earlier ≡ has_left (take place all) out.number out.iface
+    earlier_left =
+        earlier_is
+        ∙ ((λ i. has_out (take place case.report.now.lines) (exit (sym number_is i) (sym iface_is i)))
+        ∙ sym (given_says (λ (v : ReportLine). is_out_at out.number out.iface v) _ _ case.report.now.lines place))
 
     first_so : (o : Option Found) → IsFirst (audited_of case) place o → IsFirst (audited_of case) (suc place) (first_after case numbered.line out (has_left (take place all) out.number out.iface) o)
     first_so (Some found) f = first_later (audited_of case) place found f
@@ -185,9 +185,8 @@ module _ (case : Case) (is : IsCase case) (place : ℕ) (numbered : Numbered) (a
     pub out_read : IsRead case (place + 1) new
     out_read = record {
       rest = out_rest;
-      seen = out_seen;
       first = subst (λ n. IsFirst (audited_of case) n new.first) (sym one_on)
-          (subst (IsFirst (audited_of case) (suc place)) (sym (leaves.first ∙ ap (λ b. first_after case numbered.line out b old.first) earlier_is)) (first_so old.first read.first));
+          (subst (IsFirst (audited_of case) (suc place)) (sym (leaves.first ∙ ap (λ b. first_after case numbered.line out b old.first) earlier_left)) (first_so old.first read.first));
       few = (let same = leaves.passed in let few = read.few in omega (arith, same, few));
     }
 
@@ -195,10 +194,6 @@ module _ (case : Case) (is : IsCase case) (place : ℕ) (numbered : Numbered) (a
 
   module _ (isnt : (number : ℕ) (iface : IfaceId) (octets : List ℕ) → numbered.value ≡ lines.Out number iface octets → ⊥) (old new : Reading)
       (passes : Passes numbered.value old new) (read : IsRead case place old) where
-    no_out : (value : ReportLine) → numbered.value ≡ value → (n : ℕ) (i : IfaceId) → is_out_at n i value ≡ false
-    no_out (lines.Out number iface octets) e n i = absurd (isnt number iface octets e)
-    no_out other e n i = refl
-
     no_fault : (value : ReportLine) → numbered.value ≡ value → (event : ℕ) (reason : Offence) → IsFault (audited_of case) place (record { line = numbered.line; event = event; value = value }) reason → ⊥
     no_fault (lines.Out number iface octets) e event reason h = isnt number iface octets e
     no_fault other e event reason h = h
@@ -206,11 +201,11 @@ module _ (case : Case) (is : IsCase case) (place : ℕ) (numbered : Numbered) (a
     pass_there : slice_get all place ≡ Some (given_at old.passed)
     pass_there = (rest_here old read).0
 
-    places_on : (b : Bool) → is_marker numbered.value ≡ b → places_after b (drop old.passed (places_of case.marked.now)) ≡ drop new.passed (places_of case.marked.now)
+    places_on : (b : Bool) → is_marker numbered.value ≡ b → places_after b (drop old.passed (places_of case.marked)) ≡ drop new.passed (places_of case.marked)
     places_on true is =
-        after_one (places_of case.marked.now) old.passed
-        ∙ ap (λ n. drop n (places_of case.marked.now)) ((let next : suc old.passed ≡ old.passed + 1 = omega arith in next) ∙ sym (passes.passed ∙ ap (λ b. cond b (old.passed + 1) old.passed) is))
-    places_on false is = ap (λ n. drop n (places_of case.marked.now)) (sym (passes.passed ∙ ap (λ b. cond b (old.passed + 1) old.passed) is))
+        after_one (places_of case.marked) old.passed
+        ∙ ap (λ n. drop n (places_of case.marked)) ((let next : suc old.passed ≡ old.passed + 1 = omega arith in next) ∙ sym (passes.passed ∙ ap (λ b. cond b (old.passed + 1) old.passed) is))
+    places_on false is = ap (λ n. drop n (places_of case.marked)) (sym (passes.passed ∙ ap (λ b. cond b (old.passed + 1) old.passed) is))
 
     passed_few : (b : Bool) → is_marker numbered.value ≡ b → new.passed ≤ place + 1
     passed_few true is = (let same = passes.passed ∙ ap (λ b. cond b (old.passed + 1) old.passed) is in let few = read.few in omega (arith, same, few))
@@ -222,24 +217,17 @@ module _ (case : Case) (is : IsCase case) (place : ℕ) (numbered : Numbered) (a
           ap (λ n. drop n all) one_on
           ∙ ((rest_here old read).1
           ∙ (λ i. give (length (events_of case)) (places_on (is_marker numbered.value) refl i) (drop (sym one_on i) case.report.now.lines)));
-      seen = λ n i.
-          (λ k. contains is_exit (passes.exits k) (exit n i))
-          ∙ (read.seen n i
-          ∙ (sym (no_more (has_left (take place all) n i))
-          ∙ (ap (λ b. has_left (take place all) n i || b) (sym (no_out numbered.value refl n i))
-          ∙ (sym (left_next all place (given_at old.passed) pass_there n i) ∙ ap (λ k. has_left (take k all) n i) (sym one_on)))));
       first = subst (λ n. IsFirst (audited_of case) n new.first) (sym one_on)
           (subst (IsFirst (audited_of case) (suc place)) (sym passes.first)
-          (other_first (audited_of case) place (given_at old.passed) pass_there (λ reason h. no_fault numbered.value refl (next_of (length (events_of case)) (drop old.passed (places_of case.marked.now))) reason h) old.first read.first));
+          (other_first (audited_of case) place (given_at old.passed) pass_there (λ reason h. no_fault numbered.value refl (next_of (length (events_of case)) (drop old.passed (places_of case.marked))) reason h) old.first read.first));
       few = passed_few (is_marker numbered.value) refl;
     }
 
 -- ---- at first
 
-pub nothing_read : (case : Case) → IsCase case → (reading : Reading) → reading.passed ≡ 0 → ((own : Exit) → contains is_exit reading.exits own ≡ false) → reading.first ≡ None → IsRead case 0 reading
-nothing_read case is reading passed none first = record {
-  rest = lines_are case.script.now case.report.now case.marked.now is.marked ∙ ap (λ n. give (length (events_of case)) (drop n (places_of case.marked.now)) case.report.now.lines) (sym passed);
-  seen = λ n i. none (exit n i);
+pub nothing_read : (case : Case) → IsCase case → (reading : Reading) → reading.passed ≡ 0 → reading.first ≡ None → IsRead case 0 reading
+nothing_read case is reading passed first = record {
+  rest = lines_are case.script.now case.report.now case.marked is.marked ∙ ap (λ n. give (length (events_of case)) (drop n (places_of case.marked)) case.report.now.lines) (sym passed);
   first = subst (IsFirst (audited_of case) 0) (sym first) (λ place given reason less at h. absurd (let low = less in omega (arith, low)));
   few = (let e = passed in omega (arith, e));
 }

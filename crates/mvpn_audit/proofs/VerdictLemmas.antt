@@ -1,42 +1,43 @@
 -- The least offence of a report whose markers fit.
 use Rattle.std.specs.Prelude.{◌||◌, ◌==◌, count_by, option_map}
-use Rattle.std.proofs.Common.{◌≡◌, ℕ, zero, suc, ◌+◌, ◌<◌, ◌≤◌, ◌⊎◌, Bool, true, false, not, cond, inl, inr, map, take, drop, length, List, [], ◌∷◌, slice_get, Option, None, Some, refl, sym, ap, subst, ◌∙◌, arith}
+use Rattle.std.proofs.Common.{◌≡◌, ℕ, zero, suc, ◌+◌, ◌<◌, ◌≤◌, ◌⊎◌, Bool, true, false, not, cond, inl, inr, map, take, length, List, [], ◌∷◌, slice_get, Option, None, Some, refl, sym, ap, subst, ◌∙◌, arith}
 use Rattle.std.specs.List.{list_any}
 use Rattle.std.proofs.lemmas.Bool.{true≢false, eq-eqb, eqb-true}
 use Rattle.std.proofs.lemmas.List.Sums.{sum_by-cons}
 use Rattle.std.proofs.lemmas.Option.{none-some, slice_get_within}
-use Rattle.indexmap.specs.IndexSet.{contains}
-use Rattle.mv_base.specs.declared.ids.IfaceId.{IfaceId}
-use Rattle.scenario_defs.specs.Rules.{Rises}
-use Rattle.scenario_defs.specs.declared.event.Timed.{Timed}
-use Rattle.scenario_defs.specs.declared.report.ReportLine.{ReportLine}
-use Rattle.scenario_defs.specs.declared.report.ReportLine.TheVariants as lines
-use Rattle.mvpn_model.specs.Past.{receivers}
-use Rattle.mvpn_model.specs.Report.{Datagram, lines_of, is_out_at, outs_at}
-use Rattle.audit_defs.specs.declared.verdict.Numbered.{Numbered}
-use Rattle.audit_defs.specs.declared.verdict.Offence.{Offence}
-use Rattle.audit_defs.specs.declared.verdict.Offence.TheVariants as offences
-use Rattle.audit_defs.specs.Cut.{Given, Audited, give, places_after, entry_of, cut}
-use Rattle.audit_defs.specs.Markers.{values, markers, fit, begin, is_marker}
-use Rattle.audit_defs.specs.Offences.{OutLine, OutOf, EarlierOut, IsMissing}
-use Rattle.audit_defs.specs.Verdicts.{is_halt, Offends, HasNoOffence, IsLeast, rank}
-use Rattle.audit_defs.proofs.Fitting.{begins_to_fit}
-use Rattle.audit_defs.proofs.Lists.{some_same, both_no, any_got, got_any, got_map}
-use Rattle.mvpn_audit.specs.declared.case.Case.{Case}
+use Rattle.audit_events.specs.mv_base.declared.ids.IfaceId.{IfaceId}
+use Rattle.audit_events.specs.scenario_defs.Rules.{Rises}
+use Rattle.audit_events.specs.scenario_defs.declared.event.Timed.{Timed}
+use Rattle.audit_events.specs.scenario_defs.declared.report.ReportLine.{ReportLine}
+use Rattle.audit_events.specs.scenario_defs.declared.report.ReportLine.TheVariants as lines
+use Rattle.audit_events.specs.mvpn_model.Past.{receivers}
+use Rattle.audit_events.specs.mvpn_model.Report.{Datagram, lines_of, is_out_at, outs_at}
+use Rattle.audit_events.specs.audit_defs.declared.verdict.Numbered.{Numbered}
+use Rattle.audit_events.specs.audit_defs.declared.verdict.Offence.{Offence}
+use Rattle.audit_events.specs.audit_defs.declared.verdict.Offence.TheVariants as offences
+use Rattle.audit_events.specs.audit_defs.Cut.{Given, Audited, give, places_after, entry_of, cut}
+use Rattle.audit_events.specs.audit_defs.Markers.{values, markers, fit, begin, is_marker}
+use Rattle.audit_events.specs.audit_defs.Offences.{OutLine, OutOf, EarlierOut, IsMissing}
+use Rattle.audit_events.specs.audit_defs.Verdicts.{is_halt, Offends, HasNoOffence, IsLeast, rank}
+use Rattle.audit_events.proofs.audit_defs.Fitting.{begins_to_fit}
+use Rattle.audit_events.proofs.audit_defs.Lists.{some_same, both_no, any_got, got_any, got_map}
+use Rattle.audit_events.specs.declared.case.Case.{Case}
+use Rattle.mvpn_audit.specs.declared.findings.Findings.{Findings}
 use Rattle.mvpn_audit.specs.declared.judging.Found.{Found}
 use Rattle.mvpn_audit.specs.declared.judging.Reading.{Reading}
-use Rattle.mvpn_audit.specs.declared.sents.Sent.{Sent}
-use Rattle.mvpn_audit.specs.Case.{events_of, audited_of, past_of, is_windowed, IsCase}
-use Rattle.mvpn_audit.specs.Judging.{is_exit, exit, has_left, IsFaultOf, IsFaultAt, IsFault, AreFaultless, IsFirstFault, IsFirst, IsRead}
-use Rattle.mvpn_audit.specs.Marking.{last_line}
+use Rattle.audit_events.specs.declared.sents.Sent.{Sent}
+use Rattle.audit_events.specs.Case.{events_of, audited_of, past_of, is_windowed, IsCase}
+use Rattle.mvpn_audit.specs.Exits.{exit, has_out}
+use Rattle.mvpn_audit.specs.Judging.{has_left, IsFaultOf, IsFaultAt, IsFault, AreFaultless, IsFirstFault, IsFirst, IsRead}
+use Rattle.audit_events.specs.Marking.{last_line}
+use Rattle.mvpn_audit.specs.Findings.{AreFound}
 use Rattle.mvpn_audit.specs.Missing.{has_not_left, lacks, is_missing, line_in, FirstMissing, IsMissed}
-use Rattle.mvpn_audit.specs.Sents.{sent_of, sents_of}
-use Rattle.mvpn_audit.proofs.DatagramLemmas.{sent_there, in_order}
-use Rattle.mvpn_audit.proofs.FateLemmas.{got_above}
-use Rattle.mvpn_audit.proofs.InWindows.{got_front, front_got}
-use Rattle.mvpn_audit.proofs.MarkingLemmas.{Order, Before, Same, After, order, rise_above, rise_between}
+use Rattle.audit_events.specs.Sents.{sent_of, sents_of}
+use Rattle.audit_events.proofs.DatagramLemmas.{sent_there, in_order}
+use Rattle.audit_events.proofs.FateLemmas.{got_above}
+use Rattle.audit_events.proofs.InWindows.{got_front, front_got}
+use Rattle.audit_events.proofs.MarkingLemmas.{Order, Before, Same, After, order, rise_above, rise_between}
 use Rattle.mvpn_audit.proofs.NamedLemmas.{got_mapped, sent_list, in_window, windowed}
-use Rattle.mvpn_audit.proofs.ReadLemmas.{whole_taken}
 
 -- ---- lines of events, and of the report
 
@@ -184,185 +185,189 @@ module _ (case : Case) (is : IsCase case) where
 
   -- ---- datagrams that are missing
 
-  module _ (reading : Reading) (read : IsRead case (length case.report.now.lines) reading) where
-    all_taken : take (length case.report.now.lines) a.lines ≡ a.lines
-    all_taken = whole_taken a.lines (length case.report.now.lines) (read.rest ∙ ap (give (length (events_of case)) (drop reading.passed _)) (dropped case.report.now.lines))
-      where
-        dropped : {X : Type 0} (xs : List X) → drop (length xs) xs ≡ []
-        dropped [] = refl
-        dropped (x ∷ xs) = dropped xs
+  abbrev reported : List Numbered
+  reported = case.report.now.lines
 
-    seen_all : (number : ℕ) (iface : IfaceId) → contains is_exit reading.exits (exit number iface) ≡ list_any (λ (g : Given). is_out_at number iface g.value) a.lines
-    seen_all number iface = read.seen number iface ∙ ap (λ (l : List Given). has_left l number iface) all_taken
+  out_there : (number : ℕ) (iface : IfaceId) → has_out reported (exit number iface) ≡ list_any (λ (g : Given). is_out_at number iface g.value) a.lines
+  out_there number iface = sym (all_say (λ (v : ReportLine). is_out_at number iface v) _ _ reported)
+    where
+      -- what all lines say, once they are given to events
+      all_say : (test : ReportLine → Bool) (end : ℕ) (places : List ℕ) (all : List Numbered) →
+          list_any (λ (g : Given). test g.value) (give end places all) ≡ list_any (λ (line : Numbered). test line.value) all
+      all_say test end places [] = refl
+      all_say test end places (line ∷ all) = ap (λ b. test line.value || b) (all_say test end (places_after (is_marker line.value) places) all)
 
-    not_seen : (number : ℕ) (iface : IfaceId) → has_not_left reading.exits number iface ≡ true → outs_at (cut a) number iface ≡ 0
-    not_seen number iface h =
-        none_counted number iface a.lines (sym (seen_all number iface) ∙ negated (contains is_exit reading.exits (exit number iface)) h)
-      where
-        negated : (b : Bool) → not b ≡ true → b ≡ false
-        negated true e = absurd (true≢false (sym e))
-        negated false e = refl
+  not_said : (number : ℕ) (iface : IfaceId) → has_not_left reported number iface ≡ true → outs_at (cut a) number iface ≡ 0
+  not_said number iface h = none_counted number iface a.lines (sym (out_there number iface) ∙ negated (has_out reported (exit number iface)) h)
+    where
+      negated : (b : Bool) → not b ≡ true → b ≡ false
+      negated true e = absurd (true≢false (sym e))
+      negated false e = refl
 
-    seen_not : (number : ℕ) (iface : IfaceId) → outs_at (cut a) number iface ≡ 0 → has_not_left reading.exits number iface ≡ true
-    seen_not number iface none = by (contains is_exit reading.exits (exit number iface)) refl
-      where
-        by : (b : Bool) → contains is_exit reading.exits (exit number iface) ≡ b → not b ≡ true
-        by true e = absurd (one_counted number iface a.lines (sym (seen_all number iface) ∙ e) none)
-        by false e = refl
+  said_not : (number : ℕ) (iface : IfaceId) → outs_at (cut a) number iface ≡ 0 → has_not_left reported number iface ≡ true
+  said_not number iface none = by (has_out reported (exit number iface)) refl
+    where
+      by : (b : Bool) → has_out reported (exit number iface) ≡ b → not b ≡ true
+      by true e = absurd (one_counted number iface a.lines (sym (out_there number iface) ∙ e) none)
+      by false e = refl
 
-    abbrev asked_of : Datagram → List IfaceId
-    asked_of datagram = receivers (past_of case datagram.event) datagram.site datagram.source datagram.group
+  abbrev asked_of : Datagram → List IfaceId
+  asked_of datagram = receivers (past_of case datagram.event) datagram.site datagram.source datagram.group
 
-    missing_by : (datagram : Datagram) (number : ℕ) (w : Bool) → is_windowed case datagram.event ≡ w → ◌≡◌ {A = Bool} (elim (cond w (Some (asked_of datagram)) None) [ None ↦ false | Some asked ↦ lacks reading.exits number asked ]) true →
-        (is_windowed case datagram.event ≡ true) × (lacks reading.exits number (asked_of datagram) ≡ true)
-    missing_by datagram number true w e = (w, e)
-    missing_by datagram number false w e = absurd (true≢false (sym e))
+  missing_by : (datagram : Datagram) (number : ℕ) (w : Bool) → is_windowed case datagram.event ≡ w → ◌≡◌ {A = Bool} (elim (cond w (Some (asked_of datagram)) None) [ None ↦ false | Some asked ↦ lacks reported number asked ]) true →
+      (is_windowed case datagram.event ≡ true) × (lacks reported number (asked_of datagram) ≡ true)
+  missing_by datagram number true w e = (w, e)
+  missing_by datagram number false w e = absurd (true≢false (sym e))
 
-    -- a datagram that lacks a receiver is missing
-    missing_is : (place : ℕ) (datagram : Datagram) (timed : Timed) → slice_get (sent_list case is) place ≡ Some datagram → slice_get (events_of case) datagram.event ≡ Some timed →
-        is_missing reading.exits (place + 1) (sent_of case datagram) ≡ true → IsMissing a timed.line
-    missing_is place datagram timed at event h =
-        let both = missing_by datagram (place + 1) (is_windowed case datagram.event) refl h in
-        let r = any_got (has_not_left reading.exits (place + 1)) (asked_of datagram) both.1 in
-        record {
-          place = place;
-          datagram = datagram;
-          accepted = at;
-          timed = timed;
-          sent = event;
-          of_line = refl;
-          in_window = in_window case is datagram both.0;
-          iface = r.1;
-          asked = got_any (λ (receiver : IfaceId). receiver.0 == r.1.0) (asked_of datagram) r.0 r.1 r.2 (same_number r.1.0);
-          none = not_seen (place + 1) r.1 r.3;
-        }
-      where
-        same_number : (n : ℕ) → (n == n) ≡ true
-        same_number n = eq-eqb n n refl
+  -- a datagram that lacks a receiver is missing
+  missing_is : (place : ℕ) (datagram : Datagram) (timed : Timed) → slice_get (sent_list case is) place ≡ Some datagram → slice_get (events_of case) datagram.event ≡ Some timed →
+      is_missing reported (place + 1) (sent_of case datagram) ≡ true → IsMissing a timed.line
+  missing_is place datagram timed at event h =
+      let both = missing_by datagram (place + 1) (is_windowed case datagram.event) refl h in
+      let r = any_got (has_not_left reported (place + 1)) (asked_of datagram) both.1 in
+      record {
+        place = place;
+        datagram = datagram;
+        accepted = at;
+        timed = timed;
+        sent = event;
+        of_line = refl;
+        in_window = in_window case is datagram both.0;
+        iface = r.1;
+        asked = got_any (λ (receiver : IfaceId). receiver.0 == r.1.0) (asked_of datagram) r.0 r.1 r.2 (same_number r.1.0);
+        none = not_said (place + 1) r.1 r.3;
+      }
+    where
+      same_number : (n : ℕ) → (n == n) ≡ true
+      same_number n = eq-eqb n n refl
 
-    -- a datagram that is missing lacks a receiver
-    is_missing_so : (line : ℕ) (m : IsMissing a line) → is_missing reading.exits (m.place + 1) (sent_of case m.datagram) ≡ true
-    is_missing_so line m =
-        ap (λ b. elim (cond b (Some (asked_of m.datagram)) None) [ None ↦ false | Some asked ↦ lacks reading.exits (m.place + 1) asked ]) (windowed case is m.datagram m.in_window)
-        ∙ (let r = any_got (λ (receiver : IfaceId). receiver.0 == m.iface.0) (asked_of m.datagram) m.asked in
-        got_any (has_not_left reading.exits (m.place + 1)) (asked_of m.datagram) r.0 r.1 r.2
-        (seen_not (m.place + 1) r.1 (ap (λ (n : ℕ). outs_at (cut a) (m.place + 1) (record { 0 = n })) (eqb-true r.1.0 m.iface.0 r.3) ∙ m.none)))
+  -- a datagram that is missing lacks a receiver
+  is_missing_so : (line : ℕ) (m : IsMissing a line) → is_missing reported (m.place + 1) (sent_of case m.datagram) ≡ true
+  is_missing_so line m =
+      ap (λ b. elim (cond b (Some (asked_of m.datagram)) None) [ None ↦ false | Some asked ↦ lacks reported (m.place + 1) asked ]) (windowed case is m.datagram m.in_window)
+      ∙ (let r = any_got (λ (receiver : IfaceId). receiver.0 == m.iface.0) (asked_of m.datagram) m.asked in
+      got_any (has_not_left reported (m.place + 1)) (asked_of m.datagram) r.0 r.1 r.2
+      (said_not (m.place + 1) r.1 (ap (λ (n : ℕ). outs_at (cut a) (m.place + 1) (record { 0 = n })) (eqb-true r.1.0 m.iface.0 r.3) ∙ m.none)))
 
-    noted_at : (place : ℕ) (datagram : Datagram) → slice_get (sent_list case is) place ≡ Some datagram → slice_get (sents_of case) place ≡ Some (sent_of case datagram)
-    noted_at place datagram e = got_mapped (sent_of case) (sent_list case is) place ∙ ap (λ (o : Option Datagram). option_map (sent_of case) o) e
+  noted_at : (place : ℕ) (datagram : Datagram) → slice_get (sent_list case is) place ≡ Some datagram → slice_get (sents_of case) place ≡ Some (sent_of case datagram)
+  noted_at place datagram e = got_mapped (sent_of case) (sent_list case is) place ∙ ap (λ (o : Option Datagram). option_map (sent_of case) o) e
 
-    -- ---- verdicts
+  -- ---- verdicts
 
-    pub none_verdict : IsMissed reading.exits (sents_of case) None → reading.first ≡ None → HasNoOffence case.script.now case.report.now
-    none_verdict missed first line reason h = by (source_of line reason h)
-      where
-        clean : AreFaultless a (length case.report.now.lines)
-        clean = subst (IsFirst a (length case.report.now.lines)) first read.first
+  none_verdict : IsMissed reported (sents_of case) None → (reading : Reading) → IsRead case (length reported) reading → reading.first ≡ None → HasNoOffence case.script.now case.report.now
+  none_verdict missed reading read first line reason h = by (source_of line reason h)
+    where
+      clean : AreFaultless a (length case.report.now.lines)
+      clean = subst (IsFirst a (length case.report.now.lines)) first read.first
 
-        by : Source line reason → ⊥
-        by (AtLine place given at of_line fault) =
-            let x = given_line _ _ case.report.now.lines place given at in
-            clean place given reason (slice_get_within case.report.now.lines place x.0 x.1) at fault
-        by (AtEvent missing same) =
-            true≢false (sym (is_missing_so line missing) ∙ missed missing.place (sent_of case missing.datagram) (noted_at missing.place missing.datagram missing.accepted))
+      by : Source line reason → ⊥
+      by (AtLine place given at of_line fault) =
+          let x = given_line _ _ case.report.now.lines place given at in
+          clean place given reason (slice_get_within case.report.now.lines place x.0 x.1) at fault
+      by (AtEvent missing same) =
+          true≢false (sym (is_missing_so line missing) ∙ missed missing.place (sent_of case missing.datagram) (noted_at missing.place missing.datagram missing.accepted))
 
-    pub first_verdict : IsMissed reading.exits (sents_of case) None → (found : Found) → reading.first ≡ Some found → IsLeast case.script.now case.report.now found.line found.reason
-    first_verdict missed found first = record {
-      offends = subst (λ n. Offends case.script.now case.report.now n found.reason) f.of_line (offends_by f.place f.given.line f.given.event f.given.value found.reason f.at f.is.fault);
-      least = least;
-    }
-      where
-        f : IsFirstFault a (length case.report.now.lines) found
-        f = subst (IsFirst a (length case.report.now.lines)) first read.first
+  first_verdict : IsMissed reported (sents_of case) None → (reading : Reading) → IsRead case (length reported) reading → (found : Found) → reading.first ≡ Some found → IsLeast case.script.now case.report.now found.line found.reason
+  first_verdict missed reading read found first = record {
+    offends = subst (λ n. Offends case.script.now case.report.now n found.reason) f.of_line (offends_by f.place f.given.line f.given.event f.given.value found.reason f.at f.is.fault);
+    least = least;
+  }
+    where
+      f : IsFirstFault a (length case.report.now.lines) found
+      f = subst (IsFirst a (length case.report.now.lines)) first read.first
 
-        by : (other : ℕ) (another : Offence) → Source other another → (found.line < other) ⊎ ((found.line ≡ other) × (rank found.reason ≤ rank another))
-        by other another (AtEvent missing same) =
-            absurd (true≢false (sym (is_missing_so other missing) ∙ missed missing.place (sent_of case missing.datagram) (noted_at missing.place missing.datagram missing.accepted)))
-        by other another (AtLine place given at of_line fault) = elim (order f.place place) [
-          | Before less ↦ (let line = given_before f.place place f.given given less f.at at in let p = f.of_line in inl (omega (arith, line, p, of_line)))
-          | Same same ↦
-              let one : given ≡ f.given = some_same given f.given (sym at ∙ (ap (slice_get a.lines) (sym same) ∙ f.at)) in
-              inr (
-                sym f.of_line ∙ (ap (λ (g : Given). g.line) (sym one) ∙ of_line),
-                f.is.least another (subst (λ (g : Given). IsFault a f.place g another) one (subst (λ k. IsFault a k given another) (sym same) fault)),
-              )
-          | After more ↦ absurd (f.before place given another more at fault)
-        ]
+      by : (other : ℕ) (another : Offence) → Source other another → (found.line < other) ⊎ ((found.line ≡ other) × (rank found.reason ≤ rank another))
+      by other another (AtEvent missing same) =
+          absurd (true≢false (sym (is_missing_so other missing) ∙ missed missing.place (sent_of case missing.datagram) (noted_at missing.place missing.datagram missing.accepted)))
+      by other another (AtLine place given at of_line fault) = elim (order f.place place) [
+        | Before less ↦ (let line = given_before f.place place f.given given less f.at at in let p = f.of_line in inl (omega (arith, line, p, of_line)))
+        | Same same ↦
+            let one : given ≡ f.given = some_same given f.given (sym at ∙ (ap (slice_get a.lines) (sym same) ∙ f.at)) in
+            inr (
+              sym f.of_line ∙ (ap (λ (g : Given). g.line) (sym one) ∙ of_line),
+              f.is.least another (subst (λ (g : Given). IsFault a f.place g another) one (subst (λ k. IsFault a k given another) (sym same) fault)),
+            )
+        | After more ↦ absurd (f.before place given another more at fault)
+      ]
 
-        least : (other : ℕ) (another : Offence) → Offends case.script.now case.report.now other another → (found.line < other) ⊎ ((found.line ≡ other) × (rank found.reason ≤ rank another))
-        least other another h = by other another (source_of other another h)
+      least : (other : ℕ) (another : Offence) → Offends case.script.now case.report.now other another → (found.line < other) ⊎ ((found.line ≡ other) × (rank found.reason ≤ rank another))
+      least other another h = by other another (source_of other another h)
 
-    -- the datagram that is noted at a place
-    datagram_at : (place : ℕ) (sent : Sent) → slice_get (sents_of case) place ≡ Some sent → (datagram : Datagram) × (slice_get (sent_list case is) place ≡ Some datagram) × (sent_of case datagram ≡ sent)
-    datagram_at place sent e = by (slice_get (sent_list case is) place) refl (sym (got_mapped (sent_of case) (sent_list case is) place) ∙ e)
-      where
-        by : (o : Option Datagram) → slice_get (sent_list case is) place ≡ o → option_map (sent_of case) o ≡ Some sent → (datagram : Datagram) × (slice_get (sent_list case is) place ≡ Some datagram) × (sent_of case datagram ≡ sent)
-        by None at same = absurd (none-some sent same)
-        by (Some datagram) at same = (datagram, at, some_same (sent_of case datagram) sent same)
+  -- the datagram that is noted at a place
+  datagram_at : (place : ℕ) (sent : Sent) → slice_get (sents_of case) place ≡ Some sent → (datagram : Datagram) × (slice_get (sent_list case is) place ≡ Some datagram) × (sent_of case datagram ≡ sent)
+  datagram_at place sent e = by (slice_get (sent_list case is) place) refl (sym (got_mapped (sent_of case) (sent_list case is) place) ∙ e)
+    where
+      by : (o : Option Datagram) → slice_get (sent_list case is) place ≡ o → option_map (sent_of case) o ≡ Some sent → (datagram : Datagram) × (slice_get (sent_list case is) place ≡ Some datagram) × (sent_of case datagram ≡ sent)
+      by None at same = absurd (none-some sent same)
+      by (Some datagram) at same = (datagram, at, some_same (sent_of case datagram) sent same)
 
-    -- the event of a datagram
-    event_at : (place : ℕ) (datagram : Datagram) → slice_get (sent_list case is) place ≡ Some datagram → (timed : Timed) × (slice_get (events_of case) datagram.event ≡ Some timed)
-    event_at place datagram e =
-        let r = sent_there a.refused 0 (events_of case) place datagram e in
-        (r.timed, ap (slice_get (events_of case)) (let there = r.there in let same : datagram.event ≡ r.offset = omega (arith, there) in same) ∙ r.at)
+  -- the event of a datagram
+  event_at : (place : ℕ) (datagram : Datagram) → slice_get (sent_list case is) place ≡ Some datagram → (timed : Timed) × (slice_get (events_of case) datagram.event ≡ Some timed)
+  event_at place datagram e =
+      let r = sent_there a.refused 0 (events_of case) place datagram e in
+      (r.timed, ap (slice_get (events_of case)) (let there = r.there in let same : datagram.event ≡ r.offset = omega (arith, there) in same) ∙ r.at)
 
-    pub missing_event : (event : ℕ) → FirstMissing reading.exits (sents_of case) event → (timed : Timed) × (slice_get (events_of case) event ≡ Some timed)
-    missing_event event m =
-        let d = datagram_at m.place m.sent m.at in
-        let t = event_at m.place d.0 d.1 in
-        (t.0, ap (slice_get (events_of case)) (sym (ap (λ (s : Sent). s.event) d.2 ∙ m.of_event)) ∙ t.1)
+  missing_event : (event : ℕ) → FirstMissing reported (sents_of case) event → (timed : Timed) × (slice_get (events_of case) event ≡ Some timed)
+  missing_event event m =
+      let d = datagram_at m.place m.sent m.at in
+      let t = event_at m.place d.0 d.1 in
+      (t.0, ap (slice_get (events_of case)) (sym (ap (λ (s : Sent). s.event) d.2 ∙ m.of_event)) ∙ t.1)
 
-    pub missing_verdict : (event : ℕ) → FirstMissing reading.exits (sents_of case) event → (timed : Timed) → slice_get (events_of case) event ≡ Some timed →
-        IsLeast case.script.now case.report.now timed.line offences.Missing
-    missing_verdict event m timed e = record {
-      offends = (
-        is.marked.judged,
-        missing_is m.place d.0 timed d.1 at_event (ap (is_missing reading.exits (m.place + 1)) d.2 ∙ m.is),
-      );
-      least = λ other another h. by other another (source_of other another h);
-    }
-      where
-        d : (datagram : Datagram) × (slice_get (sent_list case is) m.place ≡ Some datagram) × (sent_of case datagram ≡ m.sent)
-        d = datagram_at m.place m.sent m.at
+  missing_verdict : (event : ℕ) → FirstMissing reported (sents_of case) event → (timed : Timed) → slice_get (events_of case) event ≡ Some timed →
+      IsLeast case.script.now case.report.now timed.line offences.Missing
+  missing_verdict event m timed e = record {
+    offends = (
+      is.marked.judged,
+      missing_is m.place d.0 timed d.1 at_event (ap (is_missing reported (m.place + 1)) d.2 ∙ m.is),
+    );
+    least = λ other another h. by other another (source_of other another h);
+  }
+    where
+      d : (datagram : Datagram) × (slice_get (sent_list case is) m.place ≡ Some datagram) × (sent_of case datagram ≡ m.sent)
+      d = datagram_at m.place m.sent m.at
 
-        own_event : d.0.event ≡ event
-        own_event = ap (λ (s : Sent). s.event) d.2 ∙ m.of_event
+      own_event : d.0.event ≡ event
+      own_event = ap (λ (s : Sent). s.event) d.2 ∙ m.of_event
 
-        at_event : slice_get (events_of case) d.0.event ≡ Some timed
-        at_event = ap (slice_get (events_of case)) own_event ∙ e
+      at_event : slice_get (events_of case) d.0.event ≡ Some timed
+      at_event = ap (slice_get (events_of case)) own_event ∙ e
 
-        others : (other : ℕ) (missing : IsMissing a other) → Order m.place missing.place → (timed.line < other) ⊎ ((timed.line ≡ other) × (rank offences.Missing ≤ rank offences.Missing))
-        others other missing (Before less) =
-            let later = in_order a.refused 0 (events_of case) m.place missing.place d.0 missing.datagram less d.1 missing.accepted in
-            let line = later_event 0 (events_of case) is.rules.lines d.0.event missing.datagram.event timed missing.timed later at_event missing.sent in
-            let of = missing.of_line in
-            inl (omega (arith, line, of))
-        others other missing (Same same) =
-            let one : d.0 ≡ missing.datagram = some_same d.0 missing.datagram (sym d.1 ∙ (ap (slice_get (sent_list case is)) same ∙ missing.accepted)) in
-            let own : timed ≡ missing.timed = some_same timed missing.timed (sym at_event ∙ (ap (λ (g : Datagram). slice_get (events_of case) g.event) one ∙ missing.sent)) in
-            inr (ap (λ (t : Timed). t.line) own ∙ missing.of_line, omega arith)
-        others other missing (After more) =
-            absurd (true≢false (sym (is_missing_so other missing) ∙ m.before missing.place (sent_of case missing.datagram) more (noted_at missing.place missing.datagram missing.accepted)))
+      others : (other : ℕ) (missing : IsMissing a other) → Order m.place missing.place → (timed.line < other) ⊎ ((timed.line ≡ other) × (rank offences.Missing ≤ rank offences.Missing))
+      others other missing (Before less) =
+          let later = in_order a.refused 0 (events_of case) m.place missing.place d.0 missing.datagram less d.1 missing.accepted in
+          let line = later_event 0 (events_of case) is.rules.lines d.0.event missing.datagram.event timed missing.timed later at_event missing.sent in
+          let of = missing.of_line in
+          inl (omega (arith, line, of))
+      others other missing (Same same) =
+          let one : d.0 ≡ missing.datagram = some_same d.0 missing.datagram (sym d.1 ∙ (ap (slice_get (sent_list case is)) same ∙ missing.accepted)) in
+          let own : timed ≡ missing.timed = some_same timed missing.timed (sym at_event ∙ (ap (λ (g : Datagram). slice_get (events_of case) g.event) one ∙ missing.sent)) in
+          inr (ap (λ (t : Timed). t.line) own ∙ missing.of_line, omega arith)
+      others other missing (After more) =
+          absurd (true≢false (sym (is_missing_so other missing) ∙ m.before missing.place (sent_of case missing.datagram) more (noted_at missing.place missing.datagram missing.accepted)))
 
-        by : (other : ℕ) (another : Offence) → Source other another → (timed.line < other) ⊎ ((timed.line ≡ other) × (rank offences.Missing ≤ rank another))
-        by other another (AtLine place given at of_line fault) = (let less = event_before event timed place given e at in inl (omega (arith, less, of_line)))
-        by other another (AtEvent missing same) =
-            subst (λ (r : Offence). (timed.line < other) ⊎ ((timed.line ≡ other) × (rank offences.Missing ≤ rank r))) (sym same) (others other missing (order m.place missing.place))
+      by : (other : ℕ) (another : Offence) → Source other another → (timed.line < other) ⊎ ((timed.line ≡ other) × (rank offences.Missing ≤ rank another))
+      by other another (AtLine place given at of_line fault) = (let less = event_before event timed place given e at in inl (omega (arith, less, of_line)))
+      by other another (AtEvent missing same) =
+          subst (λ (r : Offence). (timed.line < other) ⊎ ((timed.line ≡ other) × (rank offences.Missing ≤ rank r))) (sym same) (others other missing (order m.place missing.place))
 
-    -- ---- what is answered
+  -- ---- what is answered
 
-    pub missing_answer : (sents : List Sent) → sents ≡ sents_of case → (event : ℕ) → IsMissed reading.exits sents (Some event) → (line : ℕ) → line ≡ line_in (events_of case) event →
-        IsLeast case.script.now case.report.now line offences.Missing
-    missing_answer sents same event missed line e =
-        let m : FirstMissing reading.exits (sents_of case) event = subst (λ (l : List Sent). FirstMissing reading.exits l event) same missed in
-        let t = missing_event event m in
-        subst (λ n. IsLeast case.script.now case.report.now n offences.Missing)
-        (sym (e ∙ ap (λ (o : Option Timed). elim o [ None ↦ 0 | Some timed ↦ timed.line ]) t.1))
-        (missing_verdict event m t.0 t.1)
+  pub missing_answer : (findings : Findings) → AreFound reported (sents_of case) findings → (event : ℕ) → findings.missing ≡ Some event → (line : ℕ) → line ≡ line_in (events_of case) event →
+      IsLeast case.script.now case.report.now line offences.Missing
+  missing_answer findings found event missing line e =
+      let m : FirstMissing reported (sents_of case) event = subst (λ (o : Option ℕ). IsMissed reported (sents_of case) o) missing found.missing in
+      let t = missing_event event m in
+      subst (λ n. IsLeast case.script.now case.report.now n offences.Missing)
+      (sym (e ∙ ap (λ (o : Option Timed). elim o [ None ↦ 0 | Some timed ↦ timed.line ]) t.1))
+      (missing_verdict event m t.0 t.1)
 
-    pub first_answer : (sents : List Sent) → sents ≡ sents_of case → IsMissed reading.exits sents None → (found : Found) → reading.first ≡ Some found →
-        IsLeast case.script.now case.report.now found.line found.reason
-    first_answer sents same missed found first = first_verdict (subst (λ (l : List Sent). IsMissed reading.exits l None) same missed) found first
+  none_missing : (findings : Findings) → AreFound reported (sents_of case) findings → findings.missing ≡ None → IsMissed reported (sents_of case) None
+  none_missing findings found none = subst (λ (o : Option ℕ). IsMissed reported (sents_of case) o) none found.missing
 
-    pub none_answer : (sents : List Sent) → sents ≡ sents_of case → IsMissed reading.exits sents None → reading.first ≡ None → HasNoOffence case.script.now case.report.now
-    none_answer sents same missed first = none_verdict (subst (λ (l : List Sent). IsMissed reading.exits l None) same missed) first
+  pub first_answer : (findings : Findings) → AreFound reported (sents_of case) findings → findings.missing ≡ None → (reading : Reading) → IsRead case (length reported) reading →
+      (found : Found) → reading.first ≡ Some found → IsLeast case.script.now case.report.now found.line found.reason
+  first_answer findings are none reading read found first = first_verdict (none_missing findings are none) reading read found first
+
+  pub none_answer : (findings : Findings) → AreFound reported (sents_of case) findings → findings.missing ≡ None → (reading : Reading) → IsRead case (length reported) reading →
+      reading.first ≡ None → HasNoOffence case.script.now case.report.now
+  none_answer findings are none reading read first = none_verdict (none_missing findings are none) reading read first

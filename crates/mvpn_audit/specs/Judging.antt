@@ -1,40 +1,40 @@
 -- The offences of `out` lines, by the datagrams that were accepted.
-use Rattle.std.specs.Prelude.{◌≡◌, ◌≢◌, ℕ, zero, suc, ◌+◌, ◌<◌, ◌≤◌, ◌==◌, ◌||◌, nat_lt, nat_eq, Bool, true, false, not, List, [], take, drop, length}
+use Rattle.std.specs.Prelude.{◌≡◌, ◌≢◌, ℕ, zero, suc, ◌+◌, ◌<◌, ◌≤◌, ◌||◌, nat_lt, nat_eq, Bool, true, false, not, List, [], take, drop, length}
 use Rattle.std.specs.Prelude.{slice_get, Option, None, Some, if◌then◌else◌}
 use Rattle.std.specs.List.{list_any}
-use Rattle.std.specs.declared.hash.FoldHasher.{FoldHasher}
-use Rattle.std.specs.declared.hash.BuildHasherDefault.{BuildHasherDefault}
 use Rattle.std.specs.Cmp.Lexicographic.{pointwise}
-use Rattle.indexmap.specs.IndexSet.{IndexSet, contains}
-use Rattle.mv_base.specs.declared.ids.IfaceId.{IfaceId}
-use Rattle.mv_base.specs.declared.ids.SiteId.{SiteId}
-use Rattle.scenario_defs.specs.declared.event.Event.{Event}
-use Rattle.scenario_defs.specs.declared.event.Event.TheVariants as events
-use Rattle.scenario_defs.specs.declared.event.Timed.{Timed}
-use Rattle.scenario_defs.specs.declared.report.ReportLine.{ReportLine}
-use Rattle.scenario_defs.specs.declared.report.ReportLine.TheVariants as lines
-use Rattle.scenario_defs.specs.declared.scenario.Iface.{Iface}
-use Rattle.scenario_defs.specs.declared.scenario.Scenario.{Scenario}
-use Rattle.scenario_defs.specs.Rules.{payload_limit}
-use Rattle.scenario_defs.specs.Vpn.{is_of_site}
-use Rattle.mvpn_model.specs.Packet.{packet}
-use Rattle.mvpn_model.specs.Report.{Datagram, is_out_at}
-use Rattle.audit_defs.specs.declared.verdict.Offence.{Offence}
-use Rattle.audit_defs.specs.declared.verdict.Offence.TheVariants as offences
-use Rattle.audit_defs.specs.Cut.{Given, Audited, give}
-use Rattle.audit_defs.specs.Offences.{iface_admits, site_admitted, named_before, InWindow, is_receiver}
-use Rattle.audit_defs.specs.Markers.{is_marker}
-use Rattle.audit_defs.specs.Verdicts.{rank}
-use Rattle.mvpn_audit.specs.contracts.judging.ExitPartialEq.TheImpl as exits_equal
-use Rattle.mvpn_audit.specs.declared.case.Case.{Case}
-use Rattle.mvpn_audit.specs.declared.judging.Exit.{Exit}
+use Rattle.indexmap.specs.IndexMap.{get}
+use Rattle.audit_events.specs.mv_base.declared.ids.IfaceId.{IfaceId}
+use Rattle.audit_events.specs.mv_base.declared.ids.SiteId.{SiteId}
+use Rattle.audit_events.specs.scenario_defs.declared.event.Event.{Event}
+use Rattle.audit_events.specs.scenario_defs.declared.event.Event.TheVariants as events
+use Rattle.audit_events.specs.scenario_defs.declared.event.Timed.{Timed}
+use Rattle.audit_events.specs.scenario_defs.declared.report.ReportLine.{ReportLine}
+use Rattle.audit_events.specs.scenario_defs.declared.report.ReportLine.TheVariants as lines
+use Rattle.audit_events.specs.scenario_defs.declared.scenario.Iface.{Iface}
+use Rattle.audit_events.specs.scenario_defs.declared.scenario.Scenario.{Scenario}
+use Rattle.audit_events.specs.scenario_defs.Rules.{payload_limit}
+use Rattle.audit_events.specs.scenario_defs.Vpn.{is_of_site}
+use Rattle.audit_events.specs.mvpn_model.Packet.{packet}
+use Rattle.audit_events.specs.mvpn_model.Report.{Datagram, is_out_at}
+use Rattle.audit_events.specs.audit_defs.declared.verdict.Offence.{Offence}
+use Rattle.audit_events.specs.audit_defs.declared.verdict.Offence.TheVariants as offences
+use Rattle.audit_events.specs.audit_defs.Cut.{Given, Audited, give}
+use Rattle.audit_events.specs.audit_defs.Offences.{iface_admits, site_admitted, named_before, InWindow, is_receiver}
+use Rattle.audit_events.specs.audit_defs.Markers.{is_marker}
+use Rattle.audit_events.specs.audit_defs.Verdicts.{rank}
+use Rattle.audit_events.specs.declared.case.Case.{Case}
+use Rattle.mvpn_audit.specs.declared.findings.Noted.{Noted}
 use Rattle.mvpn_audit.specs.declared.judging.Found.{Found}
 use Rattle.mvpn_audit.specs.declared.judging.Out.{Out}
 use Rattle.mvpn_audit.specs.declared.judging.Reading.{Reading}
-use Rattle.mvpn_audit.specs.declared.sents.Sent.{Sent}
-use Rattle.mvpn_audit.specs.Case.{scenario_of, events_of, audited_of}
-use Rattle.mvpn_audit.specs.Placed.{places_of}
-use Rattle.mvpn_audit.specs.Sents.{sents_of}
+use Rattle.audit_events.specs.declared.sents.Sent.{Sent}
+use Rattle.mvpn_audit.specs.declared.exits.Exit.{Exit}
+use Rattle.mvpn_audit.specs.Exits.{ExitMap, is_exit}
+use Rattle.mvpn_audit.specs.Findings.{noted_of, is_asked_by}
+use Rattle.audit_events.specs.Case.{scenario_of, events_of, audited_of}
+use Rattle.audit_events.specs.Placed.{places_of}
+use Rattle.audit_events.specs.Sents.{sents_of}
 
 -- whether the other interface is of another site, or its VRF is admitted by that of the interface
 abbrev pub is_let_out : Scenario → IfaceId → SiteId → Iface → Bool
@@ -67,42 +67,43 @@ sent_named sents event (suc place) = elim (slice_get sents place) [
   | Some sent ↦ if nat_lt sent.event event then Some sent else None
 ]
 
--- whether the interface is one of these
-abbrev pub is_asked : List IfaceId → IfaceId → Bool
-is_asked asked iface = list_any (λ receiver. receiver.0 == iface.0) asked
+-- the same, of what is noted of datagrams
+abbrev pub noted_named : List Noted → ℕ → ℕ → Option Noted
+noted_named all event zero = None
+noted_named all event (suc place) = elim (slice_get all place) [
+  | None ↦ None
+  | Some noted ↦ if nat_lt noted.event event then Some noted else None
+]
 
--- the offence of a datagram that leaves at the interface, by its receivers, where it is of a window
-abbrev pub fault_in : Option (List IfaceId) → IfaceId → Bool → Option Offence
-fault_in None iface earlier = None
-fault_in (Some asked) iface earlier =
-    if earlier then Some offences.Again else
-    if is_asked asked iface then None else Some offences.Asked
+-- The offence of a datagram that leaves at an interface: whether it is of a window, whether the interface is one of its
+-- receivers, and whether it left there before.
+abbrev pub fault_in : Bool → Bool → Bool → Option Offence
+fault_in false asked earlier = None
+fault_in true asked earlier = if earlier then Some offences.Again else if asked then None else Some offences.Asked
 
 -- the same of an `out` line that names the datagram
-abbrev pub fault_by : Case → Sent → Out → Bool → Option Offence
-fault_by case sent out earlier =
-    if not (pointwise nat_eq out.bytes.now (octets_at (events_of case) sent.event)) then Some offences.Bytes else
-    if not (site_admitted (scenario_of case) out.iface sent.site) then Some offences.Admit else
-    fault_in sent.asked out.iface earlier
+abbrev pub fault_by : Case → Noted → Out → Bool → Bool → Option Offence
+fault_by case noted out asked earlier =
+    if not (pointwise nat_eq out.bytes.now (octets_at (events_of case) noted.event)) then Some offences.Bytes else
+    if not (site_admitted (scenario_of case) out.iface noted.site) then Some offences.Admit else
+    fault_in noted.windowed asked earlier
 
 -- the offence of an `out` line, by whether an earlier one has its number and interface
 abbrev pub fault_of : Case → Out → Bool → Option Offence
 fault_of case out earlier = elim (sent_named (sents_of case) out.event out.number) [
   | None ↦ Some offences.Number
-  | Some sent ↦ fault_by case sent out earlier
+  | Some sent ↦ fault_by case (noted_of sent) out (is_asked_by sent out.iface) earlier
 ]
 
 -- ---- what the lines so far offend against
 
--- whether both are one, as `==` tells it
-abbrev pub is_exit : Exit → Exit → Bool
-is_exit = exits_equal.ghosts.eq
+-- whether the line of that place repeats an earlier one
+abbrev pub repeat_in : List Bool → ℕ → Bool
+repeat_in repeats place = elim (slice_get repeats place) [ None ↦ false | Some repeat ↦ repeat ]
 
-abbrev pub exit : ℕ → IfaceId → Exit
-exit number iface = record { number = number; iface = iface }
-
-abbrev pub ExitSet : Type 0
-ExitSet = IndexSet Exit (BuildHasherDefault FoldHasher)
+-- whether the datagram is noted as asked for there
+abbrev pub is_asked_in : ExitMap → Exit → Bool
+is_asked_in exits own = elim (get is_exit exits own) [ None ↦ false | Some asked ↦ asked ]
 
 -- whether one of the lines says that the datagram of that number left at the interface
 abbrev pub has_left : List Given → ℕ → IfaceId → Bool
@@ -157,7 +158,7 @@ abbrev pub IsFirst : Audited → ℕ → Option Found → Type 0
 IsFirst audited count None = AreFaultless audited count
 IsFirst audited count (Some found) = IsFirstFault audited count found
 
--- the first offence behind an `out` line, by the one before it, and by whether an earlier line has the number and interface
+-- the first offence after an `out` line, by the one before it, and by whether an earlier line has the number and interface
 abbrev pub first_after : Case → ℕ → Out → Bool → Option Found → Option Found
 first_after case line out earlier (Some found) = Some found
 first_after case line out earlier None = elim (fault_of case out earlier) [
@@ -165,30 +166,24 @@ first_after case line out earlier None = elim (fault_of case out earlier) [
   | Some reason ↦ Some (record { line = line; reason = reason })
 ]
 
--- the event of the next marker behind that many
+-- the event of the next marker after that many
 abbrev pub next_event : Case → ℕ → ℕ
-next_event case passed = elim (slice_get case.marked.now passed) [ None ↦ length (events_of case) | Some mark ↦ mark.place ]
+next_event case passed = elim (slice_get case.marked passed) [ None ↦ length (events_of case) | Some mark ↦ mark.place ]
 
 -- An `out` line is taken.
-pub record Leaves (case : Case) (line : ℕ) (out : Out) (old new : Reading) : Type 0 where
+pub record Leaves (case : Case) (line : ℕ) (out : Out) (earlier : Bool) (old new : Reading) : Type 0 where
   pub passed : new.passed ≡ old.passed
-  pub exits : (own : Exit) → contains is_exit new.exits own ≡
-      (if is_exit (exit out.number out.iface) own then true else contains is_exit old.exits own)
-  pub first : new.first ≡ first_after case line out (contains is_exit old.exits (exit out.number out.iface)) old.first
+  pub first : new.first ≡ first_after case line out earlier old.first
 
 -- Another line is taken.
 pub record Passes (value : ReportLine) (old new : Reading) : Type 0 where
   pub passed : new.passed ≡ (if is_marker value then old.passed + 1 else old.passed)
-  pub exits : new.exits ≡ old.exits
   pub first : new.first ≡ old.first
 
 -- What is known after that many lines of the report is what they say.
 pub record IsRead (case : Case) (count : ℕ) (reading : Reading) : Type 0 where
   pub rest :
       drop count (audited_of case).lines ≡
-      give (length (events_of case)) (drop reading.passed (places_of case.marked.now)) (drop count case.report.now.lines)
-  pub seen :
-      (number : ℕ) (iface : IfaceId) →
-      contains is_exit reading.exits (exit number iface) ≡ has_left (take count (audited_of case).lines) number iface
+      give (length (events_of case)) (drop reading.passed (places_of case.marked)) (drop count case.report.now.lines)
   pub first : IsFirst (audited_of case) count reading.first
   pub few : reading.passed ≤ count

@@ -1,10 +1,5 @@
-pub mod Placed
-pub mod Marking
-pub mod Joined
-pub mod Fates
-pub mod Vpns
-pub mod Receivers
-pub mod Case
-pub mod Sents
-pub mod Judging
+pub use Rattle.audit_events.specs.Marking
+pub mod Exits
 pub mod Missing
+pub mod Findings
+pub mod Judging

@@ -1,14 +1,14 @@
 //! Which sites' datagrams may leave at an interface.
 ghost use Rattle.std.specs.Prelude.{◌≡◌, ◌&&◌};
 ghost use Rattle.std.specs.List.{list_any, list_all};
-ghost use Rattle.mv_base.specs.route_targets.Targets.{has, shares};
-ghost use Rattle.scenario_defs.specs.Vpn.{targets_of, admits, is_of_site};
-ghost use Rattle.audit_defs.specs.Offences.{iface_admits, site_admitted};
+ghost use Rattle.audit_events.specs.mv_base.route_targets.Targets.{has, shares};
+ghost use Rattle.audit_events.specs.scenario_defs.Vpn.{targets_of, admits, is_of_site};
+ghost use Rattle.audit_events.specs.audit_defs.Offences.{iface_admits, site_admitted};
 ghost use Rattle.mvpn_audit.specs.Judging.{is_let_out};
 
-use mv_base::route_targets::Target;
-use mv_base::{IfaceId, SiteId, VrfId};
-use scenario_defs::{Iface, Scenario};
+use audit_events::of_mv_base::route_targets::Target;
+use audit_events::of_mv_base::{IfaceId, SiteId, VrfId};
+use audit_events::of_scenario_defs::{Iface, Scenario};
 
 /// The Route Targets of a VRF, none where there is no such VRF.
 fn targets_of(scenario: &Scenario, vrf: VrfId) -> &[Target]

@@ -4,8 +4,8 @@ ghost use Rattle.std.specs.Cmp.Lexicographic.{pointwise};
 ghost use Rattle.mvpn_audit.specs.Judging.{IsShort, octets_sent};
 
 use crate::packet::packet;
-use mv_base::NoMemory;
-use scenario_defs::Event;
+use audit_events::of_mv_base::NoMemory;
+use audit_events::of_scenario_defs::Event;
 use std::alloc::Global;
 
 fn is_same(own: &[u8], other: &[u8]) -> bool

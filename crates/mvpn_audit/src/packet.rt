@@ -1,9 +1,9 @@
 //! The packet that a send makes (RFC 791 section 3.1, RFC 8200 section 3).
 ghost use Rattle.std.specs.Prelude.{◌≡◌, ◌++◌, ◌+◌, ◌<◌, ◌^◌, length, IfOk};
-ghost use Rattle.label_forwarding.specs.Written.{four_header, four_written, six_written};
-ghost use Rattle.mvpn_model.specs.Packet.{packet};
+ghost use Rattle.audit_events.specs.label_forwarding.Written.{four_header, four_written, six_written};
+ghost use Rattle.audit_events.specs.mvpn_model.Packet.{packet};
 
-use mv_base::{Addr, Bytes, NoMemory, Seq, ones_sum};
+use audit_events::of_mv_base::{Addr, Bytes, NoMemory, Seq, ones_sum};
 use std::alloc::Global;
 
 const FOUR_HEADER_LEN: usize = 20;

@@ -1,5 +1,0 @@
-use Rattle.mvpn_audit.specs.Marking.{IsOnWay}
-use Rattle.mvpn_audit.proofs.markers.mark.Given as goal
-
-abbrev pub invariant-loop-numbered : goal.invariant-loop-numbered
-invariant-loop-numbered l = IsOnWay l.script l.report l.numbered-index l.marked l.next

@@ -1,6 +1,0 @@
-use Rattle.std.proofs.Common.{◌≡◌, drop}
-use Rattle.mvpn_audit.specs.Placed.{found}
-use Rattle.mvpn_audit.proofs.markers.next_marked.Given as goal
-
-abbrev pub invariant-loop-place : goal.invariant-loop-place
-invariant-loop-place l = found l.line l.from (drop l.from l.events) ≡ found l.line l.place (drop l.place l.events)

@@ -1,6 +1,0 @@
-use Rattle.std.proofs.Common.{◌≡◌, ◌++◌, drop}
-use Rattle.scenario_defs.specs.Home.{routes_of_site}
-use Rattle.mvpn_audit.proofs.vpns.add_routes.Given as goal
-
-abbrev pub invariant-loop-prefix : goal.invariant-loop-prefix
-invariant-loop-prefix l = l.routes ++ routes_of_site l.site (drop l.prefix-index l.prefixes) ≡ l.initial.routes ++ routes_of_site l.site l.prefixes

@@ -1,6 +1,0 @@
-use Rattle.std.proofs.Common.{◌≡◌, ◌++◌, drop}
-use Rattle.mvpn_audit.specs.Vpns.{vpns_from}
-use Rattle.mvpn_audit.proofs.vpns.vpns.Given as goal
-
-abbrev pub invariant-loop-number : goal.invariant-loop-number
-invariant-loop-number l = l.all ++ vpns_from l.scenario l.number (drop l.number l.vrfs) ≡ vpns_from l.scenario 0 l.vrfs

@@ -11,14 +11,14 @@ use Rattle.line_words.specs.declared.fault.Reason.TheVariants as reasons
 use Rattle.line_words.specs.declared.fault.TextFault.{TextFault}
 use Rattle.line_words.specs.declared.words.Row.{Row}
 use Rattle.line_words.specs.Forms.{fault, ◌>>=◌}
+use Rattle.line_words.specs.Lines.{is_blank, is_outside, row_of, words_in}
 use Rattle.line_words.specs.Words.{Placed, placed, words_of}
 use Rattle.scenario_defs.specs.declared.event.Script.{Script}
 use Rattle.scenario_lines.specs.declared.scenario_draft.line.Line.{Line}
-use Rattle.scenario_lines.specs.declared.scenario_draft.line.Line.TheVariants as says
 use Rattle.scenario_lines.specs.scenario_draft.Drafted.{Drafted}
 use Rattle.scenario_lines.specs.scenario_draft.Adding.{added}
 use Rattle.scenario_lines.specs.ScenarioGrammar.{scenario_line, scenario_word}
-use Rattle.scenario_text.specs.Grammar.{is_blank, is_outside, line_of, row_of, script_from, words_line}
+use Rattle.scenario_text.specs.Grammar.{line_of, script_from, words_line}
 use Rattle.scenario_text.specs.event_lines.EventGrammar.{event_line, event_word}
 use Rattle.audit_text.specs.Texts.{is_ended, is_mark}
 
@@ -105,18 +105,18 @@ no_words draft row column = by draft.begun
     by false = no_scenario draft row column
 
 -- whatever is tried first
-no_line : (blank long : Bool) (outside : Option ℕ) (first : TextFault) (other : ℕ → TextFault) (words : Result Line TextFault) (wrong : TextFault) (said : Line) → blank ≡ false → words ≡ Err wrong →
-    cond blank (Ok says.Blank) (cond long (Err first) (elim outside [ Some place ↦ Err (other place) | None ↦ words ])) ≡ Ok said → ⊥
-no_line true long outside first other words wrong said b w e = absurd cc
-no_line false true outside first other words wrong said b w e = absurd cc
-no_line false false (Some place) first other words wrong said b w e = absurd cc
-no_line false false None first other words wrong said b w e = absurd cc
+no_line : (blank long : Bool) (outside : Option ℕ) (first : TextFault) (other : ℕ → TextFault) (words : List Placed) (next : List Placed → Result Line TextFault) (wrong : TextFault) (said : Line) → blank ≡ false → next words ≡ Err wrong →
+    (cond blank (Ok []) (cond long (Err first) (elim outside [ Some place ↦ Err (other place) | None ↦ Ok words ])) >>= next) ≡ Ok said → ⊥
+no_line true long outside first other words next wrong said b w e = absurd cc
+no_line false true outside first other words next wrong said b w e = absurd cc
+no_line false false (Some place) first other words next wrong said b w e = absurd cc
+no_line false false None first other words next wrong said b w e = absurd cc
 
 pub mark_no_line : (draft : Drafted) (number : ℕ) (line : List ℕ) (said : Line) → is_mark line ≡ true → line_of draft number line ≡ Ok said → ⊥
-unfolding line_of words_of
+unfolding line_of words_in words_of
 mark_no_line draft number line said h e =
     let word = mark_placed 1 line h in
-    no_line (is_blank line) (nat_lt 4096 (length line)) (position is_outside line) _ (λ place. record { line = number; column = place + 1; reason = reasons.Byte }) (words_line draft (row_of number line) (words_of line)) _ said
+    no_line (is_blank line) (nat_lt 4096 (length line)) (position is_outside line) _ (λ place. record { line = number; column = place + 1; reason = reasons.Byte }) (words_of line) (words_line draft (row_of number line)) _ said
     (mark_not_blank line h) (ap (words_line draft (row_of number line)) word.1 ∙ no_words draft (row_of number line) word.0) e
 
 -- Lines that say something have no line `report` among them.

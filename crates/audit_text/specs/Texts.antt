@@ -1,7 +1,7 @@
 -- What a text says that `audit` reads: a scenario and its script, the line `report`, and the lines of a report; and its first fault.
 use Rattle.std.specs.Prelude.{◌≡◌, ℕ, ◌+◌, ◌<◌, ◌≤◌, ◌==◌, ◌&&◌, Bool, true, false, nat_eq, List, [], ◌∷◌, ◌++◌, length, take, drop, codes}
 use Rattle.std.specs.Prelude.{Ok, Err, Result, if◌then◌else◌, ⊤}
-use Rattle.std.specs.List.{flat_map, list_all, list_any}
+use Rattle.std.specs.List.{flat_map, list_any}
 use Rattle.std.specs.Cmp.Lexicographic.{pointwise}
 use Rattle.std.specs.Str.Lines.{lines}
 use Rattle.scenario_defs.specs.Text.{IsLineOf, line_text}
@@ -13,6 +13,7 @@ use Rattle.line_words.specs.declared.fault.Reason.TheVariants as reasons
 use Rattle.line_words.specs.declared.fault.ReadFault.{ReadFault}
 use Rattle.line_words.specs.declared.fault.ReadFault.TheVariants as faults
 use Rattle.line_words.specs.declared.fault.TextFault.{TextFault}
+use Rattle.line_words.specs.Lines.{are_spaces}
 use Rattle.report_text.specs.report_lines.Bounds.{HasTypeBounds}
 use Rattle.scenario_lines.specs.scenario_draft.Adding.{empty_draft}
 use Rattle.scenario_text.specs.Grammar.{script_from}
@@ -24,7 +25,7 @@ use Rattle.audit_text.specs.declared.reader.AuditText.{AuditText}
 
 -- whether octets are `report` with nothing but spaces behind
 abbrev pub is_ended : List ℕ → Bool
-is_ended octets = pointwise nat_eq (take 6 octets) (codes "report") && list_all (λ octet. octet == 32) (drop 6 octets)
+is_ended octets = pointwise nat_eq (take 6 octets) (codes "report") && are_spaces (drop 6 octets)
 
 -- whether the only word of a line is `report`: there may be spaces before and behind it
 abbrev pub is_mark : List ℕ → Bool

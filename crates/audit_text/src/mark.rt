@@ -1,11 +1,11 @@
 //! The line `report` of a text.
 ghost use Rattle.std.specs.Prelude.{◌≡◌, ◌==◌, ◌≤◌, ◌+◌, false, length, position, IfOk, IfErr};
-ghost use Rattle.std.specs.List.{list_all, list_any};
+ghost use Rattle.std.specs.List.{list_any};
 ghost use Rattle.std.specs.Str.Lines.{lines};
 ghost use Rattle.audit_text.specs.Texts.{is_ended, is_mark};
 ghost use Rattle.audit_text.specs.Cutting.{line_length, AreParts};
 
-use line_words::{TEXT_LIMIT, split_line};
+use line_words::{TEXT_LIMIT, are_spaces, split_line};
 
 /// The texts before and behind a line `report`, and the number of that line.
 #[derive(Clone, Copy)]
@@ -13,12 +13,6 @@ pub(crate) struct Parts<'a> {
     pub front: &'a [u8],
     pub number: u32,
     pub behind: &'a [u8],
-}
-
-fn are_spaces(octets: &[u8]) -> bool
-    ensures { result ≡ list_all (λ octet. octet == 32) octets.now }
-{
-    octets.iter().all(|octet| *octet == b' ')
 }
 
 /// Whether octets are `report` with nothing but spaces behind.

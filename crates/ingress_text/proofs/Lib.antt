@@ -1,4 +1,4 @@
-mod RootLemmas
+pub mod RootLemmas
 mod PeerLemmas
 mod RoleLemmas
 mod TellLemmas

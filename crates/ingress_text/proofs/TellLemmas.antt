@@ -85,7 +85,7 @@ told_more root lines text new_text refused shows peers new_peers line more so ch
 pub told_all : (input : Input) (text all : List ℕ) (refused : Bool) (peers : BTreeMap ℕ Peer) (rest : List Line) →
     IsToldTo input.root input.lines text refused peers rest → rest ≡ [] → tree.IsOrdered nat_cmp peers →
     all ≡ text ++ flat_map copy_line (copies_of (request_of input.root.advert) (map table_of peers.entries)) →
-    Tells input refused all
+    Tells refused input all
 told_all input text all refused peers rest so end ordered put =
     let root : Rooted = input.root in
     let whole : IsToldTo root input.lines text refused peers [] = subst (λ (xs : List Line). IsToldTo root input.lines text refused peers xs) end so in

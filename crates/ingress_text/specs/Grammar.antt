@@ -1,6 +1,6 @@
 -- The grammar of a text: what each line says, given what the lines before it said, or its first fault.
 use Rattle.std.specs.Prelude.{ℕ, ◌+◌, ◌&&◌, Bool, true, false, nat_eq, nat_le, nat_lt, List, [], ◌∷◌, length, codes}
-use Rattle.std.specs.Prelude.{Option, None, Some, Result, Ok, Err, if◌then◌else◌, position}
+use Rattle.std.specs.Prelude.{Option, None, Some, Result, Ok, Err, if◌then◌else◌}
 use Rattle.std.specs.Int.{w32, from_be_bytes}
 use Rattle.std.specs.Str.Lines.{lines}
 use Rattle.std.specs.Cmp.Lexicographic.{pointwise}
@@ -9,9 +9,9 @@ use Rattle.mv_base.specs.Dotted.{dotted_of}
 use Rattle.line_words.specs.declared.fault.Reason.TheVariants as reasons
 use Rattle.line_words.specs.declared.fault.TextFault.{TextFault}
 use Rattle.line_words.specs.declared.words.Row.{Row}
-use Rattle.line_words.specs.Words.{Placed, words_of}
+use Rattle.line_words.specs.Words.{Placed}
+use Rattle.line_words.specs.Lines.{row_of, words_in}
 use Rattle.line_words.specs.Forms.{fault, ◌>>=◌, or_fault, payload_at}
-use Rattle.scenario_text.specs.Grammar.{is_outside, is_blank, row_of}
 use Rattle.ingress_text.specs.declared.input.Input.{Input}
 use Rattle.ingress_text.specs.declared.input.Role.{Role}
 use Rattle.ingress_text.specs.declared.input.Role.TheVariants as roles
@@ -116,15 +116,9 @@ words_line draft row [] = Ok steps.Blank
 words_line draft row (first ∷ rest) =
     elim draft.root [ None ↦ first_line row first rest | Some root ↦ next_line draft root row first rest ]
 
--- what a line says: it is too long, or has an octet outside, or is tried by its words
+-- what a line says, by its words
 unfoldable pub line_of : Drafted → ℕ → List ℕ → Result Step TextFault
-line_of draft number octets =
-    if is_blank octets then Ok steps.Blank else
-    if nat_lt 4096 (length octets) then fault number 4097 reasons.Line else
-    elim (position is_outside octets) [
-      | Some place ↦ fault number (place + 1) reasons.Byte
-      | None ↦ words_line draft (row_of number octets) (words_of octets)
-    ]
+line_of draft number octets = words_in number octets >>= λ words. words_line draft (row_of number octets) words
 
 -- what the lines from that number on say, behind what was said
 abbrev pub input_from : Drafted → ℕ → List (List ℕ) → Result Input TextFault

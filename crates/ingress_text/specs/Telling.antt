@@ -178,7 +178,7 @@ pub record AreThePeers (peers : Peers) (entries : List (ℕ × Peer)) : Type 0 w
   pub each : (n : ℕ) → lookup (is_at (nat_cmp n)) entries ≡ peers n
 
 -- What is told of the input: its lines, and the copies of the root by the answers of its peers; and whether a peer has a fault.
-pub record Tells (input : Input) (refused : Bool) (text : List ℕ) : Type 0 where
+pub record Tells (refused : Bool) (input : Input) (text : List ℕ) : Type 0 where
   pub entries : List (ℕ × Peer)
   pub are : AreThePeers (peers_from input.root nobody input.lines) entries
   pub told : text ≡ text_from input.root nobody input.lines ++ flat_map copy_line (copies_of (request_of input.root.advert) (map table_of entries))

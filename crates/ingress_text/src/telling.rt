@@ -128,7 +128,7 @@ fn tables_of(alloc: Global, mut peers: Peers) -> Result<TakenTables, NoMemory>
 
 /// Tells what the text said: its lines one after another, and behind them the copies that the root sends.
 pub fn tell(alloc: Global, input: &Input) -> Result<Told, NoMemory>
-    ensures { IfOk result (λ told. Tells input.now told.refused told.text) }
+    ensures { IfOk result (λ told. Tells told.refused input.now told.text) }
 {
     let root = &input.root;
     let mut text = Bytes::new(alloc);

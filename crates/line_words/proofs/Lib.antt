@@ -1,3 +1,5 @@
 pub mod WordsLemmas
 pub mod ListFacts
 pub mod AddrLemmas
+pub mod LineLemmas
+pub mod MeetLemmas

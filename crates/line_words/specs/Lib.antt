@@ -3,3 +3,4 @@ pub mod Answers
 pub mod FaultText
 pub mod Forms
 pub mod Parts
+pub mod Lines

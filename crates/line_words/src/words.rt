@@ -31,6 +31,7 @@ fn line_feed(text: &[u8]) -> Option<usize>
 pub fn split_line(text: &[u8]) -> (&[u8], &[u8])
     requires { 0 < length text.now }
     ensures line { lines text.now ≡ result.0.now ∷ lines result.1.now }
+    ensures within { length result.0.now ≤ length text.now }
     ensures shorter { length result.1.now < length text.now }
 {
     match line_feed(text) {
@@ -41,7 +42,8 @@ pub fn split_line(text: &[u8]) -> (&[u8], &[u8])
 
 /// The line less the carriage return at its end, if it has one.
 fn without_return(line: &[u8]) -> &[u8]
-    ensures { result.now ≡ strip_carriage_return line.now }
+    ensures line { result.now ≡ strip_carriage_return line.now }
+    ensures shorter { length result.now ≤ length line.now }
 {
     if line.is_empty() || line[line.len() - 1] != b'\r' {
         return line;
@@ -58,7 +60,7 @@ fn parts_of(alloc: Global, octets: &[u8]) -> Result<Vec<&[u8]>, AllocError>
 
 /// The words of a line, with their columns.
 #[tactic(auto, unfolding(crate::specs::Words::words_of))]
-pub fn words_of<'a>(alloc: Global, line: &'a [u8]) -> Result<Vec<Word<'a>>, AllocError>
+pub(crate) fn words_of<'a>(alloc: Global, line: &'a [u8]) -> Result<Vec<Word<'a>>, AllocError>
     requires { length line.now ≤ 4096 }
     ensures { IfOk result (λ v. map placed_word v.items ≡ words_of line.now) }
 {

@@ -12,7 +12,8 @@ use Rattle.scenario_lines.specs.declared.scenario_draft.line.Line.TheVariants as
 use Rattle.scenario_lines.specs.scenario_draft.Drafted.{Drafted}
 use Rattle.scenario_lines.specs.scenario_draft.Naming.{vrf_at, site_at, iface_at}
 use Rattle.line_words.specs.Forms.{payload_at}
-use Rattle.scenario_text.specs.Grammar.{row_of, words_line}
+use Rattle.line_words.specs.Lines.{row_of}
+use Rattle.scenario_text.specs.Grammar.{words_line}
 use Rattle.generator.specs.Made as made
 use Rattle.made_laws.specs.MadeScript.{each, name_at, place, vrf_id, site_id, iface_id, vrf, site, iface, source_edge, source, group, join, send, selection, from_line}
 use Rattle.made_laws.proofs.RowLemmas.{glued_strung, IsWord, AreWords, joined, with_columns, begins, row_text, Reads, reads_none, reads_then, reads_row}

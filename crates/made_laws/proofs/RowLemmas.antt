@@ -15,7 +15,8 @@ use Rattle.line_words.specs.Words.{Placed, placed, words_of}
 use Rattle.scenario_lines.specs.declared.scenario_draft.line.Line.{Line}
 use Rattle.scenario_lines.specs.scenario_draft.Drafted.{Drafted}
 use Rattle.scenario_lines.specs.scenario_draft.Adding.{added}
-use Rattle.scenario_text.specs.Grammar.{is_outside, is_blank, row_of, words_line, line_of}
+use Rattle.line_words.specs.Lines.{is_blank, is_outside, row_of, words_in}
+use Rattle.scenario_text.specs.Grammar.{line_of, words_line}
 use Rattle.scenario_text.specs.Faults.{Says}
 
 -- ---- words
@@ -205,7 +206,7 @@ none_outside text h = position_none is_outside text (none_of is_line_octet is_ou
 -- A line of that many octets of a line, whose words are these, says what its words say.
 line_said : (draft : Drafted) (number : ℕ) (text : List ℕ) (words : List Placed) (said : Line) → is_blank text ≡ false → length text ≤ 4096 → position is_outside text ≡ None → words_of text ≡ words
     → words_line draft (row_of number text) words ≡ Ok said → line_of draft number text ≡ Ok said
-unfolding line_of
+unfolding line_of words_in
 line_said draft number text words said blank short inside cut h =
     let e : nat_lt 4096 (length text) ≡ false = grind (arith, nat_tests) in
     rw (blank, e, inside, cut) h

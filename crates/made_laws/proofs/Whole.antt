@@ -10,7 +10,8 @@ use Rattle.scenario_defs.specs.declared.scenario.Thing.TheVariants as things
 use Rattle.scenario_lines.specs.declared.scenario_draft.line.Line.TheVariants as says
 use Rattle.scenario_lines.specs.scenario_draft.Drafted.{Drafted}
 use Rattle.scenario_lines.specs.scenario_draft.Adding.{empty_draft}
-use Rattle.scenario_text.specs.Grammar.{row_of, script_at, script_of}
+use Rattle.line_words.specs.Lines.{row_of}
+use Rattle.scenario_text.specs.Grammar.{script_at, script_of}
 use Rattle.scenario_text.specs.Faults.{Says}
 use Rattle.scenario_text.proofs.FaultsLemmas.{accepts, short_text}
 use Rattle.generator.specs.Made as made

@@ -14,7 +14,7 @@ use Rattle.bgp_messages.specs.bgp_update.Reading.{message_front}
 use Rattle.scenario_defs.specs.declared.event.IfaceEntry.{IfaceEntry}
 use Rattle.scenario_defs.specs.declared.event.JoinEntry.TheVariants.{Source}
 use Rattle.scenario_defs.specs.declared.event.Kind.TheVariants as kinds
-use Rattle.mvpn_model.specs.Messages.{own_addr}
+use Rattle.network_defs.specs.mvpn_model.Messages.{own_addr}
 use Rattle.edge_defs.specs.pim_defs.Entries.{Entries, applied}
 use Rattle.edge_defs.specs.pim_defs.Single.{join_of}
 use Rattle.edge_defs.specs.Edge.{no_control}

@@ -12,7 +12,8 @@ use Rattle.label_defs.specs.Keys.{node_cmp}
 use Rattle.label_defs.specs.Members.{in_order}
 use Rattle.label_defs.specs.Node.{Spent}
 use Rattle.label_defs.specs.Steps as labels
-use Rattle.label_defs.proofs.KeyLemmas.{node_cmp_total, node_cmp_exact}
+use Rattle.label_defs.proofs.KeyLemmas.{node_cmp_exact, node_cmp_total}
+use Rattle.label_defs.proofs.SetLemmas.{put_here}
 use Rattle.bgp_messages.specs.declared.bgp_attributes.update.Message.{Message}
 use Rattle.bgp_messages.specs.bgp_update.Table.{changes_of}
 use Rattle.mv_base.specs.table_defs.Changes.{applied_all}
@@ -23,7 +24,6 @@ use Rattle.edge_defs.specs.Keys.{Table}
 use Rattle.edge_defs.specs.Place.{EdgePlace}
 use Rattle.edge_defs.specs.Steps.{Call, EdgeStepped, LabelStep, Pim, Raised, Update, changed_leaves, control_step, label_row, one_call, own_label_call, part_after, raised_after, refreshed, taken_change}
 use Rattle.edge_defs.specs.Tunnels.{leaves}
-use Rattle.edge_words.proofs.edge_laws.Taken.{put_own}
 use Rattle.network_defs.specs.node_defs.EdgeState.{EdgeState, behind, stepped, stepped_unless}
 use Rattle.probe_defs.specs.Probed.{as_table_change, edge_with, taken_at_once}
 use Rattle.probe_defs.proofs.LabelLemmas.{row_made}
@@ -94,7 +94,7 @@ update_keeps place peer table entries message =
     let taken : Taken = taken_at_once table in
     let peers : FinMap node_cmp Taken = maps.insert maps.empty peer taken in
     let old : Control = edge_with place peer table entries in
-    ap (λ (o : Option Taken). refreshed place 0 (elim o as (λ _. Control) [ None ↦ old | Some taken ↦ record old { peers = maps.insert peers peer (fold (taken_change 0) taken (changes_of message)) } ])) (put_own maps.empty peer taken)
+    ap (λ (o : Option Taken). refreshed place 0 (elim o as (λ _. Control) [ None ↦ old | Some taken ↦ record old { peers = maps.insert peers peer (fold (taken_change 0) taken (changes_of message)) } ])) (put_here node_cmp_total node_cmp_exact maps.empty peer taken)
     ∙ ap (λ (t : Taken). kept_with place entries (maps.insert peers peer t)) (changes_at_once table (changes_of message))
     ∙ ap (kept_with place entries) (put_again peer taken (taken_at_once (applied_all table (map as_table_change (changes_of message)))))
 

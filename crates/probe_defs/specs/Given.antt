@@ -8,7 +8,7 @@ use Rattle.bgp_messages.specs.declared.bgp_attributes.update.Message.{Message}
 use Rattle.bgp_messages.specs.bgp_update.Reading.{message_front}
 use Rattle.scenario_defs.specs.declared.event.JoinEntry.TheVariants.{Source}
 use Rattle.scenario_defs.specs.declared.event.Kind.TheVariants as kinds
-use Rattle.mvpn_model.specs.Messages.{own_addr}
+use Rattle.network_defs.specs.mvpn_model.Messages.{own_addr}
 use Rattle.edge_defs.specs.Place.{EdgePlace}
 use Rattle.edge_defs.specs.Steps.{Pim, Raised}
 use Rattle.edge_defs.specs.pim_defs.Single.{join_of}

@@ -23,7 +23,7 @@ use Rattle.label_defs.specs.mldp.declared.mldp_fec.fec.Fec.{Fec}
 use Rattle.scenario_defs.specs.declared.event.IfaceEntry.{IfaceEntry}
 use Rattle.scenario_defs.specs.declared.scenario.Scenario.{Scenario}
 use Rattle.scenario_defs.specs.declared.scenario.Vrf.{Vrf}
-use Rattle.mvpn_model.specs.Messages.{own_addr}
+use Rattle.network_defs.specs.mvpn_model.Messages.{own_addr}
 use Rattle.edge_defs.specs.pim_defs.Entries.{Entries, applied}
 use Rattle.edge_defs.specs.pim_defs.Single.{join_of}
 use Rattle.edge_defs.specs.Edge.{Control, Taken, no_control}

@@ -12,10 +12,10 @@ use Rattle.scenario_lines.specs.declared.scenario_draft.line.Line.TheVariants as
 use Rattle.scenario_lines.specs.scenario_draft.Drafted.{Drafted}
 use Rattle.scenario_lines.specs.scenario_draft.Adding.{IsNew, added}
 use Rattle.scenario_lines.specs.scenario_draft.Declaring.{IsDeclared}
-use Rattle.scenario_lines.proofs.scenario_draft.KeptRules.{Kept, kept_added}
+use Rattle.scenario_lines.proofs.scenario_draft.KeptRules.{Kept, declared_new, kept_added}
 use Rattle.scenario_lines.proofs.scenario_draft.WordFacts.{Meets, ok_meets, bind_meets, if_meets}
 use Rattle.scenario_lines.proofs.LineFacts.{scenario_line_meets}
-use Rattle.scenario_text.specs.Grammar.{row_of}
+use Rattle.line_words.specs.Lines.{row_of, words_in}
 use Rattle.mv_base.specs.declared.addr.Addr.{Addr}
 use Rattle.mv_base.specs.declared.ids.IfaceId.{IfaceId}
 use Rattle.line_words.specs.Answers.{Fails}
@@ -24,7 +24,7 @@ use Rattle.line_words.specs.declared.fault.ReadFault.TheVariants as faults
 use Rattle.probe_defs.specs.Lines.{joins_of}
 use Rattle.probe_defs.specs.declared.probe.ProbeLine.{ProbeLine}
 use Rattle.probe_defs.specs.declared.probe.ProbeLine.TheVariants.{Join, Piece}
-use Rattle.probe_text.specs.Grammar.{declared_by, declared_from, declaring, words_in}
+use Rattle.probe_text.specs.Grammar.{declared_by, declared_from, declaring}
 
 -- ---- what a line declares
 
@@ -42,17 +42,6 @@ declaring_meets draft row (first ∷ rest) core = if_meets _ _ _ _ (λ _. declar
 said_by : (draft : Drafted) (number : ℕ) (octets : List ℕ) → IsTopology (length draft.scenario.nodes) draft.scenario.links → Meets (IsSaid draft) (declared_by draft number octets)
 unfolding declared_by
 said_by draft number octets core = bind_meets (IsSaid draft) (words_in number octets) (declaring draft (row_of number octets)) (λ words w. declaring_meets draft (row_of number octets) words core)
-
-declared_new : (draft : Drafted) (said : Line) → IsDeclared draft said → IsNew draft said
-declared_new draft (says.Setting setting value) h = (h.0, h.2)
-declared_new draft (says.Node id node) h = h.1.1
-declared_new draft (says.Link link) h = tt
-declared_new draft (says.Vrf id vrf) h = h.1.1
-declared_new draft (says.Site id site) h = h.1.1
-declared_new draft (says.Iface id iface) h = h.1.1
-declared_new draft says.Events h = tt
-declared_new draft says.Blank h = tt
-declared_new draft (says.Event event) h = tt
 
 is_new : (draft : Drafted) (said : Line) → IsSaid draft said → IsNew draft said
 is_new draft said (inl blank) = subst (λ (x : Line). IsNew draft x) (sym blank) tt

@@ -25,7 +25,7 @@ use Rattle.scenario_lines.specs.scenario_draft.Adding.{added, empty_draft}
 use Rattle.scenario_lines.specs.scenario_draft.Naming.{edge_at, iface_at, is_of_iface}
 use Rattle.scenario_lines.proofs.scenario_draft.KeptRules.{Kept, kept_empty, rules_of_kept}
 use Rattle.scenario_lines.proofs.scenario_draft.WordFacts.{Meets, ok_meets, err_meets, bind_meets, if_meets, then_meets, either_meets, edge_meets, names_flow, of_iface}
-use Rattle.scenario_text.specs.Grammar.{row_of}
+use Rattle.line_words.specs.Lines.{row_of, words_in}
 use Rattle.probe_defs.specs.edge_defs.Originated.{is_iface_of}
 use Rattle.probe_defs.specs.edge_defs.Place.{OwnVrf, vrfs_from}
 use Rattle.probe_defs.specs.Lines.{IsLineAt, IsProbe, join_limit, joins_of}
@@ -33,7 +33,7 @@ use Rattle.probe_defs.specs.declared.probe.ProbeLine.{ProbeLine}
 use Rattle.probe_defs.specs.declared.probe.ProbeLine.TheVariants.{Join, Piece}
 use Rattle.probe_text.specs.declared.input.Ends.{Ends}
 use Rattle.probe_text.specs.declared.input.ProbeText.{ProbeText}
-use Rattle.probe_text.specs.Grammar.{declared_by, declared_from, ends_line, given_by, given_from, given_words, is_iface_at, is_probe_line, join_line, join_words, own_iface_at, piece_line, probe_at, probe_from, probe_line, probe_of, two_ends, with_line, words_in}
+use Rattle.probe_text.specs.Grammar.{declared_by, declared_from, ends_line, given_by, given_from, given_words, is_iface_at, is_probe_line, join_line, join_words, own_iface_at, piece_line, probe_at, probe_from, probe_line, probe_of, two_ends, with_line}
 use Rattle.probe_text.proofs.FrontLemmas.{joins_more, line_kept}
 
 -- ---- the line `probe`

@@ -10,7 +10,8 @@ use Rattle.scenario_defs.specs.declared.scenario.Scenario.{Scenario}
 use Rattle.line_words.specs.declared.fault.Reason.TheVariants as reasons
 use Rattle.line_words.specs.declared.fault.TextFault.{TextFault}
 use Rattle.line_words.specs.declared.words.Row.{Row}
-use Rattle.line_words.specs.Words.{Placed, words_of}
+use Rattle.line_words.specs.Words.{Placed}
+use Rattle.line_words.specs.Lines.{row_of, words_in}
 use Rattle.line_words.specs.Forms.{fault, ◌>>=◌, group_at, payload_at, same_family, source_at}
 use Rattle.scenario_lines.specs.declared.scenario_draft.line.Line.{Line}
 use Rattle.scenario_lines.specs.declared.scenario_draft.line.Line.TheVariants as says
@@ -18,7 +19,6 @@ use Rattle.scenario_lines.specs.scenario_draft.Drafted.{Drafted}
 use Rattle.scenario_lines.specs.scenario_draft.Adding.{added, empty_draft}
 use Rattle.scenario_lines.specs.scenario_draft.Naming.{edge_at, iface_at, is_of_iface}
 use Rattle.scenario_lines.specs.ScenarioGrammar.{scenario_line}
-use Rattle.scenario_text.specs.Grammar.{is_blank, is_outside, row_of}
 use Rattle.probe_defs.specs.Lines.{join_limit, joins_of}
 use Rattle.probe_defs.specs.declared.probe.ProbeLine.{ProbeLine}
 use Rattle.probe_defs.specs.declared.probe.ProbeLine.TheVariants.{Join, Piece}
@@ -43,18 +43,6 @@ first_word octets = up_to_space (unspaced octets)
 -- whether it begins with that word; a comment begins with none
 abbrev pub is_probe_line : List ℕ → Bool
 is_probe_line octets = pointwise nat_eq (first_word octets) (codes "probe")
-
--- ---- any line
-
--- the words of a line, none where it is blank or a comment; or it is too long, or has an octet outside
-unfoldable pub words_in : ℕ → List ℕ → Result (List Placed) TextFault
-words_in number octets =
-    if is_blank octets then Ok [] else
-    if nat_lt 4096 (length octets) then fault number 4097 reasons.Line else
-    elim (position is_outside octets) [
-      | Some place ↦ fault number (place + 1) reasons.Byte
-      | None ↦ Ok (words_of octets)
-    ]
 
 -- ---- lines of the scenario
 

@@ -2,9 +2,9 @@
 //! first fault with its line: `read` (`reader.rt`), which looks for the line `probe` (`mark.rt`) and reads the lines before
 //! it as those of a scenario, and those behind it by their words (`lines.rt`). `specs/Grammar.antt` says what each line
 //! says and which fault is the first. What is read meets the conditions of a probe (`IsProbe` of `probe_defs`), so the
-//! caller need not test it. In `proofs/`, `WordLemmas` has lines without a word, `FrontLemmas` the lines before the line
-//! `probe`, and `ReadLemmas` why what is read is a probe. Below it are `scenario_lines` for the words of a scenario and
-//! `probe_defs`; `edge_probe` answers what is read.
+//! caller need not test it. In `proofs/`, `FrontLemmas` has the lines before the line `probe`, and `ReadLemmas` why what
+//! is read is a probe. Below it are `line_words` for the words of a line, `scenario_lines` for those of a scenario, and
+//! `probe_defs`, whose words it hands on; `edge_probe` answers what is read.
 #![tactic(auto)]
 
 mod input;
@@ -13,4 +13,6 @@ mod mark;
 mod reader;
 
 pub use input::{Ends, ProbeText};
+// The name `of_..`: words of a lower crate that the contract is made of.
+pub use probe_defs as of_probe_defs;
 pub use reader::read;

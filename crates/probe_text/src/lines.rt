@@ -1,18 +1,15 @@
 //! The lines of a text, by their words.
-ghost use Rattle.std.specs.Prelude.{◌≡◌, ◌==◌, ◌<◌, ◌≤◌, length, map, position, IfErr, IfOk, Ok};
-ghost use Rattle.std.specs.List.{list_all};
+ghost use Rattle.std.specs.Prelude.{◌≡◌, ◌≤◌, length, map};
 ghost use Rattle.mv_base.specs.core_walks.Topology.{IsTopology};
-ghost use Rattle.mv_base.specs.core_walks.Reached.{is_connected};
-ghost use Rattle.line_words.specs.Answers.{Fails, Gives};
+ghost use Rattle.line_words.specs.Answers.{Gives};
 ghost use Rattle.line_words.specs.Words.{placed_word};
-ghost use Rattle.scenario_text.specs.Grammar.{is_outside, is_blank, row_of};
-ghost use Rattle.probe_text.specs.Grammar.{declared_by, declaring, ends_line, given_by, given_words, is_iface_at, join_line, join_words, own_iface_at};
-ghost use Rattle.probe_text.specs.Grammar.{piece_line, probe_line, two_ends, words_in};
+ghost use Rattle.probe_text.specs.Grammar.{declared_by, declaring, ends_line, given_by, given_words, is_iface_at, join_line};
+ghost use Rattle.probe_text.specs.Grammar.{join_words, own_iface_at, piece_line, probe_line, two_ends};
 
 use crate::input::Ends;
 use line_words::{
-    ReadFault, Reason, Row, TextFault, Word, fault_at, group_at, payload_at, same_family,
-    source_at, words_of,
+    ReadFault, Reason, Row, TEXT_LIMIT, TextFault, Word, fault_at, group_at, payload_at, row_of,
+    same_family, source_at, words_in,
 };
 use mv_base::core_walks::is_connected;
 use mv_base::{IfaceId, NodeId};
@@ -22,68 +19,8 @@ use scenario_lines::scenario_draft::{Draft, Line, edge_at, iface_at, is_of_iface
 use scenario_lines::scenario_line;
 use std::alloc::Global;
 
-const LINE_LIMIT: usize = 4096;
-
 /// The most joins of a text.
 const JOIN_LIMIT: usize = 1024;
-
-fn is_outside(b: u8) -> bool
-    ensures { result ≡ is_outside b }
-{
-    b < 0x20 || b > 0x7e
-}
-
-fn first_outside(octets: &[u8]) -> Option<usize>
-    ensures { result ≡ position is_outside octets.now }
-{
-    octets.iter().position(|b| is_outside(*b))
-}
-
-fn are_spaces(octets: &[u8]) -> bool
-    ensures { result ≡ list_all (λ octet. octet == 32) octets.now }
-{
-    octets.iter().all(|octet| *octet == b' ')
-}
-
-#[tactic(auto, unfolding(scenario_text::specs::Grammar::is_blank))]
-fn is_blank(octets: &[u8]) -> bool
-    ensures { result ≡ is_blank octets.now }
-{
-    let spaces = are_spaces(octets);
-    match octets {
-        [] => true,
-        [first, ..] => *first == b'#' || spaces,
-    }
-}
-
-fn row_of(number: u32, octets: &[u8]) -> Row
-    requires { length octets.now ≤ LINE_LIMIT }
-    ensures { result ≡ row_of number octets.now }
-{
-    Row {
-        number,
-        after: octets.len() as u32 + 1,
-    }
-}
-
-/// The words of a line, none where it is blank or a comment.
-#[tactic(auto, unfolding(crate::specs::Grammar::words_in))]
-fn words_in<'a>(alloc: Global, number: u32, octets: &'a [u8]) -> Result<Vec<Word<'a>>, ReadFault>
-    ensures words { IfOk result (λ words. words_in number octets.now ≡ Ok (map placed_word words.items)) }
-    ensures short { IfOk result (λ words. 0 < length words.items → length octets.now ≤ LINE_LIMIT) }
-    ensures fault { IfErr result (λ stop. Fails stop (words_in number octets.now)) }
-{
-    if is_blank(octets) {
-        return Ok(Vec::new(alloc));
-    }
-    if octets.len() > LINE_LIMIT {
-        return Err(ReadFault::Text(fault_at(number, LINE_LIMIT as u32 + 1, Reason::Line)));
-    }
-    if let Some(place) = first_outside(octets) {
-        return Err(ReadFault::Text(fault_at(number, place as u32 + 1, Reason::Byte)));
-    }
-    Ok(words_of(alloc, octets)?)
-}
 
 /// A line of the scenario by its words.
 #[tactic(auto, unfolding(crate::specs::Grammar::declaring))]
@@ -214,13 +151,11 @@ pub(crate) fn declared_by(
     octets: &[u8],
 ) -> Result<Line, ReadFault>
     requires topology { IsTopology (length draft.now.scenario.nodes) draft.now.scenario.links }
+    requires short { length octets.now ≤ TEXT_LIMIT }
     ensures { Gives result (declared_by draft.now number octets.now) }
 {
     let words = words_in(alloc, number, octets)?;
-    match words.as_slice() {
-        [] => Ok(Line::Blank),
-        all => declaring(alloc, draft, row_of(number, octets), all),
-    }
+    declaring(alloc, draft, row_of(number, octets), &words)
 }
 
 /// What the line `probe` says.
@@ -232,6 +167,7 @@ pub(crate) fn probe_line(
     octets: &[u8],
 ) -> Result<Ends, ReadFault>
     requires topology { IsTopology (length draft.now.scenario.nodes) draft.now.scenario.links }
+    requires short { length octets.now ≤ TEXT_LIMIT }
     ensures { Gives result (probe_line draft.now number octets.now) }
 {
     let scenario = draft.scenario();
@@ -239,10 +175,7 @@ pub(crate) fn probe_line(
         return Err(ReadFault::Text(fault_at(number, 1, Reason::Apart)));
     }
     let words = words_in(alloc, number, octets)?;
-    match words.as_slice() {
-        [] => Err(ReadFault::Text(fault_at(number, 1, Reason::Count))),
-        all => Ok(ends_line(draft, row_of(number, octets), all)?),
-    }
+    Ok(ends_line(draft, row_of(number, octets), &words)?)
 }
 
 /// A line of the probe by its words, behind so many joins.
@@ -282,11 +215,9 @@ pub(crate) fn given_by(
     number: u32,
     octets: &[u8],
 ) -> Result<Option<ProbeLine>, ReadFault>
+    requires { length octets.now ≤ TEXT_LIMIT }
     ensures { Gives result (given_by draft.now edge joins number octets.now) }
 {
     let words = words_in(alloc, number, octets)?;
-    match words.as_slice() {
-        [] => Ok(None),
-        all => given_words(alloc, draft, edge, joins, row_of(number, octets), all),
-    }
+    given_words(alloc, draft, edge, joins, row_of(number, octets), &words)
 }

@@ -98,7 +98,7 @@ fn read_lines(
     text: &[u8],
 ) -> Result<ProbeLines, ReadFault>
     requires some { 0 < first }
-    requires short { first + length text.now ≤ TEXT_LIMIT + 2 }
+    requires short { first + length text.now ≤ TEXT_LIMIT + 1 }
     ensures { Gives result (given_from draft.now edge [] first (lines text.now)) }
 {
     let mut given = ProbeLines::new(alloc);

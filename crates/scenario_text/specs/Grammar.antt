@@ -1,13 +1,12 @@
 -- The grammar of a text: what each line says, given what the lines before it declared, or its first fault.
-use Rattle.std.specs.Prelude.{ℕ, ◌+◌, ◌==◌, ◌||◌, Bool, true, nat_lt, List, [], ◌∷◌, length, None, Some, Result, Ok, if◌then◌else◌}
-use Rattle.std.specs.Prelude.{position}
-use Rattle.std.specs.List.{list_all}
+use Rattle.std.specs.Prelude.{ℕ, ◌+◌, nat_lt, List, [], ◌∷◌, length, Result, Ok, if◌then◌else◌}
 use Rattle.std.specs.Str.Lines.{lines}
 use Rattle.scenario_defs.specs.declared.event.Script.{Script}
 use Rattle.line_words.specs.declared.fault.Reason.TheVariants as reasons
 use Rattle.line_words.specs.declared.fault.TextFault.{TextFault}
 use Rattle.line_words.specs.declared.words.Row.{Row}
-use Rattle.line_words.specs.Words.{Placed, words_of}
+use Rattle.line_words.specs.Words.{Placed}
+use Rattle.line_words.specs.Lines.{row_of, words_in}
 use Rattle.line_words.specs.Forms.{fault, ◌>>=◌}
 use Rattle.scenario_lines.specs.declared.scenario_draft.line.Line.{Line}
 use Rattle.scenario_lines.specs.declared.scenario_draft.line.Line.TheVariants as says
@@ -16,33 +15,14 @@ use Rattle.scenario_lines.specs.scenario_draft.Adding.{added, empty_draft}
 use Rattle.scenario_lines.specs.ScenarioGrammar.{scenario_line}
 use Rattle.scenario_text.specs.event_lines.EventGrammar.{event_line}
 
--- whether the octet is none from a space to a tilde
-abbrev pub is_outside : ℕ → Bool
-is_outside b = nat_lt b 32 || nat_lt 126 b
-
--- whether a line says nothing: a number sign is first, or all its octets are spaces
-unfoldable pub is_blank : List ℕ → Bool
-is_blank [] = true
-is_blank (b ∷ more) = b == 35 || list_all (λ octet. octet == 32) (b ∷ more)
-
--- a line beside its words
-abbrev pub row_of : ℕ → List ℕ → Row
-row_of number octets = record { number = number; after = length octets + 1 }
-
 -- a line by its words, in the scenario and behind it
 unfoldable pub words_line : Drafted → Row → List Placed → Result Line TextFault
 words_line draft row [] = Ok says.Blank
 words_line draft row (first ∷ rest) = if draft.begun then event_line draft row first rest else scenario_line draft row first rest
 
--- what a line says: it is too long, or has an octet outside, or is tried by its words
+-- what a line says, by its words
 unfoldable pub line_of : Drafted → ℕ → List ℕ → Result Line TextFault
-line_of draft number octets =
-    if is_blank octets then Ok says.Blank else
-    if nat_lt 4096 (length octets) then fault number 4097 reasons.Line else
-    elim (position is_outside octets) [
-      | Some place ↦ fault number (place + 1) reasons.Byte
-      | None ↦ words_line draft (row_of number octets) (words_of octets)
-    ]
+line_of draft number octets = words_in number octets >>= λ words. words_line draft (row_of number octets) words
 
 -- the script, where the line of that number is the one behind the last
 abbrev pub script_at : Drafted → ℕ → Script

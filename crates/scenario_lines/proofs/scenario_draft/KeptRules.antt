@@ -22,7 +22,7 @@ use Rattle.scenario_lines.specs.declared.scenario_draft.setting.Setting.TheVaria
 use Rattle.scenario_lines.specs.declared.scenario_draft.setting.Given.{Given}
 use Rattle.scenario_lines.specs.scenario_draft.Drafted.{Drafted}
 use Rattle.scenario_lines.specs.scenario_draft.Settings.{highest, with_given, with_setting}
-use Rattle.scenario_lines.specs.scenario_draft.Adding.{added, empty_draft}
+use Rattle.scenario_lines.specs.scenario_draft.Adding.{IsNew, added, empty_draft}
 use Rattle.scenario_lines.specs.scenario_draft.Declaring.{IsDeclared, IsNewName, MayBeNode, MayBeLink, MayBeVrf, MayBeSite, MayBeIface}
 use Rattle.scenario_lines.proofs.scenario_draft.OneMore.{still_get}
 use Rattle.scenario_lines.proofs.scenario_draft.OtherRules.{settings_else, core_else, vrfs_still, vrfs_else, sites_else, ifaces_known, ifaces_else}
@@ -166,3 +166,15 @@ rules_of_kept draft k connected = record {
     distinct = λ thing other name h e. let both : Some thing ≡ Some other = sym (k.names thing name h).1 ∙ (k.names other name e).1 in cc;
   };
 }
+
+-- A line that keeps to them declares a new name, if it declares one.
+pub declared_new : (draft : Drafted) (said : Line) → IsDeclared draft said → IsNew draft said
+declared_new draft (says.Setting setting value) h = (h.0, h.2)
+declared_new draft (says.Node id node) h = h.1.1
+declared_new draft (says.Link link) h = tt
+declared_new draft (says.Vrf id vrf) h = h.1.1
+declared_new draft (says.Site id site) h = h.1.1
+declared_new draft (says.Iface id iface) h = h.1.1
+declared_new draft says.Events h = tt
+declared_new draft says.Blank h = tt
+declared_new draft (says.Event event) h = tt

@@ -36,64 +36,14 @@ use Rattle.line_words.specs.declared.fault.Reason.TheVariants as reasons
 use Rattle.line_words.specs.declared.words.Row.{Row}
 use Rattle.line_words.specs.Words.{Placed}
 use Rattle.line_words.specs.Forms.{◌>>=◌, or_fault, ipv4_of, ipv4_at, addr_at, source_at, group_at, payload_at, is_unicast_front, is_unicast, is_group, same_family, number_to, vrf_number_of, numbered_of, addressed_of, rd_of, target_of, targets_at, is_prefix, prefix_of, prefixes_at}
+pub use Rattle.line_words.proofs.MeetLemmas.{Meets, Finds, ok_meets, err_meets, bind_meets, if_meets, then_meets, either_meets, bind_finds, only_finds, or_fault_meets}
+use Rattle.line_words.proofs.MeetLemmas.{map_finds, some_finds}
 use Rattle.line_words.proofs.ListFacts.{none_any, distinct_pairs, each_holds, list_is}
 use Rattle.scenario_defs.specs.declared.scenario.Thing.{Thing}
 use Rattle.scenario_defs.specs.Names.{is_name}
 use Rattle.scenario_lines.specs.scenario_draft.Drafted.{Drafted}
 use Rattle.scenario_lines.specs.scenario_draft.Naming.{new_name, node_of, vrf_of, site_of, iface_of, named, node_named, edge_named, vrf_named, site_named, iface_named, node_at, edge_at, vrf_at, site_at, iface_at, is_of_iface, is_at, node_addr_at, has_number, vrf_number_at, has_rd, rd_at, joins, other_end_at}
 use Rattle.scenario_lines.specs.scenario_draft.Declaring.{IsNewName}
-
--- Each value without fault has the property.
-pub record Meets {A : Type 0} (P : A → Type 0) (r : Result A TextFault) : Type 0 where
-  pub holds : (x : A) → r ≡ Ok x → P x
-
-pub ok_meets : {A : Type 0} (P : A → Type 0) (x : A) → P x → Meets P (Ok x)
-ok_meets P x p = record { holds = λ y e. let q : x ≡ y = cc in subst P q p }
-
-pub err_meets : {A : Type 0} (P : A → Type 0) (e : TextFault) → Meets P (Err e)
-err_meets P e = record { holds = λ y h. absurd cc }
-
-pub bind_meets : {A B : Type 0} (P : B → Type 0) (r : Result A TextFault) (f : A → Result B TextFault) → ((x : A) → r ≡ Ok x → Meets P (f x)) → Meets P (r >>= f)
-bind_meets P (Ok x) f h = h x refl
-bind_meets P (Err e) f h = err_meets P e
-
-pub if_meets : {A : Type 0} (P : A → Type 0) (b : Bool) (e : TextFault) (r : Result A TextFault) → (b ≡ false → Meets P r) → Meets P (cond b (Err e) r)
-if_meets P true e r h = err_meets P e
-if_meets P false e r h = h refl
-
-pub then_meets : {A : Type 0} (P : A → Type 0) (b : Bool) (e : TextFault) (r : Result A TextFault) → (b ≡ true → Meets P r) → Meets P (cond b r (Err e))
-then_meets P true e r h = h refl
-then_meets P false e r h = err_meets P e
-
-pub either_meets : {A : Type 0} (P : A → Type 0) (b : Bool) (r s : Result A TextFault) → Meets P r → Meets P s → Meets P (cond b r s)
-either_meets P true r s h k = h
-either_meets P false r s h k = k
-
--- The same of an option.
-pub record Finds {A : Type 0} (P : A → Type 0) (o : Option A) : Type 0 where
-  pub holds : (x : A) → o ≡ Some x → P x
-
-some_finds : {A : Type 0} (P : A → Type 0) (x : A) → P x → Finds P (Some x)
-some_finds P x p = record { holds = λ y e. let q : x ≡ y = cc in subst P q p }
-
-none_finds : {A : Type 0} (P : A → Type 0) → Finds P None
-none_finds P = record { holds = λ y h. absurd cc }
-
-pub bind_finds : {A B : Type 0} (P : B → Type 0) (o : Option A) (f : A → Option B) → ((x : A) → o ≡ Some x → Finds P (f x)) → Finds P (o >>? f)
-bind_finds P (Some x) f h = h x refl
-bind_finds P None f h = none_finds P
-
-pub only_finds : {A : Type 0} (P : A → Type 0) (b : Bool) (x : A) → (b ≡ true → P x) → Finds P (only_if b x)
-only_finds P true x h = some_finds P x (h refl)
-only_finds P false x h = none_finds P
-
-map_finds : {A B : Type 0} (P : B → Type 0) (f : A → B) (o : Option A) → Finds (λ x. P (f x)) o → Finds P (option_map f o)
-map_finds P f (Some x) h = some_finds P (f x) (h.holds x refl)
-map_finds P f None h = none_finds P
-
-pub or_fault_meets : {A : Type 0} (P : A → Type 0) (o : Option A) (row : Row) (word : Placed) (reason : Reason) → Finds P o → Meets P (or_fault o row word reason)
-or_fault_meets P (Some x) row word reason h = ok_meets P x (h.holds x refl)
-or_fault_meets P None row word reason h = err_meets P _
 
 -- The words that name things name things that are declared.
 node_finds : (draft : Drafted) (text : List ℕ) → Finds (λ id. id.0 < length draft.scenario.nodes) (node_named draft text)

@@ -9,7 +9,7 @@ invariant-lines l = record {
   same : given_from l.draft l.edge l.given l.number (lines l.rest) ≡ given_from l.draft l.edge [] l.first (lines l.text);
   joins : l.joins ≡ length (joins_of l.given);
   fewer : l.joins < l.number;
-  count : l.number + length l.rest ≤ 16777218;
+  count : l.number + length l.rest ≤ 16777217;
 }
 
 abbrev pub decreases-lines : goal.decreases-lines

@@ -23,7 +23,7 @@ use Rattle.edge_defs.specs.Place.{EdgePlace}
 use Rattle.edge_defs.specs.Steps.{Raised}
 use Rattle.edge_defs.specs.pim_defs.Entries.{Entries, applied, are_too_many}
 use Rattle.edge_defs.specs.pim_defs.Single.{join_of}
-use Rattle.edge_words.proofs.edge_laws.Taken.{put_own}
+use Rattle.vrf_words.proofs.edge_words.edge_laws.Taken.{put_own}
 use Rattle.edge_routes.specs.edge_home.Home.{Home, place_of}
 use Rattle.network_defs.specs.mvpn_model.Messages.{own_addr}
 use Rattle.network_defs.specs.node_defs.EdgeState.{EdgeState, fresh_state}

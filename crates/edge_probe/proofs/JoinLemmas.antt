@@ -22,7 +22,7 @@ use Rattle.scenario_defs.specs.Vpn.{is_of_vrf}
 use Rattle.scenario_defs.proofs.RuleLemmas.{iface_rules_at}
 use Rattle.edge_defs.specs.Originated.{is_iface_of}
 use Rattle.edge_defs.specs.Place.{OwnVrf, vrfs_from}
-use Rattle.edge_words.proofs.calm_laws.Lists.{any_among}
+use Rattle.vrf_words.proofs.edge_words.calm_laws.Lists.{any_among}
 use Rattle.network_defs.specs.mvpn_model.Messages.{own_addr}
 use Rattle.scenario_defs.specs.declared.event.JoinEntry.{JoinEntry}
 use Rattle.edge_core.specs.State.{home_of}

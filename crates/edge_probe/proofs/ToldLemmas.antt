@@ -22,9 +22,9 @@ use Rattle.edge_defs.specs.Keys.{Table, key_cmp}
 use Rattle.edge_defs.specs.Place.{EdgePlace, OwnVrf, vrfs_from}
 use Rattle.edge_defs.specs.pim_defs.Entries.{Entries}
 use Rattle.edge_defs.proofs.Example.{no_entries}
-use Rattle.edge_words.proofs.edge_laws.Taken.{put_other, put_own}
+use Rattle.vrf_words.proofs.edge_words.edge_laws.Taken.{put_other, put_own}
 use Rattle.edge_routes.specs.edge_home.Home.{Home, peers_from, peers_of, place_of}
-use Rattle.edge_words.proofs.calm_laws.Lists.{any_from}
+use Rattle.vrf_words.proofs.edge_words.calm_laws.Lists.{any_from}
 use Rattle.edge_core.specs.edge_control.Places.{is_own_vrf, vrfs_of}
 use Rattle.edge_core.specs.State.{data_of, home_of}
 use Rattle.edge_core.specs.View.{EdgeView}

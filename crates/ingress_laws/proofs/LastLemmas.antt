@@ -24,6 +24,7 @@ use Rattle.bgp_messages.specs.bgp_update.Spelling.{SpellsMessage}
 use Rattle.bgp_messages.specs.bgp_update.Written.{update_of, written}
 use Rattle.bgp_messages.proofs.bgp_update.Messages.{messages_framed}
 use Rattle.bgp_messages.proofs.bgp_update.ReadsBack.{written_spells}
+use Rattle.ingress_rep.proofs.AnswerLemmas.{answer_short, answer_writable}
 use Rattle.ingress_rep.specs.declared.request.Request.{Request}
 use Rattle.ingress_rep.specs.Ingress.{answer_of, leaf_tunnel, request_of, IsSpelledSelective}
 use Rattle.ingress_text.specs.Rooted.{Rooted}
@@ -37,7 +38,6 @@ use Rattle.ingress_laws.specs.Answered.{labels_by, labels_of, last_of, later, le
 use Rattle.ingress_laws.proofs.HeardLemmas.{address_is, heard, messages_in, own, octets_fit}
 use Rattle.ingress_laws.proofs.LawLemmas.{answer_own, asks_from}
 use Rattle.ingress_laws.proofs.RouteLemmas.{route_from, route_to}
-use Rattle.ingress_laws.proofs.SpelledLemmas.{answer_short, answer_writable}
 
 -- ---- answers end to end
 

@@ -1,8 +1,9 @@
 mod LawLemmas
 mod HeardLemmas
 mod RouteLemmas
-mod SpelledLemmas
 mod LeafLemmas
 mod LastLemmas
 mod CopyLemmas
 mod RefusedLemmas
+mod OctetLemmas
+mod SaidLemmas

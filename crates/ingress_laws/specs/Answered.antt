@@ -116,6 +116,7 @@ labels_by n line = if is_at (nat_cmp (number_by line)) n then said_labels line.s
 abbrev pub labels_of : ℕ → List Line → List ℕ
 labels_of n lines = flat_map (labels_by n) lines
 
+-- a line lets a leaf answer, and it does so under such a label
 abbrev pub LetsAnswer : Said → Type 0
 LetsAnswer (Leaf leaf label) = IsLabel label
 LetsAnswer (From peer octets) = ⊥

@@ -12,5 +12,5 @@ mod texts;
 pub use laws::{answers_are, copies_are};
 pub use texts::{
     answers_are_routes, copies_are_of_routes, last_answers_are_copied, leaf_lines_are_answers,
-    refused_lines_bring_faults, refused_peers_have_faults,
+    refused_lines_bring_faults, refused_peers_have_faults, texts_meet_the_premise,
 };

@@ -1,16 +1,28 @@
 //! What a whole text of peers comes to.
-ghost use Rattle.std.specs.Prelude.{◌≡◌, ◌↔◌, ℕ, List, ◌∷◌, ◌++◌, map, Some};
+ghost use Rattle.std.specs.Prelude.{◌≡◌, ◌↔◌, ◌⊎◌, ℕ, List, ◌∷◌, ◌++◌, map, Some, Ok};
 ghost use Rattle.mv_base.specs.framing.Feed.{further};
 ghost use Rattle.bgp_messages.specs.declared.bgp_attributes.fault.StreamFault.{StreamFault};
 ghost use Rattle.bgp_messages.specs.declared.bgp_attributes.update.Advert.{Advert};
 ghost use Rattle.ingress_rep.specs.Ingress.{answer_key, copies_of, request_of};
 ghost use Rattle.ingress_text.specs.Rooted.{Rooted};
+ghost use Rattle.ingress_text.specs.Grammar.{input_of};
+ghost use Rattle.ingress_text.specs.declared.input.Input.{Input};
 ghost use Rattle.ingress_text.specs.declared.input.Line.{Line};
 ghost use Rattle.ingress_text.specs.declared.input.Said.TheVariants as said;
 ghost use Rattle.ingress_text.specs.declared.peers.Peer.{Peer};
 ghost use Rattle.ingress_text.specs.Telling.{nobody, peers_from, shown, table_of, AreThePeers};
 ghost use Rattle.ingress_laws.specs.Refused.{BringsFault, HasFault, IsHeard, IsRefused};
-ghost use Rattle.ingress_laws.specs.Answered.{labels_of, last_of, leaf_at, octets_of, AreAnswers, AreUnder, HasLast, IsLeaf, IsSaid, LeavesLabel, LeavesRoute};
+ghost use Rattle.ingress_laws.specs.Answered.{labels_of, last_of, leaf_at, octets_of, AreAnswers, AreUnder, HasLast, IsLeaf, IsSaid};
+ghost use Rattle.ingress_laws.specs.Answered.{LeavesLabel, LeavesRoute};
+
+/// What a text says is of a root that asks and of peers with addresses of IPv4, and its lines bring octets; and each peer is
+/// one that lines let answer, or one whose octets they bring. So what the other laws say of such lines and of such a peer
+/// holds of whatever the command reads.
+pub fn texts_meet_the_premise()
+    ensures said { (text : List ℕ) (input : Input) → input_of text ≡ Ok input → IsSaid input.root input.lines }
+    ensures peers { (text : List ℕ) (input : Input) → input_of text ≡ Ok input →
+        (n : ℕ) → IsLeaf n input.lines ⊎ IsHeard n input.lines }
+{}
 
 /// What is kept of a peer behind all lines is the route that its octets leave under the key of its answer, however its
 /// lines cut them into pieces.

@@ -9,8 +9,11 @@ use Rattle.scenario_defs.specs.declared.event.Script.{Script}
 use Rattle.line_words.specs.declared.fault.TextFault.{TextFault}
 use Rattle.line_words.specs.FaultText.{fault_text}
 use Rattle.scenario_text.specs.Grammar.{script_of}
+use Rattle.ingress_text.specs.Grammar.{input_of}
+use Rattle.probe_text.specs.Grammar.{probe_of}
+use Rattle.mvpn_tool.specs.HopLines.{within_limit}
 use Rattle.network_events.specs.WorldView.{WorldView}
-use Rattle.mvpn_tool.specs.declared.command.Detail.{Detail}
+use Rattle.mvpn_tool.specs.declared.command.Output.{Output}
 use Rattle.mvpn_tool.specs.declared.stop.Stop.{Stop}
 use Rattle.mvpn_tool.specs.declared.stop.Stop.TheVariants as stops
 use Rattle.mvpn_tool.specs.Input.{IsInput, IsReadUpTo, Taken}
@@ -30,15 +33,27 @@ IsBounded says = (octets : List ℕ) → 16777216 < length octets → (more : Li
 both_true : {A : Type 0} (b c : Bool) (x y z : A) → b ≡ true → c ≡ true → cond b x y ≡ cond c x z
 both_true b c x y z h k = rw (h, k) refl
 
--- A script is bounded.
-pub script-bounded : IsBounded script_of
-script-bounded octets h more =
-    both_true (nat_lt 16777216 (length (octets ++ more))) (nat_lt 16777216 (length octets)) _ _ _ (lt-ltb 16777216 (length (octets ++ more)) (omega (arith, length-append octets more, h))) (lt-ltb 16777216 (length octets) h)
+-- A text that is too long says the same whatever is behind it.
+long_alike : {X : Type 0} (octets more : List ℕ) (long x y : X) → 16777216 < length octets
+    → cond (nat_lt 16777216 (length (octets ++ more))) long x ≡ cond (nat_lt 16777216 (length octets)) long y
+long_alike octets more long x y h =
+    both_true (nat_lt 16777216 (length (octets ++ more))) (nat_lt 16777216 (length octets)) long x y (lt-ltb 16777216 (length (octets ++ more)) (omega (arith, length-append octets more, h))) (lt-ltb 16777216 (length octets) h)
 
--- Hexadecimal text is bounded.
+-- So each text that a command reads is bounded.
+pub script-bounded : IsBounded script_of
+script-bounded octets h more = long_alike octets more _ _ _ h
+
 pub hex-bounded : IsBounded octets_of
-hex-bounded octets h more =
-    both_true (nat_lt 16777216 (length (octets ++ more))) (nat_lt 16777216 (length octets)) _ _ _ (lt-ltb 16777216 (length (octets ++ more)) (omega (arith, length-append octets more, h))) (lt-ltb 16777216 (length octets) h)
+hex-bounded octets h more = long_alike octets more _ _ _ h
+
+pub limit-bounded : IsBounded within_limit
+limit-bounded octets h more = long_alike octets more _ _ _ h
+
+pub ingress-bounded : IsBounded input_of
+ingress-bounded octets h more = long_alike octets more _ _ _ h
+
+pub probe-bounded : IsBounded probe_of
+probe-bounded octets h more = long_alike octets more _ _ _ h
 
 -- What was read says what the whole input says.
 pub says-alike : {X : Type 0} (says : List ℕ → X) (left new : Option (List ℕ)) (octets : List ℕ) → IsBounded says → IsReadUpTo 16777216 left new octets → SaysAlike says left octets
@@ -69,26 +84,26 @@ takes left new (Err stops.Memory) t = tt
 takes left new (Err stops.Label) t = t
 
 -- The text had a fault.
-pub ends-fault : (detail : Detail) (left old new : Option (List ℕ)) (octets : List ℕ) (fault : TextFault) (stop : Stop) → SaysAlike script_of left octets → script_of octets ≡ Err fault →
-    (stop ≡ stops.Text → Appended old new (fault_text fault)) → (stop ≡ stops.Text) ⊎ AppendedPart old new (fault_text fault) → (stop ≢ stops.Source) × (stop ≢ stops.Label) → ReplayEnds detail left (Err stop) old new
-ends-fault detail left old new octets fault stops.Text a e w p n = record { input = a.input; is_input = a.is_input; fault = fault; said = a.same ∙ e; text = w refl }
-ends-fault detail left old new octets fault stops.Source a e w p n = absurd (n.0 refl)
-ends-fault detail left old new octets fault stops.Sink a e w (inl t) n = absurd cc
-ends-fault detail left old new octets fault stops.Sink a e w (inr p) n = record { input = a.input; is_input = a.is_input; part = rw (a.same, e) p }
-ends-fault detail left old new octets fault stops.Memory a e w (inl t) n = absurd cc
-ends-fault detail left old new octets fault stops.Memory a e w (inr p) n = inr (record { input = a.input; is_input = a.is_input; part = rw (a.same, e) p })
-ends-fault detail left old new octets fault stops.Label a e w p n = absurd (n.1 refl)
+pub ends-fault : (output : Output) (left old new : Option (List ℕ)) (octets : List ℕ) (fault : TextFault) (stop : Stop) → SaysAlike script_of left octets → script_of octets ≡ Err fault →
+    (stop ≡ stops.Text → Appended old new (fault_text fault)) → (stop ≡ stops.Text) ⊎ AppendedPart old new (fault_text fault) → (stop ≢ stops.Source) × (stop ≢ stops.Label) → ReplayEnds output left (Err stop) old new
+ends-fault output left old new octets fault stops.Text a e w p n = record { input = a.input; is_input = a.is_input; fault = fault; said = a.same ∙ e; text = w refl }
+ends-fault output left old new octets fault stops.Source a e w p n = absurd (n.0 refl)
+ends-fault output left old new octets fault stops.Sink a e w (inl t) n = absurd cc
+ends-fault output left old new octets fault stops.Sink a e w (inr p) n = record { input = a.input; is_input = a.is_input; part = rw (a.same, e) p }
+ends-fault output left old new octets fault stops.Memory a e w (inl t) n = absurd cc
+ends-fault output left old new octets fault stops.Memory a e w (inr p) n = inr (record { input = a.input; is_input = a.is_input; part = rw (a.same, e) p })
+ends-fault output left old new octets fault stops.Label a e w p n = absurd (n.1 refl)
 
 -- The script was replayed.
-pub ends-script : (detail : Detail) (left old new : Option (List ℕ)) (octets : List ℕ) (script : Script) (result : Result WorldView Stop) → SaysAlike script_of left octets → script_of octets ≡ Ok script →
-    Replays detail script result old new → IfErr result (λ e. (e ≡ stops.Label) ⊎ (e ≡ stops.Sink) ⊎ (e ≡ stops.Memory)) → ReplayEnds detail left result old new
-ends-script detail left old new octets script (Ok view) a e r o = record { input = a.input; is_input = a.is_input; script = script; said = a.same ∙ e; holds = r }
-ends-script detail left old new octets script (Err stops.Label) a e r o = record { input = a.input; is_input = a.is_input; script = script; said = a.same ∙ e; holds = r }
-ends-script detail left old new octets script (Err stops.Sink) a e r o = record { input = a.input; is_input = a.is_input; part = rw (a.same, e) r }
-ends-script detail left old new octets script (Err stops.Memory) a e r o = inr (record { input = a.input; is_input = a.is_input; part = rw (a.same, e) r })
-ends-script detail left old new octets script (Err stops.Text) a e r (inl t) = absurd cc
-ends-script detail left old new octets script (Err stops.Text) a e r (inr (inl t)) = absurd cc
-ends-script detail left old new octets script (Err stops.Text) a e r (inr (inr t)) = absurd cc
-ends-script detail left old new octets script (Err stops.Source) a e r (inl t) = absurd cc
-ends-script detail left old new octets script (Err stops.Source) a e r (inr (inl t)) = absurd cc
-ends-script detail left old new octets script (Err stops.Source) a e r (inr (inr t)) = absurd cc
+pub ends-script : (output : Output) (left old new : Option (List ℕ)) (octets : List ℕ) (script : Script) (result : Result WorldView Stop) → SaysAlike script_of left octets → script_of octets ≡ Ok script →
+    Replays output script result old new → IfErr result (λ e. (e ≡ stops.Label) ⊎ (e ≡ stops.Sink) ⊎ (e ≡ stops.Memory)) → ReplayEnds output left result old new
+ends-script output left old new octets script (Ok view) a e r o = record { input = a.input; is_input = a.is_input; script = script; said = a.same ∙ e; holds = r }
+ends-script output left old new octets script (Err stops.Label) a e r o = record { input = a.input; is_input = a.is_input; script = script; said = a.same ∙ e; holds = r }
+ends-script output left old new octets script (Err stops.Sink) a e r o = record { input = a.input; is_input = a.is_input; part = rw (a.same, e) r }
+ends-script output left old new octets script (Err stops.Memory) a e r o = inr (record { input = a.input; is_input = a.is_input; part = rw (a.same, e) r })
+ends-script output left old new octets script (Err stops.Text) a e r (inl t) = absurd cc
+ends-script output left old new octets script (Err stops.Text) a e r (inr (inl t)) = absurd cc
+ends-script output left old new octets script (Err stops.Text) a e r (inr (inr t)) = absurd cc
+ends-script output left old new octets script (Err stops.Source) a e r (inl t) = absurd cc
+ends-script output left old new octets script (Err stops.Source) a e r (inr (inl t)) = absurd cc
+ends-script output left old new octets script (Err stops.Source) a e r (inr (inr t)) = absurd cc

@@ -1,12 +1,12 @@
 -- Laws of what was replayed so far.
-use Rattle.std.proofs.Common.{◌≡◌, ℕ, zero, suc, ◌+◌, ◌<◌, List, [], ◌∷◌, ◌++◌, length, take, drop, get_or, slice_get, refl, sym, ap, subst, ◌∙◌, append-nil, arith}
+use Rattle.std.proofs.Common.{◌≡◌, ℕ, zero, suc, ◌+◌, ◌<◌, ◌⊎◌, inl, inr, List, [], ◌∷◌, ◌++◌, length, take, drop, get_or, slice_get, refl, sym, ap, subst, ◌∙◌, arith}
 use Rattle.std.specs.Prelude.{Option, Some, Result, Ok, Err}
 use Rattle.std.specs.List.{AllByRecursion}
 use Rattle.std.proofs.lemmas.List.{take_all}
 use Rattle.std.proofs.lemmas.Option.{slice_get_read}
 use Rattle.mv_base.specs.declared.ids.NodeId.{NodeId}
 use Rattle.mv_io.specs.Octets.{Appended, AppendedPart}
-use Rattle.mv_io.proofs.OctetsLemmas.{appended-append, appended-nil, part_after, part_of_front, prefix-nil}
+use Rattle.mv_io.proofs.OctetsLemmas.{appended-append, part_after, part_of_front}
 use Rattle.scenario_defs.specs.Rules.{ScriptRules}
 use Rattle.scenario_defs.specs.declared.event.Script.{Script}
 use Rattle.scenario_defs.specs.declared.event.Timed.{Timed}
@@ -20,18 +20,23 @@ use Rattle.network_defs.specs.Costs.{AreCoresOf, Cores}
 use Rattle.network_defs.specs.Events.{Happened, Outcome, Done, Halted}
 use Rattle.network_defs.specs.Run.{Halts, Run, Traced, outcome, report_of, traced}
 use Rattle.network_defs.specs.World.{World, start}
-use Rattle.network_events.proofs.delivery_laws.Splits.{cut_at, runs_join, take_to}
-use Rattle.run_laws.specs.Octets.{ScriptHasOctets}
+use Rattle.network_events.proofs.delivery_laws.Splits.{cut_at, take_to}
+use Rattle.hop_laws.specs.run_laws.Octets.{ScriptHasOctets}
 use Rattle.network_events.specs.Behind.{IsBegun}
 use Rattle.network_events.specs.WorldView.{WorldView}
 use Rattle.mvpn_tool.specs.Known.{KnownRuns}
-use Rattle.mvpn_tool.specs.Outcome.{EventEnds, GoesOn, Lacks, Place, Replayed, Replays, ReplaysPart, ReplaysUpToHalt, ReplaysWhole, event_text}
-use Rattle.mvpn_tool.specs.Report.{UpToHalt, event_lines, lines_text, text_of}
-use Rattle.mvpn_tool.specs.declared.command.Detail.{Detail}
+use Rattle.hop_laws.proofs.Ends.{run_next}
+use Rattle.mvpn_tool.specs.Outcome.{EventEnds, GoesOn, Lacks, OnWay, Place, Replayed, Replays, ReplaysPart, ReplaysUpToHalt, ReplaysWhole, written_at}
+use Rattle.mvpn_tool.specs.Output.{IsKept, event_output, front_of, output_of}
+use Rattle.mvpn_tool.specs.Report.{UpToHalt, event_lines}
+use Rattle.mvpn_tool.specs.declared.command.Output.{Output}
+use Rattle.mvpn_tool.specs.declared.command.Output.TheVariants as outputs
+use Rattle.mvpn_tool.specs.declared.sent_hops.SoFar.{SoFar}
 use Rattle.mvpn_tool.specs.declared.stop.Stop.{Stop}
 use Rattle.mvpn_tool.specs.declared.stop.Stop.TheVariants as stops
 use Rattle.mvpn_tool.proofs.FirstEventLemmas.{behind_none}
-use Rattle.mvpn_tool.proofs.TextLemmas.{lines_at, lines_of-append, report_of-append, text_halted, text_more, text_none, text_of-append}
+use Rattle.mvpn_tool.proofs.OutputLemmas.{output_begins, output_halted, output_more, output_none}
+use Rattle.mvpn_tool.proofs.TextLemmas.{lines_at, lines_of-append, report_of-append}
 
 abbrev ended : Stop → Result WorldView Stop
 ended stop = Err stop
@@ -74,66 +79,91 @@ known_more scenario trace count acts a b =
     subst (AllByRecursion (IsKnown scenario)) (sym (ap lines_of (report_of-append trace (traced count acts)) ∙ lines_of-append (report_of trace) (report_of (traced count acts))))
     (known_append scenario (lines_of (report_of trace)) (lines_of (report_of (traced count acts))) a (subst (AllByRecursion (IsKnown scenario)) (sym (lines_at count acts)) b))
 
-module _ (known : KnownRuns) (detail : Detail) (script : Script) (rules : ScriptRules script) (octets : ScriptHasOctets script) where
-  abbrev text : List Entry → List ℕ
-  text report = text_of detail script.scenario report
+-- nothing happened yet
+nothing_kept : (output : Output) (events : List Timed) (so_far : SoFar) → so_far.clock ≡ 0 → so_far.sent ≡ [] → IsKept output events [] 0 so_far
+nothing_kept (outputs.Report detail) events so_far clock sent = tt
+nothing_kept outputs.Hops events so_far clock sent = (clock, sent)
 
-  -- Nothing was written.
-  replayed-nothing : (old : Option (List ℕ)) → ReplaysPart detail script old old
-  replayed-nothing old =
+module _ (known : KnownRuns) (output : Output) (script : Script) (rules : ScriptRules script) (octets : ScriptHasOctets script) where
+  abbrev text : List Entry → List ℕ
+  text report = output_of output script report
+
+  -- At most the front was written.
+  replayed-front : (old new : Option (List ℕ)) → AppendedPart old new (front_of output) → ReplaysPart output script old new
+  replayed-front old new part =
       let own = known.cores script.scenario rules.scenario in
       let on = known.begins own.0 script 0 [] (start script.scenario own.0) rules octets own.1 (refl, refl) in
-      record { report = on.report; is_report = on.is_report; text = ([], prefix-nil (text on.report), appended-nil old) }
-
-  -- No event was replayed yet.
-  pub replayed-none : (old : Option (List ℕ)) (view : WorldView) → IsBegun script.scenario view → Replayed detail script 0 old old view
-  replayed-none old view begun =
-      let own = known.cores script.scenario rules.scenario in
+      let begins = output_begins known.text output script [] on in
       record {
-        cores = own.0;
-        trace = [];
-        state = start script.scenario own.0;
-        behind = behind_none script rules view begun own.0 own.1;
-        known = tt;
-        text = subst (Appended old old) (sym (text_none known.text detail script.scenario)) (appended-nil old);
+        report = on.report;
+        is_report = on.is_report;
+        text = subst (AppendedPart old new) (sym begins.1) (part_of_front old new (text []) begins.0 (subst (AppendedPart old new) (sym (output_none known.text output script)) part));
       }
 
-  module _ (scenario : Scenario) (names : script.scenario ≡ scenario) (count : ℕ) (timed : Timed) (old mid new : Option (List ℕ)) (view : WorldView)
-      (at : slice_get script.events count ≡ Some timed) (r : Replayed detail script count old mid view) where
+  -- No event was replayed yet.
+  pub replayed-none : (old new : Option (List ℕ)) (view : WorldView) → IsBegun script.scenario view → Appended old new (front_of output) → (so_far : SoFar) → so_far.clock ≡ 0 → so_far.sent ≡ [] → OnWay output script 0 old new view so_far
+  replayed-none old new view begun front so_far clock sent =
+      let own = known.cores script.scenario rules.scenario in
+      record {
+        replayed = record {
+          cores = own.0;
+          trace = [];
+          state = start script.scenario own.0;
+          behind = behind_none script rules view begun own.0 own.1;
+          known = tt;
+          text = subst (Appended old new) (sym (output_none known.text output script)) front;
+        };
+        kept = nothing_kept output script.events so_far clock sent;
+      }
+
+  module _ (scenario : Scenario) (names : script.scenario ≡ scenario) (count : ℕ) (timed : Timed) (old mid new : Option (List ℕ)) (view : WorldView) (so_far : SoFar)
+      (at : slice_get script.events count ≡ Some timed) (way : OnWay output script count old mid view so_far) where
+    abbrev r : Replayed output script count old mid view
+    r = way.replayed
+
     -- where the next event is met
-    abbrev pub place_of : Place scenario timed view
+    abbrev pub place_of : Place output scenario timed view so_far
     place_of = record {
-      cores = r.cores;
+      cores = way.replayed.cores;
       script = script;
       count = count;
-      trace = r.trace;
-      state = r.state;
+      trace = way.replayed.trace;
+      state = way.replayed.state;
       of_scenario = names;
       octets = octets;
-      behind = r.behind;
+      behind = way.replayed.behind;
       next = at;
+      kept = way.kept;
     }
 
-    -- the text of the event, by the names of the script's scenario
-    abbrev text_by : Outcome → List ℕ
-    text_by o = lines_text detail script.scenario (event_lines timed.line o)
+    -- what is written of the event, by the names of the script's scenario
+    abbrev own_by : Outcome → List ℕ
+    own_by o = event_output output script.scenario script.events (report_of r.trace) count (event_lines timed.line o)
 
-    own_text : event_text detail scenario timed view place_of ≡ text_by (outcome r.state timed)
-    own_text = ap (λ (s : Scenario). lines_text detail s (event_lines timed.line (outcome r.state timed))) (sym names)
+    abbrev own : List ℕ
+    own = written_at output scenario timed view so_far place_of
+
+    own_text : own ≡ own_by (outcome r.state timed)
+    own_text = ap (λ (s : Scenario). event_output output s script.events (report_of r.trace) count (event_lines timed.line (outcome r.state timed))) (sym names)
+
+    more_text : (acts : List Happened) (next : World) → outcome r.state timed ≡ Done acts next → text (report_of (r.trace ++ traced count acts)) ≡ text (report_of r.trace) ++ own
+    more_text acts next is =
+        output_more known.text r.cores script rules count r.trace r.state r.behind.is.run timed at acts next is output
+        ∙ ap (λ (l : List ℕ). text (report_of r.trace) ++ l) (ap own_by (sym is) ∙ sym own_text)
 
     -- One event more.
-    replayed-more : (now : WorldView) → GoesOn detail scenario timed view place_of mid new now → Replayed detail script (count + 1) old new now
-    replayed-more now g =
-        let both : text (report_of (r.trace ++ traced count g.acts)) ≡ text (report_of r.trace) ++ event_text detail scenario timed view place_of =
-        text_more known.text detail script.scenario r.trace count g.acts ∙ ap (λ (l : List ℕ). text (report_of r.trace) ++ l) (ap text_by (sym g.is) ∙ sym own_text) in
-        record {
-          cores = r.cores;
-          trace = r.trace ++ traced count g.acts;
-          state = g.state;
-          behind = g.behind;
-          known = known_more script.scenario r.trace count g.acts r.known (subst (λ (s : Scenario). AllByRecursion (IsKnown s) (lines_in g.acts)) (sym names) g.known);
-          text = subst (Appended old new) (sym both) (appended-append old mid new (text (report_of r.trace)) (event_text detail scenario timed view place_of) r.text g.text);
-        }
+    replayed-more : (now : WorldView) (kept_now : SoFar) → GoesOn output scenario timed view so_far place_of mid new now kept_now → OnWay output script (count + 1) old new now kept_now
+    replayed-more now kept_now g = record {
+      replayed = record {
+        cores = r.cores;
+        trace = r.trace ++ traced count g.acts;
+        state = g.state;
+        behind = g.behind;
+        known = known_more script.scenario r.trace count g.acts r.known (subst (λ (s : Scenario). AllByRecursion (IsKnown s) (lines_in g.acts)) (sym names) g.known);
+        text = subst (Appended old new) (sym (more_text g.acts g.state g.is)) (appended-append old mid new (text (report_of r.trace)) own r.text g.text);
+      };
+      kept = g.kept;
+    }
 
     -- ---- where the event lacks a label
 
@@ -143,45 +173,41 @@ module _ (known : KnownRuns) (detail : Detail) (script : Script) (rules : Script
     halts_here : (acts : List Happened) (node : NodeId) → outcome r.state timed ≡ Halted acts node → Halts r.cores script (own_report acts node) node
     halts_here acts node lacks = halts_at r.cores script count r.trace r.state timed acts node r.behind.is.of_scenario r.behind.is.run at lacks
 
-    halted_text : (acts : List Happened) (node : NodeId) → outcome r.state timed ≡ Halted acts node → text (own_report acts node) ≡ text (report_of r.trace) ++ event_text detail scenario timed view place_of
+    halted_text : (acts : List Happened) (node : NodeId) → outcome r.state timed ≡ Halted acts node → text (own_report acts node) ≡ text (report_of r.trace) ++ own
     halted_text acts node lacks =
-        text_halted known.text detail script.scenario r.trace count acts (lines.Halt timed.line node)
-        ∙ ap (λ (l : List ℕ). text (report_of r.trace) ++ l) (ap text_by (sym lacks) ∙ sym own_text)
+        output_halted known.text r.cores script rules count r.trace r.state r.behind.is.run timed at acts node lacks output
+        ∙ ap (λ (l : List ℕ). text (report_of r.trace) ++ l) (ap own_by (sym lacks) ∙ sym own_text)
 
-    replayed-halted : Lacks detail scenario timed view place_of mid new → ReplaysUpToHalt detail script old new
+    replayed-halted : Lacks output scenario timed view so_far place_of mid new → ReplaysUpToHalt output script old new
     replayed-halted l = record {
       cores = r.cores;
       report = own_report l.acts l.node;
       node = l.node;
       halted = known.halted r.cores script (own_report l.acts l.node) l.node rules octets (halts_here l.acts l.node l.is);
-      text = subst (Appended old new) (sym (halted_text l.acts l.node l.is)) (appended-append old mid new (text (report_of r.trace)) (event_text detail scenario timed view place_of) r.text l.text);
+      text = subst (Appended old new) (sym (halted_text l.acts l.node l.is)) (appended-append old mid new (text (report_of r.trace)) own r.text l.text);
     }
 
     -- ---- where it ended early
 
     run_more : (acts : List Happened) (next : World) → outcome r.state timed ≡ Done acts next → Run r.cores script (take (suc count) script.events) (r.trace ++ traced count acts) next
     run_more acts next is =
-        let place : count ≡ 0 + length (take count script.events) = omega (arith, length_first script.events count timed at) in
         subst (λ (l : List Timed). Run r.cores script l (r.trace ++ traced count acts) next) (sym (take_to script.events count timed at))
-        (runs_join (take count script.events) (timed ∷ []) (start script.scenario r.cores) r.state next 0 r.trace (traced count acts) r.behind.is.run count place
-        (acts, next, [], is, sym (append-nil (traced count acts)), (refl, refl)))
+        (run_next r.cores script count r.trace r.state r.behind.is.run rules timed at acts next is)
 
-    module _ (part : AppendedPart mid new (event_text detail scenario timed view place_of)) where
-      both_parts : AppendedPart old new (text (report_of r.trace) ++ event_text detail scenario timed view place_of)
-      both_parts = part_after old mid new (text (report_of r.trace)) (event_text detail scenario timed view place_of) r.text part
+    module _ (part : AppendedPart mid new own) where
+      both_parts : AppendedPart old new (text (report_of r.trace) ++ own)
+      both_parts = part_after old mid new (text (report_of r.trace)) own r.text part
 
-      part_by : (o : Outcome) → outcome r.state timed ≡ o → ReplaysPart detail script old new
+      part_by : (o : Outcome) → outcome r.state timed ≡ o → ReplaysPart output script old new
       part_by (Done acts next) is =
           let trace : List Traced = r.trace ++ traced count acts in
           let on = known.begins r.cores script (suc count) trace next rules octets r.behind.is.of_scenario (run_more acts next is) in
-          let so_far : text (report_of trace) ≡ text (report_of r.trace) ++ event_text detail scenario timed view place_of =
-          text_more known.text detail script.scenario r.trace count acts ∙ ap (λ (l : List ℕ). text (report_of r.trace) ++ l) (ap text_by (sym is) ∙ sym own_text) in
-          let all : text on.report ≡ (text (report_of r.trace) ++ event_text detail scenario timed view place_of) ++ text on.more =
-          ap text on.whole ∙ text_of-append known.text detail script.scenario (report_of trace) on.more ∙ ap (λ (l : List ℕ). l ++ text on.more) so_far in
+          let begins = output_begins known.text output script (report_of trace) on in
+          let all : text on.report ≡ (text (report_of r.trace) ++ own) ++ begins.0 = begins.1 ∙ ap (λ (l : List ℕ). l ++ begins.0) (more_text acts next is) in
           record {
             report = on.report;
             is_report = on.is_report;
-            text = subst (AppendedPart old new) (sym all) (part_of_front old new (text (report_of r.trace) ++ event_text detail scenario timed view place_of) (text on.more) both_parts);
+            text = subst (AppendedPart old new) (sym all) (part_of_front old new (text (report_of r.trace) ++ own) begins.0 both_parts);
           }
       part_by (Halted acts node) is = record {
         report = own_report acts node;
@@ -189,29 +215,30 @@ module _ (known : KnownRuns) (detail : Detail) (script : Script) (rules : Script
         text = subst (AppendedPart old new) (sym (halted_text acts node is)) both_parts;
       }
 
-      replayed-part : ReplaysPart detail script old new
+      replayed-part : ReplaysPart output script old new
       replayed-part = part_by (outcome r.state timed) refl
 
     -- ---- what an event leaves
 
-    pub after-event : (now : WorldView) → EventEnds detail scenario timed view now mid new (Ok tt) → Replayed detail script (count + 1) old new now
-    after-event now ends = replayed-more now (ends.made place_of)
+    pub after-event : (now : WorldView) (kept_now : SoFar) → EventEnds output scenario timed view now so_far kept_now mid new (Ok tt) → OnWay output script (count + 1) old new now kept_now
+    after-event now kept_now ends = replayed-more now kept_now (ends.made place_of)
 
-    pub after-stop : (now : WorldView) (stop : Stop) → EventEnds detail scenario timed view now mid new (Err stop) → Replays detail script (Err stop) old new
-    after-stop now stops.Label ends = replayed-halted (ends.lacks refl place_of)
-    after-stop now stops.Text ends = replayed-part (ends.part place_of)
-    after-stop now stops.Source ends = replayed-part (ends.part place_of)
-    after-stop now stops.Sink ends = replayed-part (ends.part place_of)
-    after-stop now stops.Memory ends = replayed-part (ends.part place_of)
+    pub after-stop : (now : WorldView) (kept_now : SoFar) (stop : Stop) → EventEnds output scenario timed view now so_far kept_now mid new (Err stop) → Replays output script (Err stop) old new
+    after-stop now kept_now stops.Label ends = replayed-halted (ends.lacks refl place_of)
+    after-stop now kept_now stops.Text ends = replayed-part (ends.part place_of)
+    after-stop now kept_now stops.Source ends = replayed-part (ends.part place_of)
+    after-stop now kept_now stops.Sink ends = replayed-part (ends.part place_of)
+    after-stop now kept_now stops.Memory ends = replayed-part (ends.part place_of)
 
-  -- There was no memory to begin with.
-  pub never-begun : (old : Option (List ℕ)) (result : Result WorldView Stop) (stop : Stop) → result ≡ Err stop → stop ≡ stops.Memory → Replays detail script result old old
-  never-begun old result stop is memory = subst (λ (r : Result WorldView Stop). Replays detail script r old old) (sym (is ∙ ap ended memory)) (replayed-nothing old)
+  -- It ended before the first event, with at most the front written.
+  pub never-begun : (old new : Option (List ℕ)) (result : Result WorldView Stop) (stop : Stop) → result ≡ Err stop → (stop ≡ stops.Sink) ⊎ (stop ≡ stops.Memory) → AppendedPart old new (front_of output) → Replays output script result old new
+  never-begun old new result stop is (inl sink) part = subst (λ (r : Result WorldView Stop). Replays output script r old new) (sym (is ∙ ap ended sink)) (replayed-front old new part)
+  never-begun old new result stop is (inr memory) part = subst (λ (r : Result WorldView Stop). Replays output script r old new) (sym (is ∙ ap ended memory)) (replayed-front old new part)
 
   -- All events were replayed.
-  pub replayed-all : (count : ℕ) (old new : Option (List ℕ)) (view : WorldView) → count ≡ length script.events → Replayed detail script count old new view → ReplaysWhole detail script old new view
-  replayed-all count old new view all r =
-      let whole : Replayed detail script (length script.events) old new view = subst (λ (n : ℕ). Replayed detail script n old new view) all r in
+  pub replayed-all : (count : ℕ) (old new : Option (List ℕ)) (view : WorldView) (so_far : SoFar) → count ≡ length script.events → OnWay output script count old new view so_far → ReplaysWhole output script old new view
+  replayed-all count old new view so_far all way =
+      let whole : Replayed output script (length script.events) old new view = subst (λ (n : ℕ). Replayed output script n old new view) all way.replayed in
       record {
         replayed = whole;
         whole = known.whole whole.cores script whole.trace whole.state rules octets whole.behind.is.of_scenario

@@ -9,13 +9,14 @@ use Rattle.scenario_text.specs.Grammar.{script_of}
 use Rattle.mvpn_model.specs.Report.{Entry, lines_of}
 use Rattle.network_defs.specs.Run.{report_of}
 use Rattle.network_events.specs.WorldView.{WorldView}
-use Rattle.run_laws.specs.Plain.{is_plain, plain}
+use Rattle.hop_laws.specs.run_laws.Plain.{is_plain, plain}
 use Rattle.audit_defs.specs.declared.verdict.ReportLines.{ReportLines}
 use Rattle.audit_defs.specs.Markers.{values}
 use Rattle.audit_defs.specs.Verdicts.{HasNoOffence}
 use Rattle.audit_text.specs.Texts.{IsKnown, Says, with_report}
 use Rattle.mvpn_tool.specs.declared.command.Detail.{Detail}
 use Rattle.mvpn_tool.specs.declared.command.Detail.TheVariants as details
+use Rattle.mvpn_tool.specs.declared.command.Output.TheVariants as outputs
 use Rattle.mvpn_tool.specs.Outcome.{ReplaysWhole}
 use Rattle.mvpn_tool.specs.Report.{is_told, own_report}
 use Rattle.mvpn_tool.proofs.TextLemmas.{all_told, text_by_lines}
@@ -39,7 +40,7 @@ module _ (plain_lines : (report : List Entry) → lines_of (plain report) ≡ fi
   told_lines details.Plain report own e = inr (e ∙ sym (plain_lines report))
 
   pub own_reports : (detail : Detail) (front : List ℕ) (script : Script) (old new : Option (List ℕ)) (view : WorldView) → script_of (front ++ 10 ∷ []) ≡ Ok script →
-      (whole : ReplaysWhole detail script old new view) → length (own_report detail (front ++ 10 ∷ []) script (report_of whole.replayed.trace)) ≤ 16777216 →
+      (whole : ReplaysWhole (outputs.Report detail) script old new view) → length (own_report detail (front ++ 10 ∷ []) script (report_of whole.replayed.trace)) ≤ 16777216 →
       (report : ReportLines) × Says (own_report detail (front ++ 10 ∷ []) script (report_of whole.replayed.trace)) script report × HasNoOffence script report
   own_reports detail front script old new view is whole short =
       let report : List Entry = report_of whole.replayed.trace in

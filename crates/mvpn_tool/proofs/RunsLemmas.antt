@@ -9,11 +9,11 @@ use Rattle.mv_base.specs.declared.ids.NodeId.{NodeId}
 use Rattle.network_defs.specs.Costs.{Cores}
 use Rattle.network_defs.specs.Run.{Halts, Run, Traced}
 use Rattle.network_defs.specs.World.{World}
-use Rattle.run_laws.specs.Runs.{of_events}
+use Rattle.hop_laws.specs.run_laws.Runs.{of_events}
 use Rattle.network_defs.proofs.CostLemmas.{same_cores}
 use Rattle.network_events.specs.WorldView.{WorldView}
 use Rattle.mvpn_tool.specs.Input.{IsInput, Taken}
-use Rattle.mvpn_tool.specs.declared.command.Detail.{Detail}
+use Rattle.mvpn_tool.specs.declared.command.Output.{Output}
 use Rattle.mvpn_tool.specs.Outcome.{EndsHalted, EndsWell}
 use Rattle.mvpn_tool.specs.declared.command.Command.{Command}
 use Rattle.mvpn_tool.specs.declared.command.Command.TheVariants as commands
@@ -64,22 +64,22 @@ module _ (never_both : (cores : Cores) (script : Script) (events : List Timed) (
       never_both one.cores script script.events all.trace all.state one.report one.node (subst (λ (own : Cores). Run own script script.events all.trace all.state) same all.run) one.halt
 
   -- A script of which all was replayed does not halt.
-  pub well_not_halted : (detail : Detail) (left old new : Option (List ℕ)) (view : WorldView) → EndsWell detail left old new view → (input : List ℕ) (script : Script) → left ≡ Some input → script_of input ≡ Ok script → OneHalts script → ⊥
-  well_not_halted detail left old new view ends input script tells says one =
+  pub well_not_halted : (output : Output) (left old new : Option (List ℕ)) (view : WorldView) → EndsWell output left old new view → (input : List ℕ) (script : Script) → left ≡ Some input → script_of input ≡ Ok script → OneHalts script → ⊥
+  well_not_halted output left old new view ends input script tells says one =
       let same = same_script left ends.input input ends.script script ends.is_input ends.said tells says in
       let whole = ends.holds.whole in
       not_both ends.script (record { cores = ends.holds.replayed.cores; of_scenario = whole.of_scenario; trace = ends.holds.replayed.trace; state = ends.holds.replayed.state; run = whole.run })
       (subst OneHalts (sym same) one)
 
   -- A script that halts does not run to its end.
-  pub halted_not_whole : (detail : Detail) (left old new : Option (List ℕ)) → EndsHalted detail left old new → (input : List ℕ) (script : Script) → left ≡ Some input → script_of input ≡ Ok script → AllRun script → ⊥
-  halted_not_whole detail left old new ends input script tells says all =
+  pub halted_not_whole : (output : Output) (left old new : Option (List ℕ)) → EndsHalted output left old new → (input : List ℕ) (script : Script) → left ≡ Some input → script_of input ≡ Ok script → AllRun script → ⊥
+  halted_not_whole output left old new ends input script tells says all =
       let same = same_script left ends.input input ends.script script ends.is_input ends.said tells says in
       not_both ends.script (subst AllRun (sym same) all) (record { cores = ends.holds.cores; report = ends.holds.report; node = ends.holds.node; halt = ends.holds.halted.halt })
 
   -- ---- the two ends of a replay
 
-  module _ (detail : Detail) (left rest old new : Option (List ℕ)) (source_before source_now sink_before sink_now : ℕ) (taken : Taken left rest) where
+  module _ (output : Output) (left rest old new : Option (List ℕ)) (source_before source_now sink_before sink_now : ℕ) (taken : Taken left rest) where
     abbrev ending : ℕ → Option WorldView → Ending
     ending status world = record {
       status = status;
@@ -95,7 +95,7 @@ module _ (never_both : (cores : Cores) (script : Script) (events : List Timed) (
     }
 
     -- All was replayed.
-    pub whole_ended : (view : WorldView) → EndsWell detail left old new view → ReplayRun detail (ending 0 (Some view))
+    pub whole_ended : (view : WorldView) → EndsWell output left old new view → ReplayRun output (ending 0 (Some view))
     whole_ended view ends = record {
       zero = λ e. ends;
       zero_always = λ script gives all. inl refl;
@@ -108,17 +108,17 @@ module _ (never_both : (cores : Cores) (script : Script) (events : List Timed) (
       five_cause = λ e. absurd (omega (arith, e));
       six = λ e. absurd (omega (arith, e));
       seven = λ e. absurd (omega (arith, e));
-      seven_always = λ script gives one. absurd (well_not_halted detail left old new view ends gives.0 script gives.1 gives.2 one);
+      seven_always = λ script gives one. absurd (well_not_halted output left old new view ends gives.0 script gives.1 gives.2 one);
       taken = λ e f. taken;
       complete = λ script source sink gives. inl refl;
       only = inl refl;
     }
 
     -- An event lacks a label.
-    pub halt_ended : EndsHalted detail left old new → ReplayRun detail (ending 7 None)
+    pub halt_ended : EndsHalted output left old new → ReplayRun output (ending 7 None)
     halt_ended ends = record {
       zero = λ e. absurd (omega (arith, e));
-      zero_always = λ script gives all. absurd (halted_not_whole detail left old new ends gives.0 script gives.1 gives.2 all);
+      zero_always = λ script gives all. absurd (halted_not_whole output left old new ends gives.0 script gives.1 gives.2 all);
       worldless = λ e. refl;
       three = λ e. absurd (omega (arith, e));
       three_always = λ input fault tells says. absurd (not_faulty left ends.input input ends.script fault ends.is_input ends.said tells says);

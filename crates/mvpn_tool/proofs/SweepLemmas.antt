@@ -22,7 +22,7 @@ use Rattle.network_defs.specs.Nodes.{part_of}
 use Rattle.network_defs.specs.Run.{Halts, Run, Traced, report_of, traced}
 use Rattle.network_defs.specs.World.{World, start}
 use Rattle.network_events.specs.delivery_laws.Flood.{lines_in}
-use Rattle.run_laws.specs.Octets.{ScriptHasOctets}
+use Rattle.hop_laws.specs.run_laws.Octets.{ScriptHasOctets}
 use Rattle.network_events.specs.Behind.{IsBegun, Steps}
 use Rattle.network_events.specs.WorldView.{WorldView}
 use Rattle.network_events.specs.declared.halt.Halt.TheVariants as halts

@@ -12,7 +12,7 @@ use Rattle.mvpn_model.specs.Report.{Entry, lines_of}
 use Rattle.network_defs.specs.Events.{Happened}
 use Rattle.network_defs.specs.Run.{Traced, report_of, traced}
 use Rattle.network_events.specs.delivery_laws.Flood.{lines_in}
-use Rattle.run_laws.specs.Plain.{is_plain, plain}
+use Rattle.hop_laws.specs.run_laws.Plain.{is_plain, plain}
 use Rattle.mvpn_tool.specs.Report.{is_told, lines_text, text_of}
 use Rattle.mvpn_tool.specs.declared.command.Detail.{Detail}
 use Rattle.mvpn_tool.specs.declared.command.Detail.TheVariants as details

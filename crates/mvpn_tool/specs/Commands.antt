@@ -42,7 +42,8 @@ command_alone word =
     if pointwise nat_eq word (codes "audit") then Some commands.Audit else
     if pointwise nat_eq word (codes "hops") then Some commands.Hops else
     if pointwise nat_eq word (codes "ingress") then Some commands.Ingress else
-    if pointwise nat_eq word (codes "probe") then Some commands.Probe else None
+    if pointwise nat_eq word (codes "probe") then Some commands.Probe else
+    if pointwise nat_eq word (codes "pcap") then Some commands.Pcap else None
 
 -- the command that the words name: `replay` with or without `--wire`, `decode` and a format, `make` or `sweep` and a number, or a word
 -- alone
@@ -54,4 +55,4 @@ command_of (a ∷ b ∷ c ∷ more) = None
 
 -- the line that tells the forms of a command
 abbrev pub usage_line : List ℕ
-usage_line = codes "usage: mvpn replay [--wire] | decode nlri|pmsi|fec|bgp|ldp|pim | make NUMBER | sweep NUMBER | audit | probe | ingress | hops\n"
+usage_line = codes "usage: mvpn replay [--wire] | decode nlri|pmsi|fec|bgp|ldp|pim | make NUMBER | sweep NUMBER | audit | probe | ingress | pcap | hops\n"

@@ -1,14 +1,21 @@
--- The lines that `hops` writes of a file.
-use Rattle.std.specs.Prelude.{◌≡◌, ℕ, Bool, true, false, List, ◌++◌, codes, Option, None, Some}
+-- What `hops` reads, and the lines that it writes of a file.
+use Rattle.std.specs.Prelude.{◌≡◌, ℕ, Bool, true, false, nat_lt, List, ◌++◌, length, codes}
+use Rattle.std.specs.Prelude.{Option, None, Some, Result, Ok, Err, if◌then◌else◌}
 use Rattle.std.specs.Fmt.{decimal}
 use Rattle.std.specs.List.{flat_map}
 use Rattle.scenario_defs.specs.Text.{hex_text}
+use Rattle.line_words.specs.declared.fault.Reason.TheVariants as reasons
+use Rattle.line_words.specs.declared.fault.TextFault.{TextFault}
 use Rattle.value_text.specs.ValueText.{refused_line}
 use Rattle.core_pcap.specs.declared.fault.PcapFault.{PcapFault}
 use Rattle.core_pcap.specs.declared.fault.PcapFault.TheVariants as faults
 use Rattle.core_pcap.specs.declared.hop.CoreHop.{CoreHop}
 use Rattle.core_pcap.specs.File.{FirstFault}
 use Rattle.core_pcap.specs.Spelling.{SpellsFile}
+
+-- the octets of an input that has at most 16,777,216 of them
+abbrev pub within_limit : List ℕ → Result (List ℕ) TextFault
+within_limit input = if nat_lt 16777216 (length input) then Err (record { line = 1; column = 1; reason = reasons.Long }) else Ok input
 
 abbrev pub pcap_word : PcapFault → List ℕ
 pcap_word faults.Short = codes "short"
@@ -27,7 +34,8 @@ label_text hop = decimal hop.label ++ codes " " ++ decimal hop.ttl ++ codes " " 
 
 -- the clock, and the numbers of both nodes, in front of them
 abbrev pub hop_line : CoreHop → List ℕ
-hop_line hop = codes "hop " ++ decimal hop.tick ++ codes " " ++ decimal hop.from.0 ++ codes " " ++ decimal hop.to.0 ++ codes " " ++ label_text hop
+hop_line hop =
+    codes "hop " ++ decimal hop.tick ++ codes " " ++ decimal hop.from.0 ++ codes " " ++ decimal hop.to.0 ++ codes " " ++ label_text hop
 
 abbrev pub hop_lines : List CoreHop → List ℕ
 hop_lines hops = flat_map hop_line hops

@@ -1,14 +1,13 @@
 pub mod Input
 pub mod FirstEvents
 pub mod Report
+pub mod Output
 pub mod Outcome
-pub mod ProbeOutcome
+pub mod ProbeLines
+pub mod TellOutcome
 pub mod Known
 pub mod Sweep
-pub mod DecodeOutcome
 pub mod AuditOutcome
 pub mod Commands
 pub mod Runs
 pub mod HopLines
-pub mod HopsOutcome
-pub mod IngressOutcome

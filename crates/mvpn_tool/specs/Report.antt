@@ -1,6 +1,8 @@
 -- The reports of a script, and what `replay` writes of one.
-use Rattle.std.specs.Prelude.{◌≡◌, ◌⊎◌, ℕ, Bool, true, List, [], ◌∷◌, ◌++◌, length, filter, codes}
+use Rattle.std.specs.Prelude.{◌≡◌, ◌⊎◌, ℕ, Bool, true, List, [], ◌∷◌, ◌++◌, length, filter, codes, All}
 use Rattle.std.specs.List.{flat_map}
+use Rattle.core_pcap.specs.Spelling.{IsHop}
+use Rattle.hop_laws.specs.Hops.{NameDatagrams, hops_of}
 use Rattle.mv_base.specs.declared.ids.NodeId.{NodeId}
 use Rattle.scenario_defs.specs.Text.{line_text}
 use Rattle.scenario_defs.specs.declared.event.Script.{Script}
@@ -17,9 +19,9 @@ use Rattle.network_defs.specs.Local.{Local}
 use Rattle.network_defs.specs.Run.{Halts, Run, Traced, report_of, traced}
 use Rattle.network_defs.specs.World.{World, start}
 use Rattle.network_events.specs.delivery_laws.Flood.{lines_in}
-use Rattle.run_laws.specs.Plain.{is_plain, plain}
-use Rattle.run_laws.specs.Ready.{ReportsUnready}
-use Rattle.run_laws.specs.rule_laws.Throughout.{ThroughoutEvents}
+use Rattle.hop_laws.specs.run_laws.Plain.{is_plain, plain}
+use Rattle.hop_laws.specs.run_laws.Ready.{ReportsUnready}
+use Rattle.hop_laws.specs.run_laws.rule_laws.Throughout.{ThroughoutEvents}
 use Rattle.settle_laws.specs.Behind.{Settles}
 use Rattle.audit_defs.specs.declared.verdict.ReportLines.{ReportLines}
 use Rattle.audit_defs.specs.Markers.{values}
@@ -31,7 +33,8 @@ use Rattle.mvpn_tool.specs.declared.command.Detail.TheVariants as details
 -- that is sent while the network is calm leaves once at each of its receivers, and nowhere else; and each hop is licensed by what its
 -- node and the neighbour have put and taken. The label rule holds after each act. The last number of each `state` line is how many
 -- sessions are not ready by the events alone. After each `settle` no octet is in transit and no timer is due, and after each `drain` no
--- copy is on a link. The lines of its report, whole or plain, have no offence.
+-- copy is on a link. The lines of its report, whole or plain, have no offence. Each `hop` line names a datagram that was sent by then, and
+-- each hop has a spelling in a file of hops.
 pub record IsWholeRun (cores : Cores) (script : Script) (trace : List Traced) (world : World) : Type 0 where
   pub of_scenario : AreCoresOf script.scenario cores
   pub run : Run cores script script.events trace world
@@ -44,10 +47,12 @@ pub record IsWholeRun (cores : Cores) (script : Script) (trace : List Traced) (w
   pub fair :
       (report : ReportLines) → (values report.lines ≡ lines_of (report_of trace)) ⊎ (values report.lines ≡ lines_of (plain (report_of trace))) →
       HasNoOffence script report
+  pub named : NameDatagrams script.events (report_of trace)
+  pub spelled : All IsHop (hops_of script.events (report_of trace))
 
 -- The run halts at that node, for want of a label, with this report, whose last line says so. It is safe and local up to there, and the
 -- label rule holds after each act. Of the events before the one that halts each datagram of a calm network was delivered once, and what is
--- said of `state`, `settle` and `drain` holds as in a whole run.
+-- said of `state`, `settle`, `drain` and hops holds as in a whole run.
 pub record IsHaltedRun (cores : Cores) (script : Script) (report : List Entry) (node : NodeId) : Type 0 where
   pub halt : Halts cores script report node
   pub safe : Safe script.scenario script.events (refused_lines report) report
@@ -56,6 +61,8 @@ pub record IsHaltedRun (cores : Cores) (script : Script) (report : List Entry) (
   pub label_rule : ThroughoutEvents LabelRule (start script.scenario cores) script.events
   pub unready : ReportsUnready script.scenario halt.before (refused_lines (report_of halt.trace)) (report_of halt.trace)
   pub settles : Settles cores script halt.before halt.trace
+  pub named : NameDatagrams script.events (report_of halt.trace)
+  pub spelled : All IsHop (hops_of script.events report)
 
 -- The report is that of the run of all events, or of the run that halts.
 pub data IsReport (script : Script) (report : List Entry) : Type 0 where

@@ -1,20 +1,16 @@
 -- How a call of `run` ends, command by command: what is true of each status.
-use Rattle.std.specs.Prelude.{◌≡◌, ◌≢◌, ◌⊎◌, ℕ, true, false, List, [], Option, None, Some, Ok, Err}
+use Rattle.std.specs.Prelude.{◌≡◌, ◌≢◌, ◌⊎◌, ℕ, Bool, true, false, List, [], Option, None, Some, Result, Ok, Err}
 use Rattle.mv_io.specs.Causes.{Rose}
 use Rattle.mv_io.specs.Octets.{Appended, AppendedPart}
 use Rattle.scenario_defs.specs.declared.event.Script.{Script}
 use Rattle.line_words.specs.declared.fault.TextFault.{TextFault}
 use Rattle.scenario_text.specs.Grammar.{script_of}
-use Rattle.decode_text.specs.declared.format.Format.{Format}
-use Rattle.decode_text.specs.HexText.{octets_of}
-use Rattle.decode_text.specs.Formats.{IsWhole, HasFault}
 use Rattle.generator.specs.Made.{made}
 use Rattle.network_events.specs.WorldView.{WorldView}
 use Rattle.mvpn_tool.specs.Commands.{usage_line}
 use Rattle.mvpn_tool.specs.Input.{Taken}
 use Rattle.mvpn_tool.specs.Report.{AllRun, OneHalts}
 use Rattle.mvpn_tool.specs.Outcome.{EndsFaulty, EndsEarly, EndsHalted, EndsWellSome}
-use Rattle.mvpn_tool.specs.DecodeOutcome.{Decoded, DecodesFaulty, DecodesEarly}
 use Rattle.mvpn_tool.specs.Sweep.{SweepsPart, SweepsWellSome}
 use Rattle.audit_defs.specs.declared.verdict.Offence.{Offence}
 use Rattle.audit_defs.specs.declared.verdict.ReportLines.{ReportLines}
@@ -24,16 +20,17 @@ use Rattle.audit_text.specs.Texts.{HasFault as HasTextFault, Says}
 use Rattle.mvpn_tool.specs.AuditOutcome.{AuditsEarly, AuditsFaulty, Judged}
 use Rattle.mvpn_tool.specs.declared.command.Command.{Command}
 use Rattle.mvpn_tool.specs.declared.command.Command.TheVariants as commands
-use Rattle.mvpn_tool.specs.declared.command.Detail.{Detail}
-use Rattle.mvpn_tool.specs.HopLines.{HasFault as HasHopsFault, IsFile}
-use Rattle.mvpn_tool.specs.HopsOutcome.{HopsEarly, HopsFaulty, HopsTold, within_limit}
-use Rattle.mvpn_tool.specs.IngressOutcome.{Told, ToldEarly, ToldFaulty}
-use Rattle.ingress_text.specs.declared.input.Input.{Input}
+use Rattle.mvpn_tool.specs.declared.command.Output.{Output}
+use Rattle.mvpn_tool.specs.declared.command.Output.TheVariants as outputs
+use Rattle.mvpn_tool.specs.TellOutcome.{ToldAll, ToldEarly, ToldFaulty}
+use Rattle.decode_text.specs.declared.format.Format.{Format}
+use Rattle.decode_text.specs.HexText.{octets_of}
+use Rattle.decode_text.specs.Formats.{IsWhole, HasFault as HasValueFault, Tells as TellsValues}
 use Rattle.ingress_text.specs.Grammar.{input_of}
-use Rattle.ingress_text.specs.Telling.{is_refused}
-use Rattle.mvpn_tool.specs.ProbeOutcome.{HasPeerFault, IsSound, ProbeEarly, ProbeFaulty, ProbeTold}
-use Rattle.probe_text.specs.declared.input.ProbeText.{ProbeText}
+use Rattle.ingress_text.specs.Telling.{is_refused, Tells as TellsCopies}
 use Rattle.probe_text.specs.Grammar.{probe_of}
+use Rattle.mvpn_tool.specs.HopLines.{HasFault as HasHopsFault, IsFile, TellsHops, within_limit}
+use Rattle.mvpn_tool.specs.ProbeLines.{HasPeerFault, IsSound, TellsProbe}
 
 -- A call and its end: the status and the world that it answers; what the source had left before it and has left behind it, and what
 -- the sink had written, where they tell that; and how often each of them has failed, before and behind.
@@ -86,58 +83,42 @@ pub record UsageRun (e : Ending) : Type 0 where
 abbrev pub Gives : Ending → Script → Type 0
 Gives e script = (input : List ℕ) × (e.left ≡ Some input) × (script_of input ≡ Ok script)
 
--- `replay` without or with the lines of the wire
-pub record ReplayRun (detail : Detail) (e : Ending) : Type 0 where
+-- A replay that writes this: the report of all events without or with the lines of the wire (`replay`), or the file of its hops (`pcap`),
+-- which has no `halt` line.
+pub record ReplayRun (output : Output) (e : Ending) : Type 0 where
   -- all was read, replayed and written, and there is a world exactly there
-  pub zero : e.status ≡ 0 → EndsWellSome detail e.left e.old e.new e.world
+  pub zero : e.status ≡ 0 → EndsWellSome output e.left e.old e.new e.world
   pub zero_always : (script : Script) → Gives e script → AllRun script → (e.status ≡ 0) ⊎ IsStopped e.status
   pub worldless : (e.status ≡ 0 → ⊥) → e.world ≡ None
   -- the text has a fault, and the line that tells it is written alone
   pub three : e.status ≡ 3 → EndsFaulty e.left e.old e.new
   pub three_always :
-      (input : List ℕ) (fault : TextFault) → e.left ≡ Some input → script_of input ≡ Err fault → (e.status ≡ 3) ⊎ IsStopped e.status
+      (input : List ℕ) (fault : TextFault) → e.left ≡ Some input → script_of input ≡ Err fault →
+      (e.status ≡ 3) ⊎ IsStopped e.status
   -- the source failed, and nothing is written
   pub four : e.status ≡ 4 → Wrote e []
   pub four_cause : e.status ≡ 4 → SourceFailed e
   -- the sink failed, with a prefix of the output written
-  pub five : e.status ≡ 5 → EndsEarly detail e.left e.old e.new
+  pub five : e.status ≡ 5 → EndsEarly output e.left e.old e.new
   pub five_cause : e.status ≡ 5 → SinkFailed e
   -- there was no memory, and nothing or a prefix of the output is written
-  pub six : e.status ≡ 6 → Wrote e [] ⊎ EndsEarly detail e.left e.old e.new
-  -- an event lacks a label, and the report is written up to there
-  pub seven : e.status ≡ 7 → EndsHalted detail e.left e.old e.new
+  pub six : e.status ≡ 6 → Wrote e [] ⊎ EndsEarly output e.left e.old e.new
+  -- an event lacks a label, and the output is written up to there
+  pub seven : e.status ≡ 7 → EndsHalted output e.left e.old e.new
   pub seven_always : (script : Script) → Gives e script → OneHalts script → (e.status ≡ 7) ⊎ IsStopped e.status
   -- the input was taken to its end, or one octet past the limit
   pub taken : e.status ≢ 4 → e.status ≢ 6 → Taken e.left e.rest
   -- where neither end failed, nothing but memory keeps a script from being replayed, to its end or to the halt
   pub complete :
-      (script : Script) → (SourceFailed e → ⊥) → (SinkFailed e → ⊥) → Gives e script → (e.status ≡ 0) ⊎ (e.status ≡ 6) ⊎ (e.status ≡ 7)
+      (script : Script) → (SourceFailed e → ⊥) → (SinkFailed e → ⊥) → Gives e script →
+      (e.status ≡ 0) ⊎ (e.status ≡ 6) ⊎ (e.status ≡ 7)
   pub only : (e.status ≡ 0) ⊎ (e.status ≡ 3) ⊎ (e.status ≡ 7) ⊎ IsStopped e.status
 
--- `decode` and a format
-pub record DecodeRun (format : Format) (e : Ending) : Type 0 where
-  -- the octets are whole, and the lines of their values were written
-  pub zero : e.status ≡ 0 → Decoded format false e.left e.old e.new
-  -- they have a first fault, and the lines before it were written, and then its own
-  pub one : e.status ≡ 1 → Decoded format true e.left e.old e.new
-  pub one_always :
-      (input octets : List ℕ) → e.left ≡ Some input → octets_of input ≡ Ok octets → HasFault format octets →
-      (e.status ≡ 1) ⊎ IsStopped e.status
-  -- the text is not hexadecimal, and the line that tells it is written alone
-  pub three : e.status ≡ 3 → DecodesFaulty e.left e.old e.new
-  pub three_always :
-      (input : List ℕ) (fault : TextFault) → e.left ≡ Some input → octets_of input ≡ Err fault → (e.status ≡ 3) ⊎ IsStopped e.status
-  pub four : e.status ≡ 4 → Wrote e []
-  pub four_cause : e.status ≡ 4 → SourceFailed e
-  pub five : e.status ≡ 5 → DecodesEarly format e.left e.old e.new
-  pub five_cause : e.status ≡ 5 → SinkFailed e
-  pub six : e.status ≡ 6 → Wrote e [] ⊎ DecodesEarly format e.left e.old e.new
-  pub taken : e.status ≢ 4 → e.status ≢ 6 → Taken e.left e.rest
-  pub complete :
-      (input octets : List ℕ) → (SourceFailed e → ⊥) → (SinkFailed e → ⊥) → e.left ≡ Some input → octets_of input ≡ Ok octets →
-      IsWhole format octets → (e.status ≡ 0) ⊎ (e.status ≡ 6)
-  pub only : (e.status ≡ 0) ⊎ (e.status ≡ 1) ⊎ (e.status ≡ 3) ⊎ IsStopped e.status
-  pub worldless : e.world ≡ None
+-- `pcap`, status by status as a replay: the hops of all events, each with the clock at its event and the octets of its datagram (0); the
+-- line of the text's fault alone (3); nothing, where the source failed (4); a prefix of the output, where the sink failed (5) or memory
+-- ran out (6); the hops up to the event that lacks a label (7). There is a world exactly with 0.
+abbrev pub PcapRun : Ending → Type 0
+PcapRun e = ReplayRun outputs.Hops e
 
 -- `make` and a number: the text of that number, and the source is not touched
 pub record MakeRun (number : ℕ) (e : Ending) : Type 0 where
@@ -181,7 +162,8 @@ pub record AuditRun (e : Ending) : Type 0 where
   -- the text has a fault, and the line that tells it is written alone
   pub three : e.status ≡ 3 → AuditsFaulty e.left e.old e.new
   pub three_always :
-      (input : List ℕ) (fault : TextFault) → e.left ≡ Some input → HasTextFault input fault → (e.status ≡ 3) ⊎ IsStopped e.status
+      (input : List ℕ) (fault : TextFault) → e.left ≡ Some input → HasTextFault input fault →
+      (e.status ≡ 3) ⊎ IsStopped e.status
   pub four : e.status ≡ 4 → Wrote e []
   pub four_cause : e.status ≡ 4 → SourceFailed e
   pub five : e.status ≡ 5 → AuditsEarly e.left e.old e.new
@@ -195,95 +177,60 @@ pub record AuditRun (e : Ending) : Type 0 where
   pub only : (e.status ≡ 0) ⊎ (e.status ≡ 3) ⊎ (e.status ≡ 8) ⊎ IsStopped e.status
   pub worldless : e.world ≡ None
 
--- `hops`
-pub record HopsRun (e : Ending) : Type 0 where
-  -- the octets spell a file, and the lines of its hops were written
-  pub zero : e.status ≡ 0 → HopsTold false e.left e.old e.new
-  -- they have a first fault, and the lines of the hops before it were written, and then its own
-  pub one : e.status ≡ 1 → HopsTold true e.left e.old e.new
+-- A command that reads a text and tells of it. Which one it is says what a text says (`read`), what is told of that (`Tells`), of what
+-- no fault is told (`IsSound`), and of what one is (`IsFaulty`).
+pub record TellRun {X : Type 0} (read : List ℕ → Result X TextFault) (Tells : Bool → X → List ℕ → Type 0)
+    (IsSound IsFaulty : X → Type 0) (e : Ending) : Type 0 where
+  -- what is told was written, and no fault is among it
+  pub zero : e.status ≡ 0 → ToldAll read Tells false e.left e.old e.new
+  -- what is told was written, with a fault
+  pub one : e.status ≡ 1 → ToldAll read Tells true e.left e.old e.new
   pub one_always :
-      (input octets : List ℕ) → e.left ≡ Some input → within_limit input ≡ Ok octets → HasHopsFault octets →
-      (e.status ≡ 1) ⊎ IsStopped e.status
-  -- the input is too long, and the line that tells it is written alone
-  pub three : e.status ≡ 3 → HopsFaulty e.left e.old e.new
-  pub three_always :
-      (input : List ℕ) (fault : TextFault) → e.left ≡ Some input → within_limit input ≡ Err fault → (e.status ≡ 3) ⊎ IsStopped e.status
-  pub four : e.status ≡ 4 → Wrote e []
-  pub four_cause : e.status ≡ 4 → SourceFailed e
-  pub five : e.status ≡ 5 → HopsEarly e.left e.old e.new
-  pub five_cause : e.status ≡ 5 → SinkFailed e
-  pub six : e.status ≡ 6 → Wrote e [] ⊎ HopsEarly e.left e.old e.new
-  pub taken : e.status ≢ 4 → e.status ≢ 6 → Taken e.left e.rest
-  pub complete :
-      (input octets : List ℕ) → (SourceFailed e → ⊥) → (SinkFailed e → ⊥) → e.left ≡ Some input → within_limit input ≡ Ok octets →
-      IsFile octets → (e.status ≡ 0) ⊎ (e.status ≡ 6)
-  pub only : (e.status ≡ 0) ⊎ (e.status ≡ 1) ⊎ (e.status ≡ 3) ⊎ IsStopped e.status
-  pub worldless : e.world ≡ None
-
--- `ingress`
-pub record IngressRun (e : Ending) : Type 0 where
-  -- no peer has a fault, and what is told was written
-  pub zero : e.status ≡ 0 → Told false e.left e.old e.new
-  -- a peer has a first fault, and what is told was written
-  pub one : e.status ≡ 1 → Told true e.left e.old e.new
-  pub one_always :
-      (input : List ℕ) (what : Input) → e.left ≡ Some input → input_of input ≡ Ok what → is_refused what ≡ true →
+      (input : List ℕ) (what : X) → e.left ≡ Some input → read input ≡ Ok what → IsFaulty what →
       (e.status ≡ 1) ⊎ IsStopped e.status
   -- the text has a fault, and the line that tells it is written alone
-  pub three : e.status ≡ 3 → ToldFaulty e.left e.old e.new
+  pub three : e.status ≡ 3 → ToldFaulty read e.left e.old e.new
   pub three_always :
-      (input : List ℕ) (fault : TextFault) → e.left ≡ Some input → input_of input ≡ Err fault → (e.status ≡ 3) ⊎ IsStopped e.status
+      (input : List ℕ) (fault : TextFault) → e.left ≡ Some input → read input ≡ Err fault →
+      (e.status ≡ 3) ⊎ IsStopped e.status
   -- the source failed, and nothing is written
   pub four : e.status ≡ 4 → Wrote e []
   pub four_cause : e.status ≡ 4 → SourceFailed e
   -- the sink failed, with a prefix of the output written
-  pub five : e.status ≡ 5 → ToldEarly e.left e.old e.new
+  pub five : e.status ≡ 5 → ToldEarly read Tells e.left e.old e.new
   pub five_cause : e.status ≡ 5 → SinkFailed e
   -- there was no memory, and nothing or a prefix of the output is written
-  pub six : e.status ≡ 6 → Wrote e [] ⊎ ToldEarly e.left e.old e.new
+  pub six : e.status ≡ 6 → Wrote e [] ⊎ ToldEarly read Tells e.left e.old e.new
   -- the input was taken to its end, or one octet past the limit
   pub taken : e.status ≢ 4 → e.status ≢ 6 → Taken e.left e.rest
-  -- where neither end failed and no peer has a fault, nothing but memory keeps what is told from being written
+  -- where neither end failed and no fault is told, nothing but memory keeps what is told from being written
   pub complete :
-      (input : List ℕ) (what : Input) → (SourceFailed e → ⊥) → (SinkFailed e → ⊥) → e.left ≡ Some input → input_of input ≡ Ok what →
-      is_refused what ≡ false → (e.status ≡ 0) ⊎ (e.status ≡ 6)
+      (input : List ℕ) (what : X) → (SourceFailed e → ⊥) → (SinkFailed e → ⊥) →
+      e.left ≡ Some input → read input ≡ Ok what → IsSound what → (e.status ≡ 0) ⊎ (e.status ≡ 6)
   pub only : (e.status ≡ 0) ⊎ (e.status ≡ 1) ⊎ (e.status ≡ 3) ⊎ IsStopped e.status
   pub worldless : e.world ≡ None
 
--- `probe`
-pub record ProbeRun (e : Ending) : Type 0 where
-  -- what is told of the edge was written, and the peer's octets have no fault
-  pub zero : e.status ≡ 0 → ProbeTold false e.left e.old e.new
-  -- what is told of the edge was written, and its last line tells the first fault of the peer's octets
-  pub one : e.status ≡ 1 → ProbeTold true e.left e.old e.new
-  pub one_always :
-      (input : List ℕ) (what : ProbeText) → e.left ≡ Some input → probe_of input ≡ Ok what → HasPeerFault what →
-      (e.status ≡ 1) ⊎ IsStopped e.status
-  -- the text has a fault, and the line that tells it is written alone
-  pub three : e.status ≡ 3 → ProbeFaulty e.left e.old e.new
-  pub three_always :
-      (input : List ℕ) (fault : TextFault) → e.left ≡ Some input → probe_of input ≡ Err fault → (e.status ≡ 3) ⊎ IsStopped e.status
-  -- the source failed, and nothing is written
-  pub four : e.status ≡ 4 → Wrote e []
-  pub four_cause : e.status ≡ 4 → SourceFailed e
-  -- the sink failed, with a prefix of the output written
-  pub five : e.status ≡ 5 → ProbeEarly e.left e.old e.new
-  pub five_cause : e.status ≡ 5 → SinkFailed e
-  -- there was no memory, and nothing or a prefix of the output is written
-  pub six : e.status ≡ 6 → Wrote e [] ⊎ ProbeEarly e.left e.old e.new
-  -- the input was taken to its end, or one octet past the limit
-  pub taken : e.status ≢ 4 → e.status ≢ 6 → Taken e.left e.rest
-  -- where neither end failed and the peer's octets have no fault, nothing but memory keeps what is told from being written
-  pub complete :
-      (input : List ℕ) (what : ProbeText) → (SourceFailed e → ⊥) → (SinkFailed e → ⊥) → e.left ≡ Some input → probe_of input ≡ Ok what →
-      IsSound what → (e.status ≡ 0) ⊎ (e.status ≡ 6)
-  pub only : (e.status ≡ 0) ⊎ (e.status ≡ 1) ⊎ (e.status ≡ 3) ⊎ IsStopped e.status
-  pub worldless : e.world ≡ None
+-- `decode` and a format: a text writes octets, and the lines of their values are told; a fault is the first one of the octets
+abbrev pub DecodeRun : Format → Ending → Type 0
+DecodeRun format e = TellRun octets_of (TellsValues format) (IsWhole format) (HasValueFault format) e
+
+-- `hops`: the input is the octets itself, unless they are too many, and the lines of the hops of their file are told; a fault is the
+-- first one of the file
+abbrev pub HopsRun : Ending → Type 0
+HopsRun e = TellRun within_limit TellsHops IsFile HasHopsFault e
+
+-- `ingress`: a text says what a root and its peers send, and the answers and the copies are told; a fault is the first one of a peer
+abbrev pub IngressRun : Ending → Type 0
+IngressRun e = TellRun input_of TellsCopies (λ what. is_refused what ≡ false) (λ what. is_refused what ≡ true) e
+
+-- `probe`: a text says what an edge is given of a peer, and what the edge makes of it is told; a fault is the first one of the peer
+abbrev pub ProbeRun : Ending → Type 0
+ProbeRun e = TellRun probe_of TellsProbe IsSound HasPeerFault e
 
 -- how a call ends whose words name that command, or none
 abbrev pub Runs : Option Command → Ending → Type 0
 Runs None e = UsageRun e
-Runs (Some (commands.Replay detail)) e = ReplayRun detail e
+Runs (Some (commands.Replay detail)) e = ReplayRun (outputs.Report detail) e
 Runs (Some (commands.Decode format)) e = DecodeRun format e
 Runs (Some (commands.Make number)) e = MakeRun number e
 Runs (Some (commands.Sweep number)) e = SweepRun number e
@@ -291,3 +238,4 @@ Runs (Some commands.Audit) e = AuditRun e
 Runs (Some commands.Hops) e = HopsRun e
 Runs (Some commands.Ingress) e = IngressRun e
 Runs (Some commands.Probe) e = ProbeRun e
+Runs (Some commands.Pcap) e = PcapRun e

@@ -14,6 +14,15 @@ pub enum Detail {
     Wire,
 }
 
+/// What a replay writes.
+#[derive(Clone, Copy, PartialEq, Eq)]
+pub enum Output {
+    /// The lines of the report.
+    Report(Detail),
+    /// A file of the report's hops.
+    Hops,
+}
+
 /// A command.
 #[derive(Clone, Copy, PartialEq, Eq)]
 pub enum Command {
@@ -33,6 +42,8 @@ pub enum Command {
     Ingress,
     /// `probe`
     Probe,
+    /// `pcap`
+    Pcap,
 }
 
 /// The detail that a word behind `replay` asks for.
@@ -96,6 +107,7 @@ fn command_alone(word: &str) -> Option<Command>
         "ingress" => Some(Command::Ingress),
         "hops" => Some(Command::Hops),
         "probe" => Some(Command::Probe),
+        "pcap" => Some(Command::Pcap),
         _ => None,
     }
 }

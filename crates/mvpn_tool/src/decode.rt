@@ -2,8 +2,8 @@
 ghost use Rattle.std.specs.Prelude.{◌≡◌, ◌≢◌, ◌≤◌, ◌⊎◌, ℕ, List, Some, Ok, Err, true, false, IsErrOf, IfErr, OnOk, OnErr};
 ghost use Rattle.mv_io.specs.Causes.{Rose};
 ghost use Rattle.decode_text.specs.HexText.{octets_of};
-ghost use Rattle.decode_text.specs.Formats.{IsWhole, HasFault};
-ghost use Rattle.mvpn_tool.specs.DecodeOutcome.{Decoded, DecodeEnds, DecodeTakes, LinesEnd};
+ghost use Rattle.decode_text.specs.Formats.{IsWhole, HasFault, Tells};
+ghost use Rattle.mvpn_tool.specs.TellOutcome.{TellEnd, TellEnds, TellTakes};
 ghost use Rattle.mvpn_tool.specs.declared.stop.Stop.TheVariants as stops;
 
 use crate::input::read_all;
@@ -21,7 +21,7 @@ fn write_values<K: Sink>(
     octets: &[u8],
     sink: &mut K,
 ) -> Result<bool, Stop>
-    ensures ends { LinesEnd format octets.now result (K.written sink.old) (K.written sink.new) }
+    ensures ends { TellEnd (Tells format) octets.now result (K.written sink.old) (K.written sink.new) }
     ensures whole { IsWhole format octets.now → result ≢ Ok true }
     ensures fault { HasFault format octets.now → result ≢ Ok false }
     ensures later { K.faults sink.old ≤ K.faults sink.new }
@@ -41,8 +41,8 @@ pub fn decode<S: Source, K: Sink>(
     source: &mut S,
     sink: &mut K,
 ) -> Result<bool, Stop>
-    ensures ends { DecodeEnds format (S.left source.old) result (K.written sink.old) (K.written sink.new) }
-    ensures taken { DecodeTakes result (S.left source.old) (S.left source.new) }
+    ensures ends { TellEnds octets_of (Tells format) (S.left source.old) result (K.written sink.old) (K.written sink.new) }
+    ensures taken { TellTakes result (S.left source.old) (S.left source.new) }
     ensures whole { (input octets : List ℕ) →
         S.left source.old ≡ Some input → octets_of input ≡ Ok octets → IsWhole format octets →
         result ≢ Ok true }

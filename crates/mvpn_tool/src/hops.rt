@@ -1,9 +1,8 @@
 //! Reads a file of hops from a source, and writes their lines into a sink.
 ghost use Rattle.std.specs.Prelude.{◌≡◌, ◌≢◌, ◌≤◌, ◌⊎◌, ℕ, List, Some, Ok, Err, true, false, IfErr, IsErrOf, OnOk};
 ghost use Rattle.mv_io.specs.Causes.{Rose};
-ghost use Rattle.mvpn_tool.specs.DecodeOutcome.{DecodeTakes};
-ghost use Rattle.mvpn_tool.specs.HopLines.{HasFault, IsFile};
-ghost use Rattle.mvpn_tool.specs.HopsOutcome.{HopLinesEnd, HopsEnd, within_limit};
+ghost use Rattle.mvpn_tool.specs.HopLines.{HasFault, IsFile, TellsHops, within_limit};
+ghost use Rattle.mvpn_tool.specs.TellOutcome.{TellEnd, TellEnds, TellTakes};
 ghost use Rattle.mvpn_tool.specs.declared.stop.Stop.TheVariants as stops;
 
 use crate::hop_lines::tell_hops;
@@ -31,7 +30,7 @@ fn check_length(input: &[u8]) -> Result<(), TextFault>
 
 /// Writes the lines of the octets, and answers whether they end with a fault.
 fn write_hops<K: Sink>(alloc: Global, octets: &[u8], sink: &mut K) -> Result<bool, Stop>
-    ensures ends { HopLinesEnd octets.now result (K.written sink.old) (K.written sink.new) }
+    ensures ends { TellEnd TellsHops octets.now result (K.written sink.old) (K.written sink.new) }
     ensures whole { IsFile octets.now → result ≢ Ok true }
     ensures fault { HasFault octets.now → result ≢ Ok false }
     ensures later { K.faults sink.old ≤ K.faults sink.new }
@@ -46,8 +45,8 @@ fn write_hops<K: Sink>(alloc: Global, octets: &[u8], sink: &mut K) -> Result<boo
 /// Reads all of the source, and writes the lines of the hops of the file that it is. Answers whether the file has a fault
 /// behind them, whose line is then the last one.
 pub fn hops<S: Source, K: Sink>(alloc: Global, source: &mut S, sink: &mut K) -> Result<bool, Stop>
-    ensures ends { HopsEnd (S.left source.old) result (K.written sink.old) (K.written sink.new) }
-    ensures taken { DecodeTakes result (S.left source.old) (S.left source.new) }
+    ensures ends { TellEnds within_limit TellsHops (S.left source.old) result (K.written sink.old) (K.written sink.new) }
+    ensures taken { TellTakes result (S.left source.old) (S.left source.new) }
     ensures whole { (input octets : List ℕ) →
         S.left source.old ≡ Some input → within_limit input ≡ Ok octets → IsFile octets → result ≢ Ok true }
     ensures fault { (input octets : List ℕ) →

@@ -1,11 +1,10 @@
 //! Ingress replication, from a source to a sink.
-ghost use Rattle.std.specs.Prelude.{◌≡◌, ◌≢◌, ◌≤◌, ◌⊎◌, ℕ, List, Some, Ok, true, false, IsErrOf, IfErr, IfOk};
+ghost use Rattle.std.specs.Prelude.{◌≡◌, ◌≢◌, ◌≤◌, ◌⊎◌, ℕ, List, Some, Ok, true, false, IsErrOf, IfErr};
 ghost use Rattle.mv_io.specs.Causes.{Rose};
 ghost use Rattle.ingress_text.specs.declared.input.Input.{Input};
 ghost use Rattle.ingress_text.specs.Grammar.{input_of};
-ghost use Rattle.ingress_text.specs.Telling.{is_refused};
-ghost use Rattle.mvpn_tool.specs.DecodeOutcome.{DecodeTakes};
-ghost use Rattle.mvpn_tool.specs.IngressOutcome.{IngressEnds, ToldEnd};
+ghost use Rattle.ingress_text.specs.Telling.{is_refused, Tells};
+ghost use Rattle.mvpn_tool.specs.TellOutcome.{TellEnd, TellEnds, TellTakes};
 ghost use Rattle.mvpn_tool.specs.declared.stop.Stop.TheVariants as stops;
 
 use crate::input::read_all;
@@ -18,8 +17,9 @@ use std::alloc::Global;
 
 /// Writes what is told of the input, and answers whether it tells a fault of a peer.
 fn write_told<K: Sink>(alloc: Global, input: &Input, sink: &mut K) -> Result<bool, Stop>
-    ensures ends { ToldEnd input.now result (K.written sink.old) (K.written sink.new) }
-    ensures refused { IfOk result (λ refused. refused ≡ is_refused input.now) }
+    ensures ends { TellEnd Tells input.now result (K.written sink.old) (K.written sink.new) }
+    ensures whole { is_refused input.now ≡ false → result ≢ Ok true }
+    ensures fault { is_refused input.now ≡ true → result ≢ Ok false }
     ensures later { K.faults sink.old ≤ K.faults sink.new }
     ensures failed { IsErrOf result stops.Sink → Rose (K.faults sink.old) (K.faults sink.new) }
     ensures others { IfErr result (λ stop. (stop ≡ stops.Sink) ⊎ (stop ≡ stops.Memory)) }
@@ -35,8 +35,8 @@ pub fn ingress<S: Source, K: Sink>(
     source: &mut S,
     sink: &mut K,
 ) -> Result<bool, Stop>
-    ensures ends { IngressEnds (S.left source.old) result (K.written sink.old) (K.written sink.new) }
-    ensures taken { DecodeTakes result (S.left source.old) (S.left source.new) }
+    ensures ends { TellEnds input_of Tells (S.left source.old) result (K.written sink.old) (K.written sink.new) }
+    ensures taken { TellTakes result (S.left source.old) (S.left source.new) }
     ensures whole { (input : List ℕ) (what : Input) →
         S.left source.old ≡ Some input → input_of input ≡ Ok what → is_refused what ≡ false →
         result ≢ Ok true }

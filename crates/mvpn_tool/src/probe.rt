@@ -2,11 +2,11 @@
 ghost use Rattle.std.specs.Prelude.{◌≡◌, ◌≢◌, ◌≤◌, ◌⊎◌, ◌∷◌, [], ℕ, List, Some, Ok, true, false, IsErrOf, IfErr, IfOk};
 ghost use Rattle.mv_base.specs.Octets.{IsOctets};
 ghost use Rattle.mv_io.specs.Causes.{Rose};
-ghost use Rattle.probe_defs.specs.Lines.{IsProbe, octets_of};
+ghost use Rattle.probe_text.specs.probe_defs.Lines.{IsProbe, octets_of};
 ghost use Rattle.probe_text.specs.declared.input.ProbeText.{ProbeText};
 ghost use Rattle.probe_text.specs.Grammar.{probe_of};
-ghost use Rattle.mvpn_tool.specs.DecodeOutcome.{DecodeTakes};
-ghost use Rattle.mvpn_tool.specs.ProbeOutcome.{HasPeerFault, IsSound, ProbeEnds, ProbeTellEnd, TellsProbe};
+ghost use Rattle.mvpn_tool.specs.ProbeLines.{HasPeerFault, IsSound, TellsProbe};
+ghost use Rattle.mvpn_tool.specs.TellOutcome.{TellEnd, TellEnds, TellTakes};
 ghost use Rattle.mvpn_tool.specs.declared.stop.Stop.TheVariants as stops;
 
 use crate::input::read_all;
@@ -14,11 +14,11 @@ use crate::probe_lines::put_report;
 use crate::replay::write_fault;
 use crate::stop::Stop;
 use edge_probe::probe as probe_edge;
-use edge_routes::route_order::are_octets;
+use hop_laws::of_run_laws::of_edge_routes::route_order::are_octets;
 use line_words::ReadFault;
 use mv_base::{Bytes, NoMemory};
 use mv_io::{Sink, Source, write_all};
-use probe_defs::{ProbeLine, ProbeLines};
+use probe_text::of_probe_defs::{ProbeLine, ProbeLines};
 use probe_text::{ProbeText, read};
 use std::alloc::Global;
 
@@ -52,7 +52,7 @@ fn have_octets(lines: &ProbeLines)
 /// Tells what the edge makes of what it is given.
 fn tell(alloc: Global, what: &ProbeText) -> Result<Told, NoMemory>
     requires { IsProbe what.now.scenario what.now.ends.edge what.now.ends.peer what.now.lines }
-    ensures told { IfOk result (λ told. TellsProbe what.now told.refused told.text) }
+    ensures told { IfOk result (λ told. TellsProbe told.refused what.now told.text) }
     ensures sound { IsSound what.now → IfOk result (λ told. told.refused ≡ false) }
     ensures fault { HasPeerFault what.now → IfOk result (λ told. told.refused ≡ true) }
 {
@@ -75,7 +75,7 @@ fn tell(alloc: Global, what: &ProbeText) -> Result<Told, NoMemory>
 /// Writes what is told, and answers whether it tells a fault of the peer.
 fn write_told<K: Sink>(alloc: Global, what: &ProbeText, sink: &mut K) -> Result<bool, Stop>
     requires { IsProbe what.now.scenario what.now.ends.edge what.now.ends.peer what.now.lines }
-    ensures ends { ProbeTellEnd what.now result (K.written sink.old) (K.written sink.new) }
+    ensures ends { TellEnd TellsProbe what.now result (K.written sink.old) (K.written sink.new) }
     ensures whole { IsSound what.now → result ≢ Ok true }
     ensures fault { HasPeerFault what.now → result ≢ Ok false }
     ensures later { K.faults sink.old ≤ K.faults sink.new }
@@ -89,8 +89,8 @@ fn write_told<K: Sink>(alloc: Global, what: &ProbeText, sink: &mut K) -> Result<
 
 /// Reads all of the source, and writes what the edge makes of the lines that it is given. Answers whether the peer's octets have a fault.
 pub fn probe<S: Source, K: Sink>(alloc: Global, source: &mut S, sink: &mut K) -> Result<bool, Stop>
-    ensures ends { ProbeEnds (S.left source.old) result (K.written sink.old) (K.written sink.new) }
-    ensures taken { DecodeTakes result (S.left source.old) (S.left source.new) }
+    ensures ends { TellEnds probe_of TellsProbe (S.left source.old) result (K.written sink.old) (K.written sink.new) }
+    ensures taken { TellTakes result (S.left source.old) (S.left source.new) }
     ensures whole { (input : List ℕ) (what : ProbeText) →
         S.left source.old ≡ Some input → probe_of input ≡ Ok what → IsSound what → result ≢ Ok true }
     ensures fault { (input : List ℕ) (what : ProbeText) →

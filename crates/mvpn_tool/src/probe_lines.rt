@@ -1,12 +1,12 @@
 //! The lines of what one edge makes of the octets of a peer.
 ghost use Rattle.std.specs.Prelude.{◌≡◌, ◌++◌, OnOk};
 ghost use Rattle.std.specs.List.{flat_map};
-ghost use Rattle.mvpn_tool.specs.ProbeOutcome.{import_line, refused_text, report_text, vrf_name, want_line};
+ghost use Rattle.mvpn_tool.specs.ProbeLines.{import_line, refused_text, report_text, vrf_name, want_line};
 
 use bgp_messages::bgp_attributes::StreamFault;
 use mldp::mldp_fec::Fec;
 use mv_base::{Bytes, NoMemory, VrfId};
-use probe_defs::{Import, ProbeReport};
+use probe_text::of_probe_defs::{Import, ProbeReport};
 use report_text::put_number;
 use scenario_defs::Scenario;
 use value_text::{Worded, put_fec_line, put_key};

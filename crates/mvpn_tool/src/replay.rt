@@ -1,4 +1,4 @@
-//! Replays the script of a source into a sink.
+//! Replays the script of a source, and writes its report, or the file of its hops, into a sink.
 ghost use Rattle.std.specs.Prelude.{All, ◌≡◌, ◌≢◌, ◌≤◌, ◌⊎◌, [], ◌∷◌, ◌++◌, OnOk, OnErr, IsErrOf, IfErr};
 ghost use Rattle.mv_io.specs.Causes.{Rose};
 ghost use Rattle.mv_io.specs.Octets.{Appended, AppendedPart};
@@ -7,46 +7,67 @@ ghost use Rattle.scenario_defs.specs.Text.{IsLineOf};
 ghost use Rattle.scenario_defs.specs.declared.report.ReportLine.TheVariants as told;
 ghost use Rattle.line_words.specs.FaultText.{fault_text};
 ghost use Rattle.mvpn_tool.specs.Outcome.{EventEnds, Place, Replays, ReplayEnds, Takes};
-ghost use Rattle.mvpn_tool.specs.Report.{lines_text};
+ghost use Rattle.mvpn_tool.specs.Output.{MayWrite, front_of, halt_output, kept_after, output_after};
 ghost use Rattle.mvpn_tool.specs.declared.stop.Stop.TheVariants as stops;
 
-use crate::command::Detail;
+use crate::command::Output;
 use crate::input::read_all;
-use crate::laws::{lines_are_known, runs_are_known, script_has_octets};
-use crate::report::{have_type_bounds, put_lines, text_of_fault};
+use crate::laws::{hops_are_known, lines_are_known, runs_are_known, script_has_octets};
+use crate::report::{have_type_bounds, put_event, put_front, put_halt, text_of_fault};
+use crate::sent_hops::SoFar;
 use crate::stop::Stop;
-use mv_base::{Bytes, NodeId};
+use hop_laws::of_run_laws::of_edge_routes::edge_home::copied_scenario;
+use mv_base::{Bytes, NodeId, Seq};
 use mv_io::{Sink, Source, write_all};
 use network_events::{Halt, World};
-use run_laws::of_edge_routes::edge_home::copied_scenario;
 use scenario_defs::{Lines, ReportLine, Scenario, Script, Timed};
 use scenario_text::{ReadFault, TextFault, read};
 use std::alloc::Global;
 
-/// Writes those of the lines that are told. The text is room for them.
-fn write_lines<K: Sink>(
-    detail: Detail,
-    scenario: &Scenario,
-    lines: &Lines,
-    text: &mut Bytes,
-    sink: &mut K,
-) -> Result<(), Stop>
-    requires { All (IsLineOf scenario.now) lines.now }
-    ensures ok { OnOk result (Appended (K.written sink.old) (K.written sink.new) (lines_text detail scenario.now lines.now)) }
-    ensures err { OnErr result (AppendedPart (K.written sink.old) (K.written sink.new) (lines_text detail scenario.now lines.now)) }
+/// Writes what comes first in the output of any report. The text is room for it.
+fn write_front<K: Sink>(output: Output, text: &mut Bytes, sink: &mut K) -> Result<(), Stop>
+    ensures ok { OnOk result (Appended (K.written sink.old) (K.written sink.new) (front_of output)) }
+    ensures err { OnErr result (AppendedPart (K.written sink.old) (K.written sink.new) (front_of output)) }
     ensures later { K.faults sink.old ≤ K.faults sink.new }
     ensures failed { IsErrOf result stops.Sink → Rose (K.faults sink.old) (K.faults sink.new) }
     ensures others { IfErr result (λ stop. (stop ≡ stops.Sink) ⊎ (stop ≡ stops.Memory)) }
 {
     text.clear();
-    put_lines(detail, lines.as_slice(), scenario, text)?;
+    put_front(output, text)?;
     write_all(sink, text.as_slice())?;
     Ok(())
 }
 
-/// Writes the lines of an event that lacks a label at that node, and then the line that says so. Answers why the replay ended.
+/// Writes what is to be written of an event with these lines, and keeps it. The text is room for that.
+fn write_event<K: Sink>(
+    output: Output,
+    scenario: &Scenario,
+    timed: &Timed,
+    lines: &Lines,
+    so_far: &mut SoFar,
+    text: &mut Bytes,
+    sink: &mut K,
+) -> Result<(), Stop>
+    requires names { All (IsLineOf scenario.now) lines.now }
+    requires hops { MayWrite output timed.now so_far.old lines.now }
+    ensures ok { OnOk result (Appended (K.written sink.old) (K.written sink.new)
+        (output_after output scenario.now timed.now so_far.old lines.now)) }
+    ensures kept { OnOk result (so_far.new ≡ kept_after output timed.now so_far.old lines.now) }
+    ensures err { OnErr result (AppendedPart (K.written sink.old) (K.written sink.new)
+        (output_after output scenario.now timed.now so_far.old lines.now)) }
+    ensures later { K.faults sink.old ≤ K.faults sink.new }
+    ensures failed { IsErrOf result stops.Sink → Rose (K.faults sink.old) (K.faults sink.new) }
+    ensures others { IfErr result (λ stop. (stop ≡ stops.Sink) ⊎ (stop ≡ stops.Memory)) }
+{
+    text.clear();
+    put_event(output, scenario, timed, lines.as_slice(), so_far, text)?;
+    write_all(sink, text.as_slice())?;
+    Ok(())
+}
+
+/// Writes what is to be written of an event that lacks a label at that node. Answers why the replay ended.
 fn write_halt<K: Sink>(
-    detail: Detail,
+    output: Output,
     scenario: &Scenario,
     line: u32,
     node: NodeId,
@@ -56,9 +77,9 @@ fn write_halt<K: Sink>(
 ) -> Stop
     requires { All (IsLineOf scenario.now) (lines.old ++ told.Halt line node ∷ []) }
     ensures label { result ≡ stops.Label →
-        Appended (K.written sink.old) (K.written sink.new) (lines_text detail scenario.now (lines.old ++ told.Halt line node ∷ [])) }
+        Appended (K.written sink.old) (K.written sink.new) (halt_output output scenario.now (lines.old ++ told.Halt line node ∷ [])) }
     ensures part { AppendedPart (K.written sink.old) (K.written sink.new)
-        (lines_text detail scenario.now (lines.old ++ told.Halt line node ∷ [])) }
+        (halt_output output scenario.now (lines.old ++ told.Halt line node ∷ [])) }
     ensures later { K.faults sink.old ≤ K.faults sink.new }
     ensures failed { result ≡ stops.Sink → Rose (K.faults sink.old) (K.faults sink.new) }
     ensures others { (result ≡ stops.Label) ⊎ (result ≡ stops.Sink) ⊎ (result ≡ stops.Memory) }
@@ -66,38 +87,44 @@ fn write_halt<K: Sink>(
     if lines.push(ReportLine::Halt { line, node }).is_err() {
         return Stop::Memory;
     }
-    match write_lines(detail, scenario, lines, text, sink) {
+    text.clear();
+    if put_halt(output, scenario, lines.as_slice(), text).is_err() {
+        return Stop::Memory;
+    }
+    match write_all(sink, text.as_slice()) {
         Ok(()) => Stop::Label,
-        Err(stop) => stop,
+        Err(_) => Stop::Sink,
     }
 }
 
-/// One event: a step of the world, and its lines. The text is room for them.
+/// One event: a step of the world, and what is to be written of it. The text is room for that.
 fn replay_event<K: Sink>(
-    alloc: Global,
-    detail: Detail,
+    output: Output,
     scenario: &Scenario,
     world: &mut World,
     timed: &Timed,
+    so_far: &mut SoFar,
     text: &mut Bytes,
     sink: &mut K,
 ) -> Result<(), Stop>
-    requires { Place scenario.now timed.now world.old }
-    ensures ends { EventEnds detail scenario.now timed.now world.old world.new (K.written sink.old) (K.written sink.new) result }
+    requires { Place output scenario.now timed.now world.old so_far.old }
+    ensures ends { EventEnds output scenario.now timed.now world.old world.new so_far.old so_far.new
+        (K.written sink.old) (K.written sink.new) result }
     ensures later { K.faults sink.old ≤ K.faults sink.new }
     ensures failed { IsErrOf result stops.Sink → Rose (K.faults sink.old) (K.faults sink.new) }
     ensures others { IfErr result (λ stop. (stop ≡ stops.Label) ⊎ (stop ≡ stops.Sink) ⊎ (stop ≡ stops.Memory)) }
 {
     lines_are_known();
-    let mut lines = Lines::new(alloc);
+    hops_are_known();
+    let mut lines = Lines::new(text.alloc());
     match world.step(timed.line, &timed.event, &mut lines) {
         Ok(()) => {
             have_type_bounds(lines.as_slice());
-            write_lines(detail, scenario, &lines, text, sink)
+            write_event(output, scenario, timed, &lines, so_far, text, sink)
         }
         Err(Halt::NoMemory) => Err(Stop::Memory),
         Err(Halt::NoLabel(node)) => {
-            Err(write_halt(detail, scenario, timed.line, node, &mut lines, text, sink))
+            Err(write_halt(output, scenario, timed.line, node, &mut lines, text, sink))
         }
     }
 }
@@ -105,12 +132,12 @@ fn replay_event<K: Sink>(
 /// All events of the script, or those up to one that lacks a label.
 fn replay_script<K: Sink>(
     alloc: Global,
-    detail: Detail,
+    output: Output,
     script: Script,
     sink: &mut K,
 ) -> Result<World, Stop>
     requires { ScriptRules script }
-    ensures replays { Replays detail script result (K.written sink.old) (K.written sink.new) }
+    ensures replays { Replays output script result (K.written sink.old) (K.written sink.new) }
     ensures later { K.faults sink.old ≤ K.faults sink.new }
     ensures failed { IsErrOf result stops.Sink → Rose (K.faults sink.old) (K.faults sink.new) }
     ensures others { IfErr result (λ stop. (stop ≡ stops.Label) ⊎ (stop ≡ stops.Sink) ⊎ (stop ≡ stops.Memory)) }
@@ -122,12 +149,25 @@ fn replay_script<K: Sink>(
         events,
         end: _,
     } = script;
+    let mut text = Bytes::new(alloc);
+    write_front(output, &mut text, sink)?;
     let names = copied_scenario(alloc, &scenario)?;
     let mut world = World::of(alloc, scenario)?;
-    let mut text = Bytes::new(alloc);
+    let mut so_far = SoFar {
+        clock: 0,
+        sent: Seq::new(alloc),
+    };
     let timeds = events.as_slice();
     for timed in timeds {
-        match replay_event(alloc, detail, &names, &mut world, timed, &mut text, sink) {
+        match replay_event(
+            output,
+            &names,
+            &mut world,
+            timed,
+            &mut so_far,
+            &mut text,
+            sink,
+        ) {
             Ok(()) => {}
             Err(stop) => {
                 world.close();
@@ -155,14 +195,14 @@ pub fn write_fault<K: Sink>(alloc: Global, fault: TextFault, sink: &mut K) -> St
     }
 }
 
-/// Reads all of the source, replays what it says, and writes the report.
+/// Reads all of the source, replays what it says, and writes the output.
 pub fn replay<S: Source, K: Sink>(
     alloc: Global,
-    detail: Detail,
+    output: Output,
     source: &mut S,
     sink: &mut K,
 ) -> Result<World, Stop>
-    ensures ends { ReplayEnds detail (S.left source.old) result (K.written sink.old) (K.written sink.new) }
+    ensures ends { ReplayEnds output (S.left source.old) result (K.written sink.old) (K.written sink.new) }
     ensures taken { Takes result (S.left source.old) (S.left source.new) }
     ensures source_later { S.faults source.old ≤ S.faults source.new }
     ensures source_failed { IsErrOf result stops.Source → Rose (S.faults source.old) (S.faults source.new) }
@@ -173,6 +213,6 @@ pub fn replay<S: Source, K: Sink>(
     match read(alloc, &input) {
         Err(ReadFault::NoMemory) => Err(Stop::Memory),
         Err(ReadFault::Text(fault)) => Err(write_fault(alloc, fault, sink)),
-        Ok(script) => replay_script(alloc, detail, script, sink),
+        Ok(script) => replay_script(alloc, output, script, sink),
     }
 }

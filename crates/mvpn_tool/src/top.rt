@@ -1,10 +1,11 @@
 //! The top call: a command, from octets to octets.
 ghost use Rattle.std.specs.Prelude.{◌≡◌, ℕ, Option, List, None, map, string_bytes};
 ghost use Rattle.mvpn_tool.specs.Commands.{command_of};
+ghost use Rattle.mvpn_tool.specs.TellOutcome.{tell_status};
 ghost use Rattle.mvpn_tool.specs.Runs.{Runs, UsageRun, ReplayRun, DecodeRun, MakeRun, SweepRun, AuditRun, HopsRun, IngressRun, ProbeRun};
 
 use crate::audit::judge;
-use crate::command::{Command, Detail, command_of};
+use crate::command::{Command, Output, command_of};
 use crate::decode::decode;
 use crate::hops::hops;
 use crate::ingress::ingress;
@@ -15,14 +16,14 @@ use crate::stop::Stop;
 use crate::sweep::sweep;
 use audit_defs::Verdict;
 use decode_text::Format;
+use hop_laws::of_run_laws::one_run_or_one_halt;
 use mv_io::{Sink, Source, write_all};
 use network_events::World;
-use run_laws::one_run_or_one_halt;
 use std::alloc::Global;
 
 /// The line that tells the forms of a command.
 const USAGE: &[u8] =
-    b"usage: mvpn replay [--wire] | decode nlri|pmsi|fec|bgp|ldp|pim | make NUMBER | sweep NUMBER | audit | probe | ingress | hops\n";
+    b"usage: mvpn replay [--wire] | decode nlri|pmsi|fec|bgp|ldp|pim | make NUMBER | sweep NUMBER | audit | probe | ingress | pcap | hops\n";
 
 /// How a call ended, and the world where all events of a script were replayed.
 pub struct End {
@@ -37,6 +38,22 @@ fn ended(status: u8) -> End
     End {
         status,
         world: None,
+    }
+}
+
+/// How a command ends that tells of a text: by whether it told a fault, or by why it stopped.
+fn told(answer: Result<bool, Stop>) -> End
+    ensures status { result.status ≡ tell_status answer }
+    ensures world { result.world ≡ None }
+{
+    match answer {
+        Ok(false) => ended(0),
+        Ok(true) => ended(1),
+        Err(Stop::Text) => ended(3),
+        Err(Stop::Source) => ended(4),
+        Err(Stop::Sink) => ended(5),
+        Err(Stop::Memory) => ended(6),
+        Err(Stop::Label) => ended(7),
     }
 }
 
@@ -107,11 +124,11 @@ fn run_sweep<K: Sink>(alloc: Global, number: u32, sink: &mut K) -> End
 
 fn run_replay<S: Source, K: Sink>(
     alloc: Global,
-    detail: Detail,
+    output: Output,
     source: &mut S,
     sink: &mut K,
 ) -> End
-    ensures { ReplayRun detail (record {
+    ensures { ReplayRun output (record {
       status = result.status;
       world = result.world;
       left = S.left source.old;
@@ -125,7 +142,7 @@ fn run_replay<S: Source, K: Sink>(
     }) }
 {
     one_run_or_one_halt();
-    match replay(alloc, detail, source, sink) {
+    match replay(alloc, output, source, sink) {
         Ok(world) => End {
             status: 0,
             world: Some(world),
@@ -157,15 +174,7 @@ fn run_decode<S: Source, K: Sink>(
       sink_now = K.faults sink.new;
     }) }
 {
-    match decode(alloc, format, source, sink) {
-        Ok(false) => ended(0),
-        Ok(true) => ended(1),
-        Err(Stop::Text) => ended(3),
-        Err(Stop::Source) => ended(4),
-        Err(Stop::Sink) => ended(5),
-        Err(Stop::Memory) => ended(6),
-        Err(Stop::Label) => unreachable!(),
-    }
+    told(decode(alloc, format, source, sink))
 }
 
 fn run_audit<S: Source, K: Sink>(alloc: Global, source: &mut S, sink: &mut K) -> End
@@ -207,15 +216,7 @@ fn run_hops<S: Source, K: Sink>(alloc: Global, source: &mut S, sink: &mut K) -> 
       sink_now = K.faults sink.new;
     }) }
 {
-    match hops(alloc, source, sink) {
-        Ok(false) => ended(0),
-        Ok(true) => ended(1),
-        Err(Stop::Text) => ended(3),
-        Err(Stop::Source) => ended(4),
-        Err(Stop::Sink) => ended(5),
-        Err(Stop::Memory) => ended(6),
-        Err(Stop::Label) => unreachable!(),
-    }
+    told(hops(alloc, source, sink))
 }
 
 fn run_ingress<S: Source, K: Sink>(alloc: Global, source: &mut S, sink: &mut K) -> End
@@ -232,15 +233,7 @@ fn run_ingress<S: Source, K: Sink>(alloc: Global, source: &mut S, sink: &mut K) 
       sink_now = K.faults sink.new;
     }) }
 {
-    match ingress(alloc, source, sink) {
-        Ok(false) => ended(0),
-        Ok(true) => ended(1),
-        Err(Stop::Text) => ended(3),
-        Err(Stop::Source) => ended(4),
-        Err(Stop::Sink) => ended(5),
-        Err(Stop::Memory) => ended(6),
-        Err(Stop::Label) => unreachable!(),
-    }
+    told(ingress(alloc, source, sink))
 }
 
 fn run_probe<S: Source, K: Sink>(alloc: Global, source: &mut S, sink: &mut K) -> End
@@ -257,15 +250,7 @@ fn run_probe<S: Source, K: Sink>(alloc: Global, source: &mut S, sink: &mut K) ->
       sink_now = K.faults sink.new;
     }) }
 {
-    match probe(alloc, source, sink) {
-        Ok(false) => ended(0),
-        Ok(true) => ended(1),
-        Err(Stop::Text) => ended(3),
-        Err(Stop::Source) => ended(4),
-        Err(Stop::Sink) => ended(5),
-        Err(Stop::Memory) => ended(6),
-        Err(Stop::Label) => unreachable!(),
-    }
+    told(probe(alloc, source, sink))
 }
 
 /// Runs the command that the words name. What is true of each status then, command by command, is `Runs`.
@@ -285,7 +270,7 @@ pub fn run<S: Source, K: Sink>(alloc: Global, words: &[String], source: &mut S, 
 {
     match command_of(words) {
         None => run_usage(sink),
-        Some(Command::Replay(detail)) => run_replay(alloc, detail, source, sink),
+        Some(Command::Replay(detail)) => run_replay(alloc, Output::Report(detail), source, sink),
         Some(Command::Decode(format)) => run_decode(alloc, format, source, sink),
         Some(Command::Make(number)) => run_make(alloc, number, sink),
         Some(Command::Sweep(number)) => run_sweep(alloc, number, sink),
@@ -293,5 +278,6 @@ pub fn run<S: Source, K: Sink>(alloc: Global, words: &[String], source: &mut S, 
         Some(Command::Hops) => run_hops(alloc, source, sink),
         Some(Command::Ingress) => run_ingress(alloc, source, sink),
         Some(Command::Probe) => run_probe(alloc, source, sink),
+        Some(Command::Pcap) => run_replay(alloc, Output::Hops, source, sink),
     }
 }

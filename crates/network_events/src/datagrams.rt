@@ -12,7 +12,7 @@ ghost use Rattle.network_events.specs.Datagrams.{EntersAt, IsSomeSent, Makes, Se
 ghost use Rattle.network_events.specs.Meeting.{IsGiven, IsReady, Meets};
 
 use crate::halt::{Halt, met};
-use crate::packet::packet;
+use crate::packets::packet;
 use crate::places::{edge_of_vrf, entered};
 use label_forwarding::{Datagram, PacketFault, read_packet};
 use mv_base::{Addr, NoMemory, NodeId, SiteId, VrfId};

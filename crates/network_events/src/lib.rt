@@ -6,7 +6,7 @@
 //! network is after the first events, `Lending` what the lent parts are in each run. `dispatch.rt` takes an event by
 //! its kind, and there is a file for sessions and `heal`, for `settle`, for nodes and time, costs, Join/Prune messages
 //! and notes (RFC 7761 section 4.5, RFC 6514 section 14), selections (RFC 6514 section 12.1), datagrams (RFC 6513
-//! sections 9.1.1 and 12, RFC 3032) and `drain`; `packet.rt` has the octets of a `send` (RFC 791, RFC 8200),
+//! sections 9.1.1 and 12, RFC 3032) and `drain`; `packets.rt` has the octets of a `send` (RFC 791, RFC 8200),
 //! `places.rt` the edge of a VRF and the VRFs at which a datagram enters, `halt.rt` why a network goes no further.
 //! Below it are `network_acts` and `once_laws`; above it `mvpn_tool` replays a script event by event.
 #![tactic(auto)]
@@ -18,7 +18,7 @@ mod dispatch;
 mod draining;
 mod halt;
 mod nodes;
-mod packet;
+mod packets;
 mod places;
 mod selections;
 mod sessions;
@@ -30,4 +30,5 @@ pub use mldp_node::LdpNode;
 // The names `of_..`: words of lower crates that this crate's contracts are made of.
 pub use network_acts::{Edge, Pool, of_network_laws as of_network_laws};
 pub use once_laws as of_once_laws;
+pub use packets::packet;
 pub use world::World;

@@ -1,4 +1,4 @@
-use Rattle.mvpn_tool.proofs.DecodeLemmas.{not_false}
+use Rattle.mvpn_tool.proofs.TellLemmas.{not_false}
 use Rattle.mvpn_tool.proofs.decode.write_values.Goals as goal
 
 pub returns-clause-fault : goal.returns-clause-fault

@@ -1,6 +1,6 @@
 use Rattle.std.proofs.Common.{take}
 use Rattle.mv_base.specs.Octets.{IsOctets}
-use Rattle.probe_defs.specs.Lines.{octets_of}
+use Rattle.probe_text.specs.probe_defs.Lines.{octets_of}
 use Rattle.mvpn_tool.proofs.probe.have_octets.Given as goal
 
 -- those of the lines so far are octets

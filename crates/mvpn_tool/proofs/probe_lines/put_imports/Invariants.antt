@@ -1,6 +1,6 @@
 use Rattle.std.proofs.Common.{◌≡◌, ◌++◌, take}
 use Rattle.std.specs.List.{flat_map}
-use Rattle.mvpn_tool.specs.ProbeOutcome.{import_line}
+use Rattle.mvpn_tool.specs.ProbeLines.{import_line}
 use Rattle.mvpn_tool.proofs.probe_lines.put_imports.Given as goal
 
 -- the lines of the routes so far were appended

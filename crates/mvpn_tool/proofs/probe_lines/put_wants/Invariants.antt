@@ -1,6 +1,6 @@
 use Rattle.std.proofs.Common.{◌≡◌, ◌++◌, take}
 use Rattle.std.specs.List.{flat_map}
-use Rattle.mvpn_tool.specs.ProbeOutcome.{want_line}
+use Rattle.mvpn_tool.specs.ProbeLines.{want_line}
 use Rattle.mvpn_tool.proofs.probe_lines.put_wants.Given as goal
 
 -- the lines of the tunnels so far were appended

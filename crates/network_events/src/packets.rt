@@ -55,12 +55,7 @@ fn six_packet(alloc: Global, source: Addr, group: Addr, payload: &[u8]) -> Resul
 }
 
 /// The packet of this payload, of the family of its source.
-pub(crate) fn packet(
-    alloc: Global,
-    source: Addr,
-    group: Addr,
-    payload: &[u8],
-) -> Result<Bytes, NoMemory>
+pub fn packet(alloc: Global, source: Addr, group: Addr, payload: &[u8]) -> Result<Bytes, NoMemory>
     requires { length payload.now + FOUR_HEADER_LEN < 2 ^ 16 }
     ensures { IfOk result (λ octets. octets ≡ packet source group payload.now) }
 {

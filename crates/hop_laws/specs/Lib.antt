@@ -1,0 +1,2 @@
+pub use Rattle.run_laws.specs as run_laws
+pub mod Hops

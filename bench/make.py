@@ -23,12 +23,16 @@
     decode-bgp  SIZE octets of hexadecimal text, which writes BGP messages end to end, one on each line
     decode-ldp  SIZE octets of hexadecimal text, which writes LDP PDUs end to end, one on each line
     ingress     a root, and about SIZE octets of lines: leaves that answer, and octets of a hundred peers
+    probe       two edges, ten joins at the one, and about SIZE octets of lines with octets of the other: BGP messages end to end, cut into
+                lines of 4,096 octets
+    pcap        28 edges that receive a flow over one core node, then sends and drains that come to about SIZE hops
     hops        a file of SIZE hops, each of a datagram of 22 octets
     audit       SIZE sends in one calm window, each datagram leaving at ten interfaces, and the report of them
+    receivers   SIZE sends in one calm window, each to 990 interfaces, and a report of the first datagram alone
 
-Those before `decode` are inputs of `replay`, `decode` is one of `decode fec`, `decode-NAME` one of `decode NAME`, and `ingress`, `hops`
-and `audit` are each one of the command of that name. The input is within the limits: 16,777,216 octets, 200,000 events, 1,024
-interfaces and entries, 4,096 octets a line.
+Those before `decode` are inputs of `replay`, `decode` is one of `decode fec`, `decode-NAME` one of `decode NAME`, and `ingress`, `probe`,
+`pcap`, `hops` and `audit` are each one of the command of that name, `receivers` one of `audit`. The input is within the limits: 16,777,216
+octets, 200,000 events, 1,024 interfaces and entries, 4,096 octets a line.
 """
 
 import random
@@ -38,6 +42,8 @@ EVENT_LIMIT = 200_000
 SITES = 100
 IFACES_PER_SITE = 10
 JOIN_LEN = 80
+# edges to which a datagram goes from the core node
+RECEIVING = 28
 
 
 def comments(size):
@@ -324,10 +330,10 @@ def sized(kind, fields):
     return bytes([kind, len(fields)]) + fields
 
 
-def message(number):
-    """An UPDATE with one route, its communities and a tunnel."""
+def message(number, target=None):
+    """An UPDATE with one route, its communities, by default those of its own, and a tunnel."""
     nlri = bytes([0, 1, 5, 4, 192, 0, 2, number % 254 + 1, 0]) + route(number)
-    communities = bytes([0, 2]) + (65000).to_bytes(2, 'big') + numbered(number)
+    communities = bytes([0, 2]) + (65000).to_bytes(2, 'big') + numbered(number if target is None else target)
     tunnel = bytes([0, 2, 0, 0, 0]) + fec(3 * number)
     attributes = bytes.fromhex('4001010040020040050400000064')
     for flags, kind, value in ((0x80, 14, nlri), (0xc0, 16, communities), (0xc0, 22, tunnel)):
@@ -348,6 +354,24 @@ def pdu(number):
 def wide(kind, value):
     """A type and a length of two octets each, and the value."""
     return kind.to_bytes(2, 'big') + len(value).to_bytes(2, 'big') + value
+
+
+def pcap(size):
+    """A copy to the core node, and from there one to each of the receiving edges; a drain after each hundred datagrams."""
+    edges = RECEIVING + 1
+    yield from ('edge E%d 192.0.2.%d\n' % (n, n) for n in range(1, edges + 1))
+    yield 'core C 192.0.2.99\n'
+    yield from ('link E%d C 1\n' % n for n in range(1, edges + 1))
+    for n in range(1, edges + 1):
+        yield 'vrf V%d E%d 1 65000:%d 65000:1 highest\nsite S%d 10.%d.0.0/16\niface I%d V%d S%d 10.%d.0.1\n' % (n, n, n, n, n, n, n, n, n)
+    yield 'events\nheal\nsettle\ntick 3\nsettle\n'
+    yield from ('join I%d 10.1.0.9 232.1.1.1\n' % n for n in range(2, edges + 1))
+    yield 'settle\n'
+    for number in range(size // edges):
+        yield 'send S1 10.1.0.9 232.1.1.1 aabb\n'
+        if number % 100 == 99:
+            yield 'drain\n'
+    yield 'drain\n'
 
 
 def hops(size):
@@ -374,6 +398,20 @@ def audit(size):
     for number in range(1, size + 1):
         for iface in range(IFACES_PER_SITE):
             yield 'out %d Y%d 4500001600000000401187cb0a010009e8010101aabb\n' % (number, iface)
+    yield 'state 0 0 0 0 0\n'
+
+
+def receivers(size):
+    """A flow that all interfaces of the other sites join, and its datagrams, of which the report has only the first."""
+    yield from thousand_ifaces()
+    asking = range(IFACES_PER_SITE, SITES * IFACES_PER_SITE)
+    for number in asking:
+        yield 'join %s %s\n' % (iface(number), flow(0))
+    yield 'state\n'
+    yield from ['send S0 %s aabb\n' % flow(0)] * size
+    yield 'drain\nstate\nreport\nstate 0 0 0 0 0\n'
+    for number in asking:
+        yield 'out 1 %s 4500001600000000401187720a000063e8010101aabb\n' % iface(number)
     yield 'state 0 0 0 0 0\n'
 
 
@@ -407,6 +445,27 @@ def ingress(size):
         number += 1
 
 
+PIECE = (4_096 - len('piece ')) // 2
+
+
+def probe(size):
+    """Two edges with a VRF each, ten joins at the second, and what the first one sends: messages of routes that are for the VRF, each of
+    its own key, cut into pieces that fill a line."""
+    yield 'edge E1 192.0.2.1\nedge E2 192.0.2.2\ncore C 192.0.2.9\nlink E1 C 1\nlink E2 C 1\n'
+    yield 'vrf V1 E1 1 65000:1 65000:1 highest\nvrf V2 E2 1 65000:1 65000:1 highest\n'
+    yield 'site X 10.0.0.0/16\nsite Y 11.0.0.0/16\niface X1 V1 X 10.0.0.1\niface Y1 V2 Y 11.0.0.1\nprobe E2 E1\n'
+    yield from ('join Y1 10.%d.0.99 232.1.1.%d\n' % (number, number + 1) for number in range(10))
+    octets, number = b'', 0
+    while size > 0:
+        while len(octets) < PIECE:
+            octets += message(number, 1)
+            number += 1
+        piece = 'piece %s\n' % octets[:PIECE].hex()
+        yield piece
+        size -= len(piece)
+        octets = octets[PIECE:]
+
+
 KINDS = {
     'comments': lambda size: [*comments(size), *small()],
     'joins': joins,
@@ -426,8 +485,11 @@ KINDS = {
     'decode-bgp': lambda size: hexadecimal(message, size),
     'decode-ldp': lambda size: hexadecimal(pdu, size),
     'ingress': ingress,
+    'probe': probe,
+    'pcap': pcap,
     'hops': hops,
     'audit': audit,
+    'receivers': receivers,
 }
 
 

@@ -33,8 +33,11 @@ INPUTS = [
     ('decode-bgp', ['decode', 'bgp'], 8_000_000, 0),
     ('decode-ldp', ['decode', 'ldp'], 8_000_000, 0),
     ('ingress', ['ingress'], 8_000_000, 0),
+    ('probe', ['probe'], 8_000_000, 0),
+    ('pcap', ['pcap'], 145_000, 0),
     ('hops', ['hops'], 145_000, 0),
     ('audit', ['audit'], 10_000, 0),
+    ('receivers', ['audit'], 10_000, 8),
 ]
 
 

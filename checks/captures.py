@@ -7,8 +7,8 @@ Of each example and its report `tools/wireshark.py` makes a file. What is told o
 
 The octets of one example are then put into segments and files of other kinds: cut short, in another order, sent twice, behind tags and
 labels, on other links, in other formats. What is told has to be the same. Last come streams with faults and with octets that are
-missing, and messages of PIM with other checksums, whose lines are laid out here; and a capture of live daemons, with its lines beside it
-(examples/lab/daemons).
+missing, and messages of PIM with other checksums, whose lines are laid out here; and captures of live daemons, with their lines beside
+them (examples/lab/daemons), of which tshark has to tell the same prefixes and labels, too.
 
 The command is `./mvpn` of this repository, unless another one is named. Prints the cases that differ, and then 'N passed, M failed'.
 """
@@ -16,6 +16,7 @@ The command is `./mvpn` of this repository, unless another one is named. Prints 
 import argparse
 import ipaddress
 import pathlib
+import re
 import shlex
 import shutil
 import struct
@@ -123,17 +124,35 @@ def type_of(text):
     return int(more[0]) if word == 'ignored' else TYPES.get(word)
 
 
-def shown(capture):
-    """The frame, the time and the type of each message that tshark tells."""
-    fields = ['frame.number', 'frame.time_epoch', 'bgp.type', 'ldp.msg.type', 'pim.type']
+def fields_of(capture, *fields):
+    """These fields of each frame, by tshark."""
     with tempfile.NamedTemporaryFile() as file:
         file.write(capture)
         file.flush()
         words = [word for field in fields for word in ('-e', field)]
         run = subprocess.run(['tshark', '-n', '-r', file.name, '-T', 'fields', *words], capture_output=True, text=True, check=True)
-    for line in run.stdout.splitlines():
-        frame, time, *types = line.split('\t')
+    return [line.split('\t') for line in run.stdout.splitlines()]
+
+
+def shown(capture):
+    """The frame, the time and the type of each message that tshark tells."""
+    for frame, time, *types in fields_of(capture, 'frame.number', 'frame.time_epoch', 'bgp.type', 'ldp.msg.type', 'pim.type'):
         yield from ((frame, time, int(kind, 0)) for kinds in types for kind in kinds.split(',') if kind)
+
+
+def prefixes_shown(capture):
+    """The frame, the prefix and the label of each label message of LDP with a prefix that tshark tells."""
+    fec = 'ldp.msg.tlv.fec.'
+    for frame, *columns in fields_of(capture, 'frame.number', fec + 'pfval', fec + 'len', 'ldp.msg.tlv.generic.label'):
+        rows = zip(*(column.split(',') for column in columns))
+        yield from ((frame, f'{address}/{length}', label) for address, length, label in rows if address)
+
+
+def prefixes_in(lines):
+    for frame, *_, text in lines:
+        found = re.search(r'\[FEC Prefix (\S+)\] \[label (\d+)\]', text)
+        if found:
+            yield frame, *found.groups()
 
 
 def example_differences(program, command, name, text):
@@ -289,7 +308,13 @@ STREAMS = {
         [MAPPED, f'refused 47 message-length {left_out(3)}', MAPPED]),
     'FEC at the end': ('ldp', pdu(ldp(0x400, 1, bytes.fromhex('01000000'))) + MAPPING, [f'refused 22 fec.short {left_out(12)}', MAPPED]),
     'messages passed over': ('ldp', LDPS['keepalive'] + pdu(label_mapping(bytes.fromhex('020001080a'), 16)) + MAPPING, [
-        'ignored 513 [KeepAlive]', 'ignored 1024 [FEC Prefix]', MAPPED]),
+        'ignored 513 [KeepAlive]', 'ignored 1024 [Label Mapping] [FEC Prefix 10.0.0.0/8] [label 16]', MAPPED]),
+    'FECs passed over': ('ldp', pdu(
+        label_mapping(bytes.fromhex('0200022020010db8' '0200011e0a010204'), 3), label_mapping(b'\1', 0),
+        label_mapping(bytes.fromhex('020001210a01020400'), 16)), [
+            'ignored 1024 [Label Mapping] [FEC Prefix 2001:db8::/32] [FEC Prefix 10.1.2.4/30] [label 3]',
+            'ignored 1024 [Label Mapping] [FEC Wildcard] [label 0]', 'ignored 1024 [Label Mapping] [FEC Prefix] [label 16]']),
+    'a status': ('ldp', pdu(ldp(0x0001, 1, bytes.fromhex('0300000a8000000a000000000000'))), ['ignored 1 [Notification] [status 10]']),
 }
 
 
@@ -359,11 +384,12 @@ def lab_differences(command, path):
     """In what the lines of a kept capture differ from those beside it, each behind its frame."""
     capture = path.read_bytes()
     lines = told(command, capture)
-    yield differences([f'{line[0]} {line[5]}' for line in lines], (path.parent / 'told').read_text().splitlines())
+    yield differences([f'{line[0]} {line[5]}' for line in lines], path.with_suffix('.lines').read_text().splitlines())
     if shutil.which('tshark'):
         types = [(frame, time, type_of(text)) for frame, time, *_, text in lines if type_of(text) is not None]
         hello = 0
         yield differences(types, [one for one in shown(capture) if one[2] != hello])
+        yield differences(list(prefixes_in(lines)), list(prefixes_shown(capture)))
 
 
 def lab_cases(command):

@@ -1,11 +1,17 @@
 #!/usr/bin/env python3
-"""Reads random files of hops by the program and by the reference program of the definitions, and compares their lines and statuses:
-`hop_files.py [--command COMMAND] [--count N] [--seed S] [--jobs N]`.
+"""Reads random files of hops by the program and by the reference program of the definitions, and compares their lines and statuses;
+and writes those of random networks and of the examples by both, and reads them back:
+`hop_files.py [--command COMMAND] [--count N] [--networks N] [--seed S] [--jobs N]`.
 
 A file has some hops, in either order of octets. Most files are then cut, or get another octet or two, in the header or near the
 front of a record. Where tcpdump is installed, it reads a file that is written with the most significant octet first, and writes
-it again in the order of octets of this machine: the lines have to stay the same. The command is `./mvpn` of this repository, unless another one is named. Prints the files that differ, in
-hexadecimal digits, and last 'N passed, M failed'. By hand, `--count 10000` takes a minute.
+it again in the order of octets of this machine: the lines have to stay the same. The networks and their scripts are those of
+`networks.py`. What `pcap` writes of one has to be what the reference program writes, with its status; and what `hops` writes of
+that file has to be the `hop` lines of `replay --wire`, each with the numbers of its nodes, the clock at its event, and the octets
+of the datagram that `hop` line names. Where editcap and mergecap are installed, what they write of such a file in that format
+has to have the same lines, and a pcapng that editcap writes is refused. The command is `./mvpn` of this repository, unless
+another one is named. Prints the files that differ, in hexadecimal digits, the networks that differ, and last 'N passed, M
+failed'. By hand, `--count 10000 --networks 1000` takes some minutes.
 """
 
 import argparse
@@ -15,17 +21,24 @@ import shlex
 import shutil
 import subprocess
 import sys
-from concurrent.futures import ThreadPoolExecutor
+import tempfile
+from concurrent.futures import ProcessPoolExecutor, ThreadPoolExecutor
 
-from reference.pcap import CoreHop, MAGIC, PASSED, hop_text, hops, number, written_file
+from networks import make_text
+from reference.octets import packet
+from reference.pcap import CoreHop, MAGIC, PASSED, hop_text, hops, number, pcap, written_file
+from reference.report import hex_text
+from reference.script import read
 
 TOP = pathlib.Path(__file__).resolve().parent.parent
 # seconds that a run may take
 LONGEST = 300
 # the octets of a header, and of the front of a record
 HEADER, FRONT = 24, 34
-# files that tcpdump writes again
-TOOL_FILES = 5
+# files that tcpdump writes again, and networks whose files editcap and mergecap write again
+TOOL_FILES, TOOL_NETWORKS = 5, 5
+# events of a random network
+EVENTS = 90
 
 
 def header(order, numbers):
@@ -82,16 +95,100 @@ def differs(command, case):
     return f'{name}, {octets.hex()}: wanted {wanted!r}, status {status}; came {ran.stdout!r}, status {ran.returncode}'
 
 
+# ---- files of networks
+
+def run(command, octets):
+    """What a command writes of these octets, and its status."""
+    ran = subprocess.run(command, input=octets, capture_output=True, timeout=LONGEST)
+    return ran.stdout, ran.returncode
+
+
+def with_marks(text):
+    """The script with a `state` after each event: what happens is the same, and the report tells which lines are of which event."""
+    front, word, events = text.partition('events\n')
+    return front + word + ''.join(f'{line}\nstate\n' for line in events.splitlines())
+
+
+def octets_sent(event):
+    """The octets of the datagram that an event sends, if it is accepted."""
+    if event.word == 'send':
+        return [packet(event.source, event.group, event.octets)]
+    return [event.octets] if event.word == 'packet' else []
+
+
+def hop_lines(text, report):
+    """What `hops` is to write of the file of a script with marks, by what `replay --wire` writes of it: each `hop` line with the
+    numbers of its nodes, the clock at its event, and the octets of its datagram."""
+    script, lines = read(text), report.splitlines()
+    nodes = {node.name: number for number, node in enumerate(script.scenario.nodes)}
+    clock, sent = 0, []
+    for timed in script.events:
+        # the lines of an event end before the mark of the next one, which writes one line
+        own = [lines.pop(0)] if timed.event.word == 'state' and lines else []
+        while timed.event.word != 'state' and lines and not lines[0].startswith('state '):
+            own.append(lines.pop(0))
+        if not any(line.startswith('refused ') for line in own):
+            sent += octets_sent(timed.event)
+        for line in own:
+            if line.startswith('hop '):
+                _, start, end, label, ttl, datagram = line.split()
+                yield f'hop {clock} {nodes[start]} {nodes[end]} {label} {ttl} {hex_text(sent[int(datagram) - 1])}\n'
+        clock += timed.event.count if timed.event.word == 'tick' else 0
+
+
+def again(octets):
+    """A file as other tools write it, each with their name and status: in the same format, and as pcapng."""
+    with tempfile.TemporaryDirectory() as folder:
+        own, other = pathlib.Path(folder) / 'own', pathlib.Path(folder) / 'other'
+        own.write_bytes(octets)
+        for tool in (['editcap', '-F', 'pcap', own, other], ['mergecap', '-F', 'pcap', '-w', other, own], ['editcap', '-F', 'pcapng', own, other]):
+            if shutil.which(tool[0]):
+                subprocess.run(tool, check=True, capture_output=True, timeout=LONGEST)
+                yield ' '.join(map(str, tool[:3])), other.read_bytes(), tool[2] == 'pcapng'
+
+
+def network_differs(task):
+    """The name of a script, and in what the program differs there, or nothing."""
+    command, name, text, is_for_tools = task
+    marked = with_marks(text)
+    octets, status = run([*command, 'pcap'], text.encode())
+    if (octets, status) != pcap(text.encode()):
+        return name, f'the file {octets.hex()}, status {status}, is not that of the reference program'
+    if run([*command, 'pcap'], marked.encode()) != (octets, status):
+        return name, 'the file is another one with a `state` after each event'
+    report, _ = run([*command, 'replay', '--wire'], marked.encode())
+    wanted = ''.join(hop_lines(marked, report.decode())).encode()
+    if run([*command, 'hops'], octets) != (wanted, 0):
+        return name, 'what `hops` writes of the file are not the `hop` lines of the report'
+    for tool, other, is_ng in again(octets) if is_for_tools else ():
+        came = run([*command, 'hops'], other)
+        if came != ((b'refused 0 magic\n', 1) if is_ng else (wanted, 0)):
+            return name, f'{tool} writes a file of which `hops` writes {came!r}'
+    return name, ''
+
+
+def scripts(given):
+    """The scripts: those of the examples, and of random networks."""
+    for path in sorted((TOP / 'examples').glob('*.txt')):
+        yield path.name, path.read_text()
+    for seed in range(given.seed, given.seed + given.networks):
+        yield f'network {seed}', make_text(seed, EVENTS)
+
+
 def main():
     parser = argparse.ArgumentParser()
     parser.add_argument('--command', default=str(TOP / 'mvpn'))
     parser.add_argument('--count', type=int, default=1000)
+    parser.add_argument('--networks', type=int, default=40)
     parser.add_argument('--seed', type=int, default=1)
     parser.add_argument('--jobs', type=int, default=2)
     given = parser.parse_args()
     command = shlex.split(given.command)
     with ThreadPoolExecutor(given.jobs) as pool:
         results = list(pool.map(lambda case: differs(command, case), cases(given)))
+    tasks = [(command, name, text, place < TOOL_NETWORKS) for place, (name, text) in enumerate(scripts(given))]
+    with ProcessPoolExecutor(given.jobs) as pool:
+        results += [told and f'{name}: {told}' for name, told in pool.map(network_differs, tasks)]
     differing = [told for told in results if told]
     for told in differing:
         print(told)

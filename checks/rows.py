@@ -3,8 +3,8 @@
 
 A row is the words of a command, its input, the whole output and the status. Rows stand in checks/rows/*.txt, and each
 examples/NAME.txt with its NAME.report is one more; its status is 7 where the last line of the report begins with `halt `, and else
-0. So is each examples/NAME.ingress, a row of `ingress`, of status 1 where a line of the report begins with `refused `, and each
-examples/NAME.audit with its NAME.answer, a row of `audit`, of status 0 where the answer is `yes`, and else 8. The
+0. So is each examples/NAME.ingress and examples/NAME.probe, a row of `ingress` or `probe`, of status 1 where a line of the report begins
+with `refused `, and each examples/NAME.audit with its NAME.answer, a row of `audit`, of status 0 where the answer is `yes`, and else 8. The
 command is `./mvpn` of this repository, unless another one is named. Rows of commands that the reference program of the
 definitions has are run by that one too. With files, only rows of these are run.
 
@@ -49,9 +49,9 @@ REFERENCE = [sys.executable, str(TOP / 'checks' / 'reference.py')]
 ESCAPES = {'n': '\n', 'r': '\r', 't': '\t', '\\': '\\', '\n': ''}
 # the first words of blocks
 KINDS = ['short', 'scenario', 'table', 'row']
-# the commands that the reference program has as well, and those that it has alone
+# the commands that the reference program has as well, and of these the ones that replay
 REFERRED = ('replay', 'audit', 'probe', 'ingress', 'pcap', 'hops')
-ALONE = ('pcap',)
+REPLAYING = ('replay', 'pcap')
 # the statuses of a replay that came to its end, to a fault of the text, or to a halt
 REPLAYED = (0, 3, 7)
 # seconds that a run may take: a program that is built without its proofs is not optimized, and slow at the limits
@@ -73,11 +73,9 @@ class Row:
     def runners(self):
         """Who runs the row: the reference program too, where it has the command."""
         command = self.words[0] if self.words else ''
-        if command in ALONE:
-            return [] if self.by == 'program' else ['reference']
         if self.by:
             return [self.by]
-        is_referred = command in REFERRED and (command != 'replay' or self.status in REPLAYED)
+        is_referred = command in REFERRED and (command not in REPLAYING or self.status in REPLAYED)
         return ['program', 'reference'] if is_referred else ['program']
 
 
@@ -211,10 +209,11 @@ def examples():
         report = path.with_suffix('.report').read_text()
         status = 7 if re.search(r'^halt .*\n\Z', report, re.MULTILINE) else 0
         yield Row(f'examples/{path.name}', ['replay'], path.read_bytes(), report, status)
-    for path in sorted((TOP / 'examples').glob('*.ingress')):
-        report = path.with_suffix('.report').read_text()
-        status = 1 if re.search('^refused ', report, re.MULTILINE) else 0
-        yield Row(f'examples/{path.name}', ['ingress'], path.read_bytes(), report, status)
+    for command in ('ingress', 'probe'):
+        for path in sorted((TOP / 'examples').glob(f'*.{command}')):
+            report = path.with_suffix('.report').read_text()
+            status = 1 if re.search('^refused ', report, re.MULTILINE) else 0
+            yield Row(f'examples/{path.name}', [command], path.read_bytes(), report, status)
     for path in sorted((TOP / 'examples').glob('*.audit')):
         answer = path.with_suffix('.answer').read_text()
         yield Row(f'examples/{path.name}', ['audit'], path.read_bytes(), answer, 0 if answer == 'yes\n' else 8)

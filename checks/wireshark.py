@@ -17,6 +17,11 @@ have tables of several segments. tshark may tell no malformed field, no error an
 UPDATEs and messages of LDP as the nodes put; and in the order of the events, each at the tick that the reference program has for
 it, what they put, the Join/Prune messages, the copies on links with labels and TTLs, and the datagrams that leave.
 
+The file that `pcap` writes of each example is one more case. capinfos has to count as many frames of Ethernet as the replay has
+hops; tcpdump has to tell the label and the TTL of each; and tshark may tell no malformed field, no error and no wrong checksum,
+and has to tell each hop with its tick, its nodes, a label at the bottom of its stack without a traffic class, its TTL, and the
+flow of the datagram below, by what the reference program has of it. In `udp-datagrams.txt` the datagrams of UDP are read too.
+
 tshark 4.0.17 does not tell all, so the cases keep within this:
 - The key of a leaf route is told as octets. It is a route, so tshark reads them again in a message of their own.
 - Originators, roots, and endpoints of ingress replication are IPv4: those of IPv6 are not told, or told wrongly.
@@ -47,6 +52,7 @@ import tempfile
 import xml.etree.ElementTree as xml
 
 from reference import events, report
+from reference.pcap import hops_of
 from reference.script import read
 from reference.world import clock_of, start
 from rows import REPLAYED, starts
@@ -816,6 +822,69 @@ def file_cases(program, reports):
         yield name, list(file_differs(read(text).scenario, text, told_report, packets))
 
 
+# ---- the files of hops
+
+UDP_SHOWN = ['-o', 'udp.check_checksum:TRUE', '-o', 'ip.check_checksum:TRUE']
+
+
+def told_by(*command):
+    """The lines that a tool writes of a file."""
+    ran = subprocess.run(list(map(str, command)), capture_output=True, text=True)
+    return ran.stdout.splitlines() if ran.returncode == 0 else [f'status {ran.returncode}: {ran.stderr}']
+
+
+def hop_of_packet(told):
+    """How a frame is seen."""
+    ends = [int.from_bytes(bytes.fromhex(told.octets(name))[4:], 'big') for name in ('eth.src', 'eth.dst')]
+    shim = [told.number(f'mpls.{name}') for name in ('label', 'exp', 'bottom', 'ttl')]
+    family = 'ip' if 'ip.src' in told else 'ipv6'
+    return ' '.join(map(str, [tick_of(told), *ends, *shim, *(told[f'{family}.{end}'].get('show') for end in ('src', 'dst'))]))
+
+
+def wanted_hop(hop):
+    return f'{hop.tick} {hop.start} {hop.end} {hop.label} 0 1 {hop.ttl} {flow_text(bytes(hop.octets))}'
+
+
+def tools_differ(octets, wanted):
+    """In what capinfos and tcpdump tell something else of a file of hops than they have to."""
+    with tempfile.NamedTemporaryFile(suffix='.pcap') as file:
+        file.write(octets)
+        file.flush()
+        if shutil.which('capinfos'):
+            seen = dict(line.split(':', 1) for line in told_by('capinfos', '-M', '-c', '-E', file.name) if ':' in line)
+            seen = {name: value.strip() for name, value in seen.items()}
+            if (seen.get('Number of packets'), seen.get('File encapsulation')) != (str(len(wanted)), 'ether'):
+                yield f'capinfos tells {seen}'
+        if shutil.which('tcpdump'):
+            shims = [f'MPLS (label {hop.label}, tc 0, [S], ttl {hop.ttl})' for hop in wanted]
+            lines = told_by('tcpdump', '-n', '-t', '-r', file.name)
+            yield from (f'tcpdump tells {own!r} and not {other!r}' for own, other in itertools.zip_longest(lines, shims)
+                        if own is None or other is None or not own.startswith(other))
+
+
+def hop_file_differs(name, text, octets):
+    """In what tools tell something else of the file of hops of an example than they have to."""
+    wanted = hops_of(read(text))[0]
+    options = UDP_SHOWN if name == 'udp-datagrams.txt' else SHOWN
+    packets = [values_of(elements, 'frame.encap_type')[1] for elements in dissect(octets, *options)] if wanted else []
+    for place, told in enumerate(packets, 1):
+        yield from (f'packet {place}: {fault}' for fault in faults_told(told))
+        if options is UDP_SHOWN and (told.number('udp.checksum.status'), told.number('udp.dstport')) != (1, 5004):
+            yield f'packet {place}: another datagram of UDP'
+    came = [hop_of_packet(told) for told in packets]
+    yield from (f'{own!r} and not {other!r}' for own, other in itertools.zip_longest(came, map(wanted_hop, wanted)) if own != other)
+    yield from tools_differ(octets, wanted)
+
+
+def hop_file_cases(program):
+    """By name, in what the files of hops of the examples differ from what they have to be."""
+    for name, text in examples().items():
+        run = subprocess.run([*program, 'pcap'], input=text.encode(), capture_output=True)
+        if run.returncode not in REPLAYED:
+            sys.exit(f'{name}: pcap ended with status {run.returncode}')
+        yield name, list(hop_file_differs(name, text, run.stdout))
+
+
 # ---- the comparison
 
 def own_cases(command):
@@ -847,6 +916,7 @@ def main():
     cases += [(kind, *case) for kind in SESSIONS for case in example_cases(reports, kind)]
     results = [(f'{command}, {name}', differs(program, command, octets, lines)) for command, name, octets, lines in cases]
     results += [(f'file of {name}', '\n'.join(told)) for name, told in file_cases(program, reports)]
+    results += [(f'hops of {name}', '\n'.join(told)) for name, told in hop_file_cases(program)]
     differing = [f'{name}: {told}' for name, told in results if told]
     for told in differing:
         print(told)

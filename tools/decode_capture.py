@@ -1,22 +1,24 @@
 #!/usr/bin/env python3
-"""Tells what the messages of BGP, LDP and PIM in capture files say, by `mvpn decode`: `decode_capture.py [--command COMMAND] CAPTURE..`
+"""Writes what the messages of BGP, LDP and PIM in capture files say, by `mvpn decode`: `decode_capture.py [--command COMMAND] CAPTURE..`
 
 A capture is a file of pcap or pcapng, of links of Ethernet, Linux cooked captures or bare IP; tags of VLANs and MPLS labels in front
 of a packet are passed over. What each end of a connection of TCP from or to port 179 or 646 sends is put together, whatever the order
 of the segments, and cut into messages of BGP and PDUs of LDP. These are handed to `decode bgp` and `decode ldp`, many in one call, and
 so are LDP's hellos over UDP; Join/Prune messages of PIM over IPv4 and IPv6 go to `decode pim`, each in a call. The command is `./mvpn`
-of this repository, unless another one is named. Each line that comes back is written behind the number of its frame, by which all
-octets of the message had come, the frame's time in seconds, and the two ends. This tool's own words stand in brackets:
+of this repository, unless another one is named. Each line that comes back is written after the number of its frame, by which all
+octets of the message had come, the frame's time in seconds, and the two ends. This tool's own words are in brackets:
 
-    [N octets are left out]     behind a fault, or where it is not known yet where a message begins. BGP goes on at the next marker,
+    [N octets are left out]     after a fault, or where it is not known yet where a message begins. BGP goes on at the next marker,
                                 LDP at the next PDU. `refused PLACE` counts from the first octet of the message or the PDU
     [N octets are missing]      the capture lacks them
-    [Hello], [AFI 1 SAFI 1]     the type of what the program passes over: a message, the FEC of one, the routes of an UPDATE
+    [Hello], [AFI 1 SAFI 1]     the type of what the program passes over: a message, or the routes of an UPDATE
+    [FEC Prefix 10.2.0.0/24]    the FEC of a label message that is passed over, as of a unicast prefix, and [label 16] its label
+    [status 10]                 what a Notification of LDP says (RFC 5036 section 3.9)
     [checksum ..]               the checksum of a Join/Prune message is tried by the packet's own addresses. Where it is right, and
                                 the program would want another one, the message is handed over with that: with IPv6 the one from
                                 fe80::1 to ff02::d. Where it is wrong the message is not handed over
 
-What `decode` takes for granted is told in docs/FORMATS.md. Fragments of IP are passed over, and counted on standard error.
+What `decode` takes for granted is in docs/FORMATS.md. Fragments of IP are passed over, and counted on standard error.
 """
 
 import argparse
@@ -41,10 +43,16 @@ MOST = 200_000
 BGP_WORDS = ('open', 'update', 'notification', 'keepalive', 'refresh')
 FAMILIES = ((1, 5), (2, 5), (1, 128), (2, 128))
 # what the program passes over: messages of LDP (RFC 5036 section 3.7), FEC elements, and messages of PIM (RFC 8736)
+NOTIFICATION, LABEL_MESSAGES = 0x0001, (0x0400, 0x0402, 0x0403)
 LDP_TYPES = {
-    0x0001: 'Notification', 0x0100: 'Hello', 0x0200: 'Initialization', 0x0201: 'KeepAlive', 0x0300: 'Address',
-    0x0301: 'Address Withdraw', 0x0401: 'Label Request', 0x0404: 'Label Abort Request'}
-FECS = {1: 'Wildcard', 2: 'Prefix', 5: 'Typed Wildcard', 128: 'PWid', 129: 'Generalized PWid'}
+    NOTIFICATION: 'Notification', 0x0100: 'Hello', 0x0200: 'Initialization', 0x0201: 'KeepAlive', 0x0300: 'Address',
+    0x0301: 'Address Withdraw', 0x0400: 'Label Mapping', 0x0401: 'Label Request', 0x0402: 'Label Withdraw', 0x0403: 'Label Release',
+    0x0404: 'Label Abort Request'}
+PREFIX = 2
+FECS = {1: 'Wildcard', PREFIX: 'Prefix', 5: 'Typed Wildcard', 128: 'PWid', 129: 'Generalized PWid'}
+# TLVs of LDP (RFC 5036 section 3.4), and by the numbers of address families the octets of an address
+FEC_TLV, LABEL_TLV, STATUS_TLV = 0x0100, 0x0200, 0x0300
+FAMILY_SIZES = {1: 4, 2: 16}
 JOIN_PRUNE = 3
 PIM_TYPES = {
     0: 'Hello', 1: 'Register', 2: 'Register-Stop', 4: 'Bootstrap', 5: 'Assert', 6: 'Graft', 7: 'Graft-Ack',
@@ -187,14 +195,39 @@ def ldp_messages(pdu):
         at = max(end, at + 4)
 
 
+def tlvs(message):
+    """The values of the TLVs of a message of LDP (RFC 5036 section 3.3), by their types."""
+    found, at = {}, 8
+    while at + 4 <= len(message):
+        end = at + 4 + number_at(message, at + 2, 2)
+        found.setdefault(number_at(message, at, 2) & 0x3fff, message[at + 4:end])
+        at = end
+    return found
+
+
+def fec_texts(value):
+    """The FEC elements of a TLV: prefixes (RFC 5036 section 3.4.1), and the type of the first element that is none."""
+    at = 0
+    while at < len(value):
+        size, length = FAMILY_SIZES.get(number_at(value, at + 1, 2)), number_at(value, at + 3, 1)
+        end = at + 4 + -(-length // 8)
+        if value[at] != PREFIX or not size or length > 8 * size or end > len(value):
+            yield f'FEC {FECS.get(value[at], value[at])}'
+            return
+        yield f'FEC Prefix {ip_address(value[at + 4:end].ljust(size, bytes(1)))}/{length}'
+        at = end
+
+
 def ldp_passed(message):
-    """A message that is ignored: its name, or the FEC of a label message."""
-    kind, at = number_at(message, 0, 2) & 0x7fff, 8
-    if kind not in (0x0400, 0x0402, 0x0403):
-        return [LDP_TYPES.get(kind, f'type {kind}')]
-    while at + 4 < len(message) and number_at(message, at, 2) & 0x3fff != 0x0100:
-        at += 4 + number_at(message, at + 2, 2)
-    return [f'FEC {FECS.get(message[at + 4], message[at + 4])}'] if at + 4 < len(message) else []
+    """A message that is ignored: its name, the status that it notifies, and the FEC and the label of a label message."""
+    kind, found = number_at(message, 0, 2) & 0x7fff, tlvs(message)
+    yield LDP_TYPES.get(kind, f'type {kind}')
+    if kind == NOTIFICATION and STATUS_TLV in found:
+        yield f'status {number_at(found[STATUS_TLV], 0, 4) & 0x3fffffff}'
+    if kind in LABEL_MESSAGES:
+        yield from fec_texts(found.get(FEC_TLV, b''))
+        if LABEL_TLV in found:
+            yield f'label {number_at(found[LABEL_TLV], 0, 4)}'
 
 
 def attributes(update):
@@ -355,7 +388,7 @@ def told(program, path):
 
 
 def main():
-    options = argparse.ArgumentParser(description='Tells what messages of BGP, LDP and PIM in capture files say.')
+    options = argparse.ArgumentParser(description='Writes what messages of BGP, LDP and PIM in capture files say.')
     options.add_argument('--command', default=str(TOP / 'mvpn'), help='runs the program')
     options.add_argument('captures', nargs='+', type=pathlib.Path)
     given = options.parse_args()

@@ -1,11 +1,11 @@
 #!/usr/bin/env python3
 """Draws a network, the way of a datagram through it, or a script in time, as SVG: `draw.py SCENARIO [REPORT] [OPTION..] > OUT.svg`.
 
-SCENARIO is a file with a scenario and its script, taken as well formed. Its edges stand in two columns, the core nodes between
+SCENARIO is a file with a scenario and its script, taken as well formed. Its edges are in two columns, the core nodes between
 them and the sites outside, and each customer has its colour. With `--datagram N` the way of datagram N is drawn too, by the
-report that `replay --wire` writes for that scenario, which stands in REPORT or comes on standard input: an arrow between a site
+report that `replay --wire` writes for that scenario, which is in REPORT or comes on standard input: an arrow between a site
 and a VRF where the datagram enters and where it leaves, and one along a link for each copy, beside its label; it is dashed where
-the copy did not land. With `--datagram` twice, two such pictures stand side by side. With `--time-line` the script is drawn in place
+the copy did not land. With `--datagram` twice, two such pictures are drawn side by side. With `--time-line` the script is drawn in place
 of the network, event by event, by the same report: time_picture.py says how.
 """
 

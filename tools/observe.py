@@ -1,19 +1,19 @@
 #!/usr/bin/env python3
 """Makes an input of `audit` of captures of a real network: `observe.py [OPTION..] SCENARIO CAPTURE.. > INPUT`
 
-SCENARIO is a text of docs/FORMATS.md with the edges, VRFs, sites and customers' interfaces; what stands behind its line `events`, if
+SCENARIO is a text of docs/FORMATS.md with the edges, VRFs, sites and customers' interfaces; what follows its line `events`, if
 there is one, is left out. Each CAPTURE is a file of pcap or pcapng of one customer's interface, named by it: `Y1.pcap`, or
 `Y1.in.pcap` and `Y1.out.pcap` where each has one direction, as the edge sees it (sightings.py says how the direction is known
 otherwise). The clocks of the files are taken to agree, up to a twentieth of a second.
 
-    --stable BEGIN..END     a span of time in which the network is calm, as the operator says: all joins that count in it stand, and so
-                            do the trees. In seconds since 1970, or behind a `+` since the first frame. Several may be given
+    --stable BEGIN..END     a span of time in which the network is calm, as the operator says: all joins that count in it are there, and
+                            so are the trees. In seconds since 1970, or after a `+` since the first frame. Several may be given
     --own IFACE=ADDRESS     an Ethernet address by which the edge sends at that interface
     --delay SECONDS         for how long a datagram may be on its way, 1 where it is not given: of several with the same octets, one that
                             leaves is taken for one that has not left there yet and is no older
     --output FILE           writes the input there, and not to standard output
     --map FILE              writes, for each line of the input that comes of a frame, its number, the file and the frame
-    --judge                 has the input judged, and tells the answer by file and frame
+    --judge                 has the input judged, and writes the answer by file and frame
     --command COMMAND       what judges it, in the place of `./mvpn`
 
 Join/Prune messages become `pim` events, with the checksum of the project's profile where their own is right; reports and leaves of
@@ -21,12 +21,12 @@ IGMP and MLD become joins and prunes; the first datagram of a flow at a site is 
 enters is a `packet`, and one that leaves an `out` line of the datagram with the same octets, but for TTL and header checksum; where
 there is none, its number is 0, which names none. A tick is a second since the first frame. A stable span is cut at each message, and
 at each second at which an entry of an earlier one may expire. Each piece with datagrams is a window: its ticks and new flows, `state`,
-the packets and `drain`; its `state` line tells five zeros. A payload of more than 64 octets stands as its digest, with the same
+the packets and `drain`; its `state` line has five zeros. A payload of more than 64 octets is replaced by its digest, with the same
 addresses and ports.
 
 An input that would pass the limits of the program is split, at the ends of spans and then within one. With --output and --map the
-files then end in `.1`, `.2` and so on. What is passed over, and where spans are cut, is told on standard error. The status is 0, and
-with --judge 8 where an answer is `no`; it is 2 where the captures tell no directions, or are none.
+files then end in `.1`, `.2` and so on. What is passed over, and where spans are cut, is reported on standard error. The status is 0, and
+with --judge 8 where an answer is `no`; it is 2 where the captures show no directions, or are none.
 """
 
 import argparse

@@ -2,20 +2,20 @@
 """Writes what a replay put on the wire as a pcapng file, for Wireshark: `wireshark.py SCENARIO [REPORT] > OUT.pcapng`.
 
 SCENARIO is a file with a scenario and its script, taken as well formed. The report is the one that `replay --wire` writes for it; it
-stands in REPORT or comes on standard input. The file has an interface for each link, each session and each customer's interface:
+is in REPORT or comes on standard input. The file has an interface for each link, each session and each customer's interface:
 
     link A B            the copies of datagrams that go from one node to the other, in MPLS: each `hop` line, when it was put
     bgp A B, ldp A B    the session as TCP, to port 179 or 646
     NAME                the Join/Prune messages that the customer's router sends, and the datagrams that leave: each `out` line
 
-What stands on a session's wire is what `put` lines say: octets are in transit from then on, whatever becomes of them (docs/PROTOCOL.md,
+What is on a session's wire is what `put` lines say: octets are in transit from then on, whatever becomes of them (docs/PROTOCOL.md,
 Sessions in octets). A `take` line has no octets of its own, and is seen as their acknowledgement; so octets that are lost in transit
 are seen as put, and are not acknowledged. When a session comes up, the end of the higher address opens a connection (RFC 4271 section
 6.8, RFC 5036 section 2.5.2) from a port that no other connection has, and an end that notices a loss resets its connection.
 
-`join`, `prune` and `pim` events are seen as the messages that they stand for, refused ones too, with the refusal as a comment; only
+`join`, `prune` and `pim` events are seen as the messages that they mean, refused ones too, with the refusal as a comment; only
 octets that are refused as `bytes` are none, and left out. The scenario has no address of a customer's router: it is 169.254.0.1 and
-fe80::1. A tick is a millisecond, and within a tick each packet comes a nanosecond after the one before it; `timeline.py` tells how
+fe80::1. A tick is a millisecond, and within a tick each packet comes a nanosecond after the one before it; `timeline.py` says how
 the tick of a line is found. Nodes have their addresses of the scenario, and their names in a block for name resolution.
 """
 

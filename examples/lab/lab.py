@@ -3,16 +3,16 @@
 
 RUN is `well`; `leak`, where the route of customer A's flow at E2 has an interface of customer B too; or `loop`, where C1 takes the flow
 off the LAN and C2 puts it there again. The captures come into FOLDER, and the file `answer` beside them: the span of time that is
-stable, and behind it what tools/observe.py --judge says. COMMAND judges, in the place of `./mvpn`.
+stable, and after it what tools/observe.py --judge says. COMMAND judges, in the place of `./mvpn`.
 
                       C1 --- C2
                        |      |
     host X --- X1 E1 --+-LAN--+-- E2 Y1 --- host Y, which joins by IGMPv3
     host P --- P1                    Q1 --- router Q, which joins by PIM
 
-It wants root, and `ip`, `tcpdump` and `smcrouted` (Debian: iproute2, tcpdump, smcroute). All is in namespaces that it makes and removes
+It needs root, and `ip`, `tcpdump` and `smcrouted` (Debian: iproute2, tcpdump, smcroute). All is in namespaces that it makes and removes
 again; nothing is sent outside of these. E1 and E2 are plain routers with static multicast routes, so the customers have addresses of
-their own. Each source sends twenty datagrams, whose TTL ends a loop behind the second copy.
+their own. Each source sends twenty datagrams, whose TTL ends a loop after the second copy.
 """
 
 import argparse
